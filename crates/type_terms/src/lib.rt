@@ -1,0 +1,17 @@
+//! The terms that stand for types in a signature (ECMA-335 II.23.2), and the references to methods and
+//! fields that are made of them: plain trees of names and numbers, their order, their depth and copies.
+#![tactic(auto)]
+
+mod name;
+mod path;
+mod reference;
+mod term;
+
+use il_lists::Items;
+pub use name::{Scope, TypeId, TypeName};
+pub use path::Path;
+pub use reference::{FieldRef, MethodRef, MethodSig};
+pub use term::{Owner, Prim, SigType};
+
+/// A list of types.
+pub type Types = Items<SigType>;
