@@ -2,6 +2,7 @@
 //! fields that are made of them: plain trees of names and numbers, their order, their depth and copies.
 #![tactic(auto)]
 
+mod copying;
 mod name;
 mod path;
 mod reference;

@@ -1,7 +1,7 @@
 ghost use Rattle.std.specs.Prelude.{◌≡◌, ◌<◌, [], ◌∷◌, ◌++◌, length, slice_get, IfOk, OnOk, OnErr, Some};
 
 use crate::TypeId;
-use il_lists::{Items, NoMemory};
+use il_lists::{Copies, Items, NoMemory};
 use std::alloc::Global;
 use std::marker::Model;
 
@@ -63,5 +63,12 @@ impl Path {
         ensures some { 0 < length result.now }
     {
         self.ids.as_slice()
+    }
+}
+
+impl Copies for Path {
+    fn copy(&self, alloc: Global) -> Result<Path, NoMemory> {
+        let ids = self.ids.copy(alloc)?;
+        Ok(Path { ids })
     }
 }
