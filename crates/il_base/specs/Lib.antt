@@ -1,0 +1,3 @@
+pub mod Numbers
+pub mod Outside
+pub use Rattle.byteorder.specs.Endian
