@@ -1,0 +1,9 @@
+pub mod Fields
+pub mod Headers
+pub mod FileMap
+pub mod CliHeader
+pub mod Faults
+pub mod Numbers
+pub mod Frame
+pub mod Layout
+pub mod View

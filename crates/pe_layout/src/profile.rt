@@ -1,0 +1,40 @@
+ghost use Rattle.std.specs.Prelude.{◌≡◌, ◌+◌, ◌≤◌, length, IsTrue};
+ghost use Rattle.pe_layout.specs.Headers.{signature_place_of};
+ghost use Rattle.pe_layout.specs.Faults.{has_headers, is_in_profile};
+
+use crate::field::{u16_at, u32_at};
+
+// The place of the place of the PE signature, which ends the DOS header.
+pub(crate) const SIGNATURE_PLACE: usize = 0x3C;
+
+// Whether the headers are a PE file's and lie in the file.
+pub(crate) fn has_headers(file: &[u8]) -> bool
+    ensures { result ≡ has_headers file.now }
+{
+    if file.len() < 64 || u16_at(file, 0) != 0x5A4D {
+        return false;
+    }
+    let signature = u32_at(file, SIGNATURE_PLACE) as usize;
+    if file.len() < signature + 24 || u32_at(file, signature) != 0x4550 {
+        return false;
+    }
+    let optional_size = u16_at(file, signature + 20) as usize;
+    let sections = u16_at(file, signature + 6) as usize;
+    signature + 24 + optional_size + 40 * sections <= file.len()
+}
+
+// Whether machine and optional header are in the profile. The PE signature stands at `signature`.
+pub(crate) fn is_in_profile(file: &[u8], signature: usize) -> bool
+    requires headers { IsTrue (has_headers file.now) }
+    requires place { signature ≡ signature_place_of file.now }
+    ensures { result ≡ is_in_profile file.now }
+{
+    let optional_size = u16_at(file, signature + 20) as usize;
+    if u16_at(file, signature + 4) != 0x14C || optional_size < 96 {
+        return false;
+    }
+    let directories = u32_at(file, signature + 116) as usize;
+    u16_at(file, signature + 24) == 0x10B
+        && 15 <= directories
+        && 96 + 8 * directories <= optional_size
+}
