@@ -33,12 +33,16 @@ least_signed bits = negsuc (2 ^ (bits - 1) - 1)
 abbrev pub greatest_signed : ℕ → ℤ
 greatest_signed bits = pos (2 ^ (bits - 1) - 1)
 
--- These bytes spell this signed number in packed form: it is a signed number of the bits that so many bytes have, and they spell
--- it modulo 2 ^ bits, turned left by one bit.
-pub record PackedSigned (bytes : List ℕ) (n : ℤ) : Type 0 where
-  pub low : least_signed (packed_bits (length bytes)) ≤ℤ n
-  pub high : n ≤ℤ greatest_signed (packed_bits (length bytes))
-  pub spelling : Packed bytes (turned_left (packed_bits (length bytes)) (modulo_bits (packed_bits (length bytes)) n))
+-- this signed number of so many bits is `turned` when it is taken modulo 2 ^ bits and turned left by one bit
+pub record IsTurned (bits : ℕ) (n : ℤ) (turned : ℕ) : Type 0 where
+  pub low : least_signed bits ≤ℤ n
+  pub high : n ≤ℤ greatest_signed bits
+  pub turns : turned ≡ turned_left bits (modulo_bits bits n)
+
+-- These bytes spell this signed number in packed form: it is a signed number of the bits that so many bytes hold, and they
+-- spell it modulo 2 ^ bits, turned left by one bit.
+abbrev pub PackedSigned : List ℕ → ℤ → Type 0
+PackedSigned bytes n = (turned : ℕ) × IsTurned (packed_bits (length bytes)) n turned × Packed bytes turned
 
 -- no shorter bytes spell the same
 abbrev pub IsShortest : {X : Type 0} → (List ℕ → X → Type 0) → List ℕ → X → Type 0

@@ -4,6 +4,8 @@
 
 mod console;
 mod failed;
+mod laws;
+mod packed;
 mod pos;
 mod shelf;
 mod steps;
@@ -11,6 +13,12 @@ mod steps;
 pub use console::Console;
 pub use failed::Failed;
 pub use il_lists::{Boxed, Bytes, Copies, Items, NoMemory, Numbers, Signed, Text, Units, Words};
+pub use laws::{
+    each_number_has_a_shortest_spelling, each_signed_number_has_a_shortest_spelling,
+    no_packed_begins_another, no_packed_signed_begins_another, one_packed_stands_at_a_place,
+    packed_is_short, packed_stands_where_put,
+};
+pub use packed::{push_packed, push_packed_signed, read_packed, read_packed_signed};
 pub use pos::Pos;
 pub use shelf::Shelf;
 pub use steps::Steps;
