@@ -2,12 +2,16 @@
 //! fields that are made of them: plain trees of names and numbers, their order, their depth and copies.
 #![tactic(auto)]
 
+mod compare;
 mod copying;
+mod depth;
 mod name;
 mod path;
 mod reference;
 mod term;
 
+pub use compare::{compare_owners, compare_terms};
+pub use depth::{MAX_DEPTH, fits};
 use il_lists::Items;
 pub use name::{Scope, TypeId, TypeName};
 pub use path::Path;
@@ -16,3 +20,9 @@ pub use term::{Owner, Prim, SigType};
 
 /// A list of types.
 pub type Types = Items<SigType>;
+
+/// A list of owners.
+pub type Owners = Items<Owner>;
+
+/// A list of method references.
+pub type MethodRefs = Items<MethodRef>;
