@@ -24,5 +24,5 @@ pub inst_fields : (v w : Bool) (n m : TypeName) (xs ys : List SigType) → order
 inst_fields v w n m xs ys e =
     let args : Ordering = slice_cmp (λ a y. a y) (map term_order xs) ys in
     let head : ordering_then (bool_cmp v w) (ordering_then (name_order n m) args) ≡ args =
-        sym (then_assoc (bool_cmp v w) (name_order n m) args) ∙ ap (λ r. ordering_then r args) e in
+    sym (then_assoc (bool_cmp v w) (name_order n m) args) ∙ ap (λ r. ordering_then r args) e in
     rw (t.outs-Inst v n xs, t.outs-Inst w m ys) (sym (head ∙ slice_cmp_map term_order xs ys))

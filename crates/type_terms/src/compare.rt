@@ -9,7 +9,7 @@ use std::cmp::Ordering;
 /// right, texts by bytes, and lists item by item with a proper prefix before the longer list.
 #[cycle(compare)]
 pub fn compare_terms(a: &SigType, b: &SigType) -> Ordering
-    ensures { result ≡ term_order a.now b.now }
+    ensures order { result ≡ term_order a.now b.now }
 {
     let places = place_of(a).cmp(&place_of(b));
     if places != Ordering::Equal {
@@ -21,7 +21,7 @@ pub fn compare_terms(a: &SigType, b: &SigType) -> Ordering
 /// Compares two owners: a name stands before a type, and names and types go by their own order.
 #[cycle(compare)]
 pub fn compare_owners(a: &Owner, b: &Owner) -> Ordering
-    ensures { result ≡ owner_order a.now b.now }
+    ensures order { result ≡ owner_order a.now b.now }
 {
     match a {
         Owner::Name(name) => match b {

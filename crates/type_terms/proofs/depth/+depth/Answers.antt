@@ -1,4 +1,4 @@
-use Rattle.std.proofs.Common.{◌≡◌, ap, ◌∙◌, ℕ, ◌+◌, arith, map, rules}
+use Rattle.std.proofs.Common.{◌≡◌, ℕ, ◌+◌, arith, map}
 use Rattle.type_terms.proofs.Layers.{fold-Inst}
 use Rattle.type_terms.specs.Depth.{depth, largest, depth_step, owner_depth_step}
 use Rattle.type_terms.proofs.depth.+depth.Goals as goal

@@ -1,4 +1,4 @@
-use Rattle.std.proofs.Common.{ℕ, ◌≤◌, ◌↔◌, drop, map}
+use Rattle.std.proofs.Common.{◌≤◌, ◌↔◌, drop, map}
 use Rattle.type_terms.specs.Depth.{depth, largest}
 use Rattle.type_terms.proofs.depth.+depth.Given as goal
 
