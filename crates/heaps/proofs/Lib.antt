@@ -1,0 +1,4 @@
+pub mod ChainLemmas
+pub mod ContentLemmas
+pub mod FindsLemmas
+pub mod HeapLemmas

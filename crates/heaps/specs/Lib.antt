@@ -1,0 +1,6 @@
+pub mod Chains
+pub mod Content
+pub mod Filled
+pub mod Finds
+pub mod Hash
+pub mod Heap

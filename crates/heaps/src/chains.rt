@@ -1,0 +1,127 @@
+//! Which contents a heap has, found by their hash.
+//!
+//! A heap's bytes hold each content once. An entry's place says where, and a chain links the entries
+//! with one hash, newest first; a map leads from a hash to the newest. So nothing is copied to find a
+//! content again.
+ghost use Rattle.std.specs.Prelude.{◌≡◌, ◌+◌, ◌<◌, ◌≤◌, ◌^◌, [], length, take, drop, IfSome, IfNone, OnOk, OnErr};
+ghost use Rattle.heaps.specs.Hash.{hash_of, mix};
+
+use il_base::{Items, NoMemory};
+use indexmap::IndexMap;
+use std::alloc::Global;
+
+/// Where a content stands: its entry's index, and its own bytes.
+#[derive(Debug, Clone, Copy)]
+pub struct Place {
+    pub index: u32,
+    pub start: u32,
+    pub len: u32,
+    // The newest older entry with the same hash.
+    pub next: Option<u32>,
+}
+
+/// The places of a heap's entries, in the order of their coming, with the chains that find them.
+#[derive(Drop)]
+pub struct Chains {
+    // From a hash to the number of the newest entry with it.
+    pub newest: IndexMap<u64, u32>,
+    pub places: Items<Place>,
+}
+
+impl Chains {
+    ghost use Rattle.heaps.specs.Finds.{Finds, IsPlaceOf, Lacks, AddsPlace};
+
+    /// No entries.
+    pub fn new(alloc: Global) -> Chains
+        ensures { Finds result [] }
+    {
+        Chains {
+            newest: IndexMap::new(alloc),
+            places: Items::new(alloc),
+        }
+    }
+
+    /// The index of the entry with this content.
+    pub fn find(&self, bytes: &[u8], content: &[u8]) -> Option<u32>
+        requires { Finds self.now bytes.now }
+        ensures found { IfSome result (IsPlaceOf self.now bytes.now content.now) }
+        ensures none { IfNone result (Lacks self.now bytes.now content.now) }
+    {
+        let mut at = self.newest.get(&hash_of(content)).copied();
+        while let Some(number) = at {
+            let place = self.places.at(number as usize);
+            if content_at(bytes, place) == content {
+                return Some(place.index);
+            }
+            at = place.next;
+        }
+        None
+    }
+
+    /// Notes an entry: `content` stands in `bytes` at `start`, and nowhere before.
+    pub fn note(
+        &mut self,
+        bytes: &[u8],
+        index: u32,
+        start: u32,
+        content: &[u8],
+    ) -> Result<(), NoMemory>
+        requires finds { Finds self.old bytes.now }
+        requires lacks { Lacks self.old bytes.now content.now }
+        requires here { content.now ≡ take (length content.now) (drop start bytes.now) }
+        requires within { start + length content.now ≤ length bytes.now }
+        requires room { length self.old.places < length bytes.now }
+        requires small { length bytes.now < 2 ^ 29 }
+        ensures finds { Finds self.new bytes.now }
+        ensures ok { OnOk result (AddsPlace self.old self.new bytes.now index content.now) }
+        ensures err { OnErr result (self.new.places ≡ self.old.places) }
+    {
+        let hash = hash_of(content);
+        let place = Place {
+            index,
+            start,
+            len: content.len() as u32,
+            next: self.newest.get(&hash).copied(),
+        };
+        let number = self.places.len() as u32;
+        self.places.push(place)?;
+        match self.newest.insert(hash, number) {
+            Ok(_) => Ok(()),
+            Err(_) => {
+                self.places.pop();
+                Err(NoMemory)
+            }
+        }
+    }
+}
+
+// The content at a place.
+fn content_at<'a>(bytes: &'a [u8], place: &Place) -> &'a [u8]
+    requires { place.now.start + place.now.len ≤ length bytes.now }
+    ensures { result.now ≡ take place.now.len (drop place.now.start bytes.now) }
+{
+    let start = place.start as usize;
+    &bytes[start..start + place.len as usize]
+}
+
+/// The FNV-1a hash of a content.
+#[tactic(auto, unfolding(crate::specs::Hash::hash_of))]
+fn hash_of(content: &[u8]) -> u64
+    ensures { result ≡ hash_of content.now }
+{
+    let mut hash = START;
+    for byte in content {
+        hash = mix(hash, *byte);
+    }
+    hash
+}
+
+const START: u64 = 0xCBF2_9CE4_8422_2325;
+
+// One step of FNV-1a.
+#[tactic(auto, unfolding(crate::specs::Hash::mix))]
+fn mix(hash: u64, byte: u8) -> u64
+    ensures { result ≡ mix hash byte }
+{
+    (hash ^ u64::from(byte)).wrapping_mul(0x0000_0100_0000_01B3)
+}

@@ -1,0 +1,106 @@
+//! A heap's bytes with the chains over them, and one entry more.
+ghost use Rattle.std.specs.Prelude.{◌≡◌, ℕ, ◌+◌, ◌<◌, ◌^◌, ◌++◌, List, [], length, IfSome, IfNone, IfOk, OnOk, OnErr};
+
+use crate::chains::Chains;
+use il_base::{Bytes, NoMemory};
+use std::alloc::Global;
+
+/// The bytes of a heap, and where its contents stand.
+#[derive(Drop)]
+pub struct Entries {
+    pub bytes: Bytes,
+    pub chains: Chains,
+}
+
+impl Entries {
+    ghost use Rattle.heaps.specs.Finds.{Finds, IsPlaceOf, Lacks, AddsPlace};
+
+    /// No entries, over these first bytes.
+    pub fn new(alloc: Global, first: &[u8]) -> Result<Entries, NoMemory>
+        ensures { IfOk result (λ e. (e.bytes ≡ first.now) × (e.chains.places ≡ []) × Finds e.chains e.bytes) }
+    {
+        Ok(Entries {
+            bytes: Bytes::from_slice(alloc, first)?,
+            chains: Chains::new(alloc),
+        })
+    }
+
+    /// The index of the entry with this content.
+    pub fn find(&self, content: &[u8]) -> Option<u32>
+        requires { Finds self.now.chains self.now.bytes }
+        ensures found { IfSome result (IsPlaceOf self.now.chains self.now.bytes content.now) }
+        ensures none { IfNone result (Lacks self.now.chains self.now.bytes content.now) }
+    {
+        self.chains.find(self.bytes.as_slice(), content)
+    }
+
+    /// Where the bytes end.
+    pub fn end(&self) -> u32
+        requires { length self.now.bytes < 2 ^ 29 }
+        ensures { result ≡ length self.now.bytes }
+    {
+        self.bytes.len() as u32
+    }
+
+    /// Adds the entry `lead`, `content`, `tail` with this index at the end.
+    pub fn add(
+        &mut self,
+        index: u32,
+        lead: &[u8],
+        content: &[u8],
+        tail: &[u8],
+    ) -> Result<(), NoMemory>
+        requires finds { Finds self.old.chains self.old.bytes }
+        requires lacks { Lacks self.old.chains self.old.bytes content.now }
+        requires filled { 0 < length lead.now + length content.now + length tail.now }
+        requires room { length self.old.bytes + length lead.now + length content.now + length tail.now < 2 ^ 29 }
+        ensures finds { Finds self.new.chains self.new.bytes }
+        ensures bytes { OnOk result (self.new.bytes ≡ self.old.bytes ++ (lead.now ++ (content.now ++ tail.now))) }
+        ensures place { OnOk result (AddsPlace self.old.chains self.new.chains self.new.bytes index content.now) }
+        ensures err { OnErr result ((self.new.bytes ≡ self.old.bytes) × (self.new.chains.places ≡ self.old.chains.places)) }
+    {
+        let len = self.bytes.len();
+        let start = (len + lead.len()) as u32;
+        append(&mut self.bytes, lead, content, tail)?;
+        match self.chains.note(self.bytes.as_slice(), index, start, content) {
+            Ok(()) => Ok(()),
+            Err(NoMemory) => {
+                self.bytes.truncate(len);
+                Err(NoMemory)
+            }
+        }
+    }
+}
+
+// Adds three pieces at the end, or none of them.
+fn append(
+    bytes: &mut Bytes,
+    lead: &[u8],
+    content: &[u8],
+    tail: &[u8],
+) -> Result<(), NoMemory>
+    ensures ok { OnOk result (bytes.new ≡ bytes.old ++ (lead.now ++ (content.now ++ tail.now))) }
+    ensures err { OnErr result (bytes.new ≡ bytes.old) }
+{
+    let len = bytes.len();
+    let added = extend(bytes, lead, content, tail);
+    if added.is_err() {
+        bytes.truncate(len);
+    }
+    added
+}
+
+// Adds three pieces at the end, or some of their bytes.
+fn extend(
+    bytes: &mut Bytes,
+    lead: &[u8],
+    content: &[u8],
+    tail: &[u8],
+) -> Result<(), NoMemory>
+    ensures ok { OnOk result (bytes.new ≡ bytes.old ++ (lead.now ++ (content.now ++ tail.now))) }
+    ensures err { (more : List ℕ) × (bytes.new ≡ bytes.old ++ more) }
+{
+    bytes.extend(lead)?;
+    bytes.extend(content)?;
+    bytes.extend(tail)
+}

@@ -1,0 +1,48 @@
+//! The content at an index of a heap's bytes (ECMA-335 II.24.2.3 to II.24.2.5). No look-up takes
+//! memory.
+ghost use Rattle.std.specs.Prelude.{◌≡◌, ◌≢◌, ◌<◌, List, ℕ, length, slice_index, IfSome, IfNone};
+ghost use Rattle.heaps.specs.Content.{HasText, HasGuid};
+
+/// The text at an index of `#Strings`, or None where no text is there: the index is past the heap, no
+/// zero byte follows, or the bytes before it aren't UTF-8.
+pub fn string_at(heap: &[u8], at: u32) -> Option<&str>
+    ensures found { IfSome result (λ text. HasText heap.now at text.now) }
+    ensures none { IfNone result ((text : List ℕ) → HasText heap.now at text → ⊥) }
+{
+    if at == 0 {
+        return Some("");
+    }
+    let rest = heap.get(at as usize..)?;
+    let end = first_zero(rest)?;
+    match std::str::from_utf8(&rest[..end]) {
+        Ok(text) => Some(text),
+        Err(_) => None,
+    }
+}
+
+// The place of the first zero byte.
+fn first_zero(bytes: &[u8]) -> Option<usize>
+    ensures found { IfSome result (λ n. (n < length bytes.now) × (slice_index bytes.now n ≡ 0)) }
+    ensures before { IfSome result (λ n. (k : ℕ) → k < n → slice_index bytes.now k ≢ 0) }
+    ensures none { IfNone result ((k : ℕ) → k < length bytes.now → slice_index bytes.now k ≢ 0) }
+{
+    for (i, byte) in bytes.iter().enumerate() {
+        if *byte == 0 {
+            return Some(i);
+        }
+    }
+    None
+}
+
+/// The identifier of 16 bytes at an index of `#GUID`, counted from 1, or None where the heap ends
+/// before it or the index is 0.
+pub fn guid_at(heap: &[u8], at: u32) -> Option<&[u8]>
+    ensures found { IfSome result (λ id. HasGuid heap.now at id.now) }
+    ensures none { IfNone result ((id : List ℕ) → HasGuid heap.now at id → ⊥) }
+{
+    if at == 0 {
+        return None;
+    }
+    let start = (at as usize - 1) * 16;
+    heap.get(start..start + 16)
+}
