@@ -45,51 +45,65 @@ module _ {X : Type 0} (hash : X → ℕ) where
       (others : (q : ℕ) → (q ≡ hash c → ⊥) → later q ≡ newest q) where
     pushed_reached : (k : ℕ) (d : X) → slice_get (cs ++ c ∷ []) k ≡ Some d → (m : ℕ) × (later (hash d) ≡ Some m) × (k ≤ m)
     pushed_reached k d at = elim (snoc_cases cs c d k at) [
-        inl old ↦ let below = slice_get_within cs k d old in elim (cases_eq (hash d) (hash c)) [
-            inl e ↦ (length cs, cc, omega arith)
-          | inr n ↦ let r = ok.reached k d old in (r.0, others (hash d) n ∙ r.1, r.2) ]
-      | inr e ↦ (length cs, ap (λ x. later (hash x)) e.1 ∙ here, omega arith) ]
+      | inl old ↦ let below = slice_get_within cs k d old in elim (cases_eq (hash d) (hash c)) [
+        | inl e ↦ (length cs, cc, omega arith)
+        | inr n ↦ let r = ok.reached k d old in (r.0, others (hash d) n ∙ r.1, r.2)
+      ]
+      | inr e ↦ (length cs, ap (λ x. later (hash x)) e.1 ∙ here, omega arith)
+    ]
 
     pushed_begun : (h m : ℕ) → later h ≡ Some m → HasHash hash (cs ++ c ∷ []) m h
     pushed_begun h m at = elim (cases_eq h (hash c)) [
-        inl e ↦ let is : m ≡ length cs = cc in (c, snoc_new cs c m is, sym e)
-      | inr n ↦ hash_old cs c m h (ok.begun h m (sym (others h n) ∙ at)) ]
+      | inl e ↦ let is : m ≡ length cs = cc in (c, snoc_new cs c m is, sym e)
+      | inr n ↦ hash_old cs c m h (ok.begun h m (sym (others h n) ∙ at))
+    ]
 
     pushed_linked : (m j : ℕ) (d : X) → slice_get (cs ++ c ∷ []) m ≡ Some d → slice_get (ns ++ newest (hash c) ∷ []) m ≡ Some (Some j)
         → (j < m) × HasHash hash (cs ++ c ∷ []) j (hash d)
     pushed_linked m j d at next = elim (snoc_cases cs c d m at) [
-        inl old ↦ let below = slice_get_within cs m d old in elim (snoc_cases ns (newest (hash c)) (Some j) m next) [
-            inl was ↦ let l = ok.linked m j d old was in (l.0, hash_old cs c j (hash d) l.1)
-          | inr e ↦ absurd (omega (arith, ok.paired)) ]
+      | inl old ↦ let below = slice_get_within cs m d old in elim (snoc_cases ns (newest (hash c)) (Some j) m next) [
+        | inl was ↦ let l = ok.linked m j d old was in (l.0, hash_old cs c j (hash d) l.1)
+        | inr e ↦ absurd (omega (arith, ok.paired))
+      ]
       | inr new ↦ elim (snoc_cases ns (newest (hash c)) (Some j) m next) [
-            inl was ↦ let below = slice_get_within ns m (Some j) was in absurd (omega (arith, ok.paired, new.0))
-          | inr e ↦ let b = ok.begun (hash c) j (sym e.1) in
-              let below = slice_get_within cs j b.0 b.1 in
-              (omega (arith, new.0), hash_old cs c j (hash d) (b.0, b.1, b.2 ∙ ap hash (sym new.1))) ] ]
+        | inl was ↦ let below = slice_get_within ns m (Some j) was in absurd (omega (arith, ok.paired, new.0))
+        | inr e ↦ let b = ok.begun (hash c) j (sym e.1) in
+            let below = slice_get_within cs j b.0 b.1 in
+            (omega (arith, new.0), hash_old cs c j (hash d) (b.0, b.1, b.2 ∙ ap hash (sym new.1)))
+      ]
+    ]
 
     pushed_complete : (m k : ℕ) (d e : X) (next : Option ℕ) → slice_get (cs ++ c ∷ []) m ≡ Some d → slice_get (ns ++ newest (hash c) ∷ []) m ≡ Some next
         → slice_get (cs ++ c ∷ []) k ≡ Some e → k < m → hash e ≡ hash d → (j : ℕ) × (next ≡ Some j) × (k ≤ j)
     pushed_complete m k d e next at link older less same = elim (snoc_cases cs c e k older) [
-        inr new ↦ elim (snoc_cases cs c d m at) [
-            inl old ↦ let below = slice_get_within cs m d old in absurd (omega (arith, new.0))
-          | inr also ↦ absurd (omega (arith, new.0, also.0)) ]
+      | inr new ↦ elim (snoc_cases cs c d m at) [
+        | inl old ↦ let below = slice_get_within cs m d old in absurd (omega (arith, new.0))
+        | inr also ↦ absurd (omega (arith, new.0, also.0))
+      ]
       | inl was ↦ elim (snoc_cases cs c d m at) [
-            inl old ↦ let below = slice_get_within cs m d old in elim (snoc_cases ns (newest (hash c)) next m link) [
-                inl linked ↦ ok.complete m k d e next old linked was less same
-              | inr n ↦ absurd (omega (arith, ok.paired, n.0)) ]
-          | inr new ↦ elim (snoc_cases ns (newest (hash c)) next m link) [
-                inl linked ↦ let below = slice_get_within ns m next linked in absurd (omega (arith, ok.paired, new.0))
-              | inr n ↦ let r = ok.reached k e was in
-                  (r.0, n.1 ∙ ap newest (sym (same ∙ ap hash new.1)) ∙ r.1, r.2) ] ] ]
+        | inl old ↦ let below = slice_get_within cs m d old in elim (snoc_cases ns (newest (hash c)) next m link) [
+          | inl linked ↦ ok.complete m k d e next old linked was less same
+          | inr n ↦ absurd (omega (arith, ok.paired, n.0))
+        ]
+        | inr new ↦ elim (snoc_cases ns (newest (hash c)) next m link) [
+          | inl linked ↦ let below = slice_get_within ns m next linked in absurd (omega (arith, ok.paired, new.0))
+          | inr n ↦ let r = ok.reached k e was in
+              (r.0, n.1 ∙ ap newest (sym (same ∙ ap hash new.1)) ∙ r.1, r.2)
+        ]
+      ]
+    ]
 
     pushed_distinct : (j k : ℕ) (d : X) → slice_get (cs ++ c ∷ []) j ≡ Some d → slice_get (cs ++ c ∷ []) k ≡ Some d → j ≡ k
     pushed_distinct j k d p q = elim (snoc_cases cs c d j p) [
-        inl old ↦ elim (snoc_cases cs c d k q) [
-            inl also ↦ ok.distinct j k d old also
-          | inr new ↦ absurd (absent j (old ∙ ap Some new.1)) ]
+      | inl old ↦ elim (snoc_cases cs c d k q) [
+        | inl also ↦ ok.distinct j k d old also
+        | inr new ↦ absurd (absent j (old ∙ ap Some new.1))
+      ]
       | inr new ↦ elim (snoc_cases cs c d k q) [
-            inl also ↦ absurd (absent k (also ∙ ap Some new.1))
-          | inr both ↦ new.0 ∙ sym both.0 ] ]
+        | inl also ↦ absurd (absent k (also ∙ ap Some new.1))
+        | inr both ↦ new.0 ∙ sym both.0
+      ]
+    ]
 
     pub IsChained-push : IsChained hash later (cs ++ c ∷ []) (ns ++ newest (hash c) ∷ [])
     IsChained-push = record {
@@ -119,8 +133,9 @@ module _ {X : Type 0} (hash : X → ℕ) where
     pub ahead_next : (m k : ℕ) (c : X) (next : Option ℕ) → slice_get cs m ≡ Some c → slice_get ns m ≡ Some next → hash c ≡ hash d
         → (c ≡ d → ⊥) → slice_get cs k ≡ Some d → k ≤ m → (j : ℕ) × (next ≡ Some j) × (k ≤ j)
     ahead_next m k c next at link same other here below = elim (cases_eq k m) [
-        inl e ↦ absurd (other (same_Some c d (sym at ∙ ap (slice_get cs) (sym e) ∙ here)))
-      | inr n ↦ ok.complete m k c d next at link here (omega arith) (sym same) ]
+      | inl e ↦ absurd (other (same_Some c d (sym at ∙ ap (slice_get cs) (sym e) ∙ here)))
+      | inr n ↦ ok.complete m k c d next at link here (omega arith) (sym same)
+    ]
 
 -- how many entries are still ahead on a chain, at most
 abbrev pub ahead_of : Option ℕ → ℕ

@@ -1,10 +1,10 @@
 -- What stands at an index of a heap is one content, and stays where the heap grows at its end.
 use Rattle.std.proofs.Common.{◌≡◌, ℕ, zero, suc, ◌+◌, ◌*◌, ◌-◌, ◌/◌, ◌%◌, ◌<◌, ◌≤◌, List, ◌∷◌, ◌++◌, [], length, drop, take, get_or, sym, ◌∙◌, ap, refl, arith}
-use Rattle.std.specs.Prelude.{All, IsUtf8, ◌≢◌}
-use Rattle.std.proofs.lemmas.List.{length-append, length-drop, length-take, drop-append-le, append_assoc, get_or-take, get_or_default}
+use Rattle.std.specs.Prelude.{All, IsUtf8, ◌≢◌, Option, Some, None, IfNone}
+use Rattle.std.proofs.lemmas.List.{length-append, length-drop, length-take, drop-append-le, append_assoc, get_or-take, get_or_default, take-append-drop}
 use Rattle.std.proofs.lemmas.List.Elements.{All-head, All-tail}
 use Rattle.std.proofs.Math.Seq.{drop-append-add, drop-append_seam, take-append_seam}
-use Rattle.heaps.specs.Content.{HasText, HasGuid}
+use Rattle.heaps.specs.Content.{BeginsText, HasText, HasGuid}
 
 -- what stands in a list stands in it with more at its end
 pub drop_more : (n : ℕ) (xs ys more : List ℕ) (y : ℕ) → drop n xs ≡ y ∷ ys → drop n (xs ++ more) ≡ (y ∷ ys) ++ more
@@ -63,10 +63,10 @@ HasGuid-end bytes (suc k) c e whole len =
     ([], rw at (drop-append_seam bytes (c ++ [])), len)
 
 -- a text in front of its zero byte
-front_at : (xs ys : List ℕ) (n : ℕ) → n < length xs → get_or xs n 0 ≡ 0 → xs ≡ take n xs ++ (0 ∷ drop (suc n) xs)
-front_at [] ys n less zero_there = absurd (omega arith)
-front_at (x ∷ xs) ys zero less zero_there = ap (λ z. z ∷ xs) zero_there
-front_at (x ∷ xs) ys (suc n) less zero_there = ap (λ zs. x ∷ zs) (front_at xs ys n (omega arith) zero_there)
+front_at : (xs : List ℕ) (n : ℕ) → n < length xs → get_or xs n 0 ≡ 0 → xs ≡ take n xs ++ (0 ∷ drop (suc n) xs)
+front_at [] n less zero_there = absurd (omega arith)
+front_at (x ∷ xs) zero less zero_there = ap (λ z. z ∷ xs) zero_there
+front_at (x ∷ xs) (suc n) less zero_there = ap (λ zs. x ∷ zs) (front_at xs n (omega arith) zero_there)
 
 front_full : (xs : List ℕ) (n : ℕ) → n ≤ length xs → ((k : ℕ) → k < n → get_or xs k 0 ≡ 0 → ⊥) → All (λ b. b ≢ 0) (take n xs)
 front_full xs n within before k d less =
@@ -75,24 +75,57 @@ front_full xs n within before k d less =
     let e : get_or (take n xs) k d ≡ get_or xs k 0 = get_or-take n xs k d below ∙ get_or_default xs k d 0 (omega arith) in
     λ z. before k below (sym e ∙ z)
 
-pub HasText-here : (heap : List ℕ) (k n : ℕ) → n < length (drop (suc k) heap) → get_or (drop (suc k) heap) n 0 ≡ 0
-    → ((j : ℕ) → j < n → get_or (drop (suc k) heap) j 0 ≡ 0 → ⊥) → IsUtf8 (take n (drop (suc k) heap)) → HasText heap (suc k) (take n (drop (suc k) heap))
-HasText-here heap k n less z before utf8 =
-    (drop (suc n) (drop (suc k) heap), front_at (drop (suc k) heap) [] n less z, front_full (drop (suc k) heap) n (omega arith) before, utf8)
+module _ (bytes : List ℕ) (n : ℕ) (less : n < length bytes) (zero_there : get_or bytes n 0 ≡ 0) (before : (k : ℕ) → k < n → get_or bytes k 0 ≡ 0 → ⊥) where
+  pub BeginsText-here : IsUtf8 (take n bytes) → BeginsText bytes (take n bytes)
+  BeginsText-here utf8 = (drop (suc n) bytes, front_at bytes n less zero_there, front_full bytes n (omega arith) before, utf8)
 
--- the text that stands there ends at the first zero byte
-pub HasText-ends : (heap : List ℕ) (k n : ℕ) (text : List ℕ) → n < length (drop (suc k) heap) → get_or (drop (suc k) heap) n 0 ≡ 0
-    → ((j : ℕ) → j < n → get_or (drop (suc k) heap) j 0 ≡ 0 → ⊥) → HasText heap (suc k) text → text ≡ take n (drop (suc k) heap)
-HasText-ends heap k n text less z before (rest, e, nz, u) =
-    same_front text (take n (drop (suc k) heap)) rest (drop (suc n) (drop (suc k) heap)) nz (front_full (drop (suc k) heap) n (omega arith) before)
-      (sym e ∙ front_at (drop (suc k) heap) [] n less z)
+  -- the text ends at the first zero byte
+  pub BeginsText-ends : (text : List ℕ) → BeginsText bytes text → text ≡ take n bytes
+  BeginsText-ends text (rest, e, nz, u) =
+      same_front text (take n bytes) rest (drop (suc n) bytes) nz (front_full bytes n (omega arith) before) (sym e ∙ front_at bytes n less zero_there)
 
 zero_behind : (text rest : List ℕ) → (length text < length (text ++ (0 ∷ rest))) × (get_or (text ++ (0 ∷ rest)) (length text) 0 ≡ 0)
 zero_behind [] rest = (omega arith, refl)
 zero_behind (t ∷ ts) rest = let r = zero_behind ts rest in (omega arith, r.1)
 
-pub HasText-ended : (heap : List ℕ) (k : ℕ) (text : List ℕ) → ((j : ℕ) → j < length (drop (suc k) heap) → get_or (drop (suc k) heap) j 0 ≡ 0 → ⊥)
-    → HasText heap (suc k) text → ⊥
-HasText-ended heap k text none (rest, e, nz, u) =
+pub BeginsText-ended : (bytes text : List ℕ) → ((k : ℕ) → k < length bytes → get_or bytes k 0 ≡ 0 → ⊥) → BeginsText bytes text → ⊥
+BeginsText-ended bytes text none (rest, e, nz, u) =
     let z = zero_behind text rest in
     none (length text) (rw e z.0) (rw e z.1)
+
+-- past the first index the two say the same, and past the heap there is no text
+pub HasText-begins : (heap text : List ℕ) (at : ℕ) → (at ≡ 0 → ⊥) → BeginsText (drop at heap) text → HasText heap at text
+HasText-begins heap text zero past begins = absurd (past refl)
+HasText-begins heap text (suc k) past begins = begins
+
+pub BeginsText-has : (heap text : List ℕ) (at : ℕ) → (at ≡ 0 → ⊥) → HasText heap at text → BeginsText (drop at heap) text
+BeginsText-has heap text zero past has = absurd (past refl)
+BeginsText-has heap text (suc k) past has = has
+
+pub HasText-within : (heap text : List ℕ) (at : ℕ) → (at ≡ 0 → ⊥) → length heap ≤ at → HasText heap at text → ⊥
+HasText-within heap text at past beyond has =
+    let b = BeginsText-has heap text at past has in
+    let len : length heap - at ≡ length text + suc (length b.0) = sym (length-drop at heap) ∙ ap length b.1 ∙ length-append text (0 ∷ b.0) in
+    omega arith
+
+pub IfNone-map : {X : Type 0} (o : Option X) (P Q : Type 0) → (P → Q) → IfNone o P → IfNone o Q
+IfNone-map None P Q f h = f h
+IfNone-map (Some x) P Q f h = tt
+
+pub HasGuid-at : (heap : List ℕ) (at : ℕ) → (at ≡ 0 → ⊥) → (at - 1) * 16 + 16 ≤ length heap
+    → HasGuid heap at (take ((at - 1) * 16 + 16 - (at - 1) * 16) (drop ((at - 1) * 16) heap))
+HasGuid-at heap zero past within = absurd (past refl)
+HasGuid-at heap (suc k) past within =
+    let start : (suc k - 1) * 16 ≡ 16 * k = omega arith in
+    let count : 16 * k + 16 - 16 * k ≡ 16 = omega arith in
+    rw (start, count) (
+      drop 16 (drop (16 * k) heap),
+      sym (take-append-drop 16 (drop (16 * k) heap)),
+      rw (length-take, length-drop) (omega arith),
+    )
+
+pub HasGuid-within : (heap id : List ℕ) (at : ℕ) → length heap < (at - 1) * 16 + 16 → HasGuid heap at id → ⊥
+HasGuid-within heap id zero beyond has = absurd has
+HasGuid-within heap id (suc k) beyond (rest, e, whole) =
+    let len : length heap - 16 * k ≡ length id + length rest = sym (length-drop (16 * k) heap) ∙ ap length e ∙ length-append id rest in
+    omega arith

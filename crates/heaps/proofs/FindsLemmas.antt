@@ -14,8 +14,9 @@ use Rattle.heaps.proofs.ChainLemmas.{IsChained-push, snoc_cases}
 
 cond_other : (h q : ℕ) (x y : Option ℕ) → (q ≡ h → ⊥) → cond (nat_eq h q) x y ≡ y
 cond_other h q x y n = elim (cases_Bool (nat_eq h q)) [
-    inl e ↦ absurd (n (sym (eqb-true h q e)))
-  | inr e ↦ ap (λ b. cond b x y) e ]
+  | inl e ↦ absurd (n (sym (eqb-true h q e)))
+  | inr e ↦ ap (λ b. cond b x y) e
+]
 
 module _ (old new : Chains) (bytes : List ℕ) (p : Place) (ok : Finds old bytes)
     (lacks : Lacks old bytes (content_of bytes p))
@@ -26,16 +27,17 @@ module _ (old new : Chains) (bytes : List ℕ) (p : Place) (ok : Finds old bytes
     (newest : (q : ℕ) → get nat_eq new.newest q ≡ cond (nat_eq (hash_of (content_of bytes p)) q) (Some (length old.places)) (get nat_eq old.newest q)) where
   noted_within : (k : ℕ) (q : Place) → slice_get new.places k ≡ Some q → q.start + q.len ≤ length bytes
   noted_within k q at = elim (snoc_cases old.places p q k (sym (ap (λ ps. slice_get ps k) places) ∙ at)) [
-      inl was ↦ ok.within k q was
-    | inr e ↦ rw e.1 fits ]
+    | inl was ↦ ok.within k q was
+    | inr e ↦ rw e.1 fits
+  ]
 
   noted_chained : IsChained hash_of (get nat_eq new.newest) (map (content_of bytes) old.places ++ content_of bytes p ∷ []) (map (λ q. q.next) old.places ++ p.next ∷ [])
   noted_chained =
       let h = hash_of (content_of bytes p) in
       rw next (IsChained-push hash_of (get nat_eq old.newest) (get nat_eq new.newest) (map (content_of bytes) old.places) (map (λ q. q.next) old.places) (content_of bytes p)
-        ok.chained lacks
-        (newest h ∙ ap (λ b. cond b (Some (length old.places)) (get nat_eq old.newest h)) (eq-eqb h h refl) ∙ ap Some (sym (length-map old.places (content_of bytes))))
-        (λ q n. newest q ∙ cond_other h q _ _ n))
+      ok.chained lacks
+      (newest h ∙ ap (λ b. cond b (Some (length old.places)) (get nat_eq old.newest h)) (eq-eqb h h refl) ∙ ap Some (sym (length-map old.places (content_of bytes))))
+      (λ q n. newest q ∙ cond_other h q _ _ n))
 
   pub Finds-note : Finds new bytes
   Finds-note = record {
@@ -74,7 +76,7 @@ Lacks-grow chains bytes more content ok lacks k at =
 pub Finds-shrink : (old new : Chains) (bytes more : List ℕ) → Finds old bytes → new.places ≡ old.places → Finds new (bytes ++ more) → Finds new bytes
 Finds-shrink old new bytes more was same ok =
     let within : (k : ℕ) (p : Place) → slice_get new.places k ≡ Some p → p.start + p.len ≤ length bytes
-          = λ k p at. was.within k p (ap (λ ps. slice_get ps k) (sym same) ∙ at) in
+    = λ k p at. was.within k p (ap (λ ps. slice_get ps k) (sym same) ∙ at) in
     record {
       within = within;
       fewer = rw same was.fewer;

@@ -43,8 +43,9 @@ module _ (Has : List ℕ → ℕ → List ℕ → Type 0)
   IsFilled-add bytes more old new index content ok finds (place, places, at_index, is) has = record {
     finds = finds;
     holds = λ k p at. elim (snoc_cases old.places place p k (sym (ap (λ ps. slice_get ps k) places) ∙ at)) [
-        inl was ↦ rw (content_of-append bytes more p (ok.finds.within k p was)) (stays bytes more p.index (content_of bytes p) (ok.holds k p was))
-      | inr e ↦ rw (e.1, at_index, is) has ];
+      | inl was ↦ rw (content_of-append bytes more p (ok.finds.within k p was)) (stays bytes more p.index (content_of bytes p) (ok.holds k p was))
+      | inr e ↦ rw (e.1, at_index, is) has
+    ];
   }
 
   -- two indexes in use with one content are one index
@@ -54,11 +55,11 @@ module _ (Has : List ℕ → ℕ → List ℕ → Type 0)
       let a = place_of_index chains.places j used in
       let b = place_of_index chains.places k also in
       let at_a : slice_get (map (content_of bytes) chains.places) a.0 ≡ Some content
-            = slice_get-map (content_of bytes) chains.places a.0 ∙ ap (option_map (content_of bytes)) a.2
-              ∙ ap Some (unique bytes j (content_of bytes a.1) content (rw a.3 at (ok.holds a.0 a.1 a.2)) here) in
+      = slice_get-map (content_of bytes) chains.places a.0 ∙ ap (option_map (content_of bytes)) a.2
+      ∙ ap Some (unique bytes j (content_of bytes a.1) content (rw a.3 at (ok.holds a.0 a.1 a.2)) here) in
       let at_b : slice_get (map (content_of bytes) chains.places) b.0 ≡ Some content
-            = slice_get-map (content_of bytes) chains.places b.0 ∙ ap (option_map (content_of bytes)) b.2
-              ∙ ap Some (unique bytes k (content_of bytes b.1) content (rw b.3 at (ok.holds b.0 b.1 b.2)) there) in
+      = slice_get-map (content_of bytes) chains.places b.0 ∙ ap (option_map (content_of bytes)) b.2
+      ∙ ap Some (unique bytes k (content_of bytes b.1) content (rw b.3 at (ok.holds b.0 b.1 b.2)) there) in
       let e : a.0 ≡ b.0 = ok.finds.chained.distinct a.0 b.0 content at_a at_b in
       let same : a.1 ≡ b.1 = same_Some a.1 b.1 (sym a.2 ∙ ap (slice_get chains.places) e ∙ b.2) in
       sym a.3 ∙ ap (λ (p : Place). p.index) same ∙ b.3
@@ -88,21 +89,25 @@ module _ (Has : List ℕ → ℕ → List ℕ → Type 0)
       → HoldsOnce Has (record { bytes = bytes; used = 0 ∷ indexes chains.places })
   HoldsOnce-zero bytes chains ok proper j k content first second here there =
       elim (Contains-cons_cases 0 (indexes chains.places) j first) [
-          inl a ↦ elim (Contains-cons_cases 0 (indexes chains.places) k second) [
-              inl b ↦ sym a ∙ b
-            | inr b ↦ let none : content ≡ [] = unique bytes 0 content [] (rw (← a) at here) (empty bytes) in
-                absurd (full_at bytes chains k ok proper b (rw none at there)) ]
+        | inl a ↦ elim (Contains-cons_cases 0 (indexes chains.places) k second) [
+          | inl b ↦ sym a ∙ b
+          | inr b ↦ let none : content ≡ [] = unique bytes 0 content [] (rw (← a) at here) (empty bytes) in
+              absurd (full_at bytes chains k ok proper b (rw none at there))
+        ]
         | inr a ↦ elim (Contains-cons_cases 0 (indexes chains.places) k second) [
-              inl b ↦ let none : content ≡ [] = unique bytes 0 content [] (rw (← b) at there) (empty bytes) in
-                absurd (full_at bytes chains j ok proper a (rw none at here))
-            | inr b ↦ same_index Has stays unique bytes chains ok j k content a b here there ] ]
+          | inl b ↦ let none : content ≡ [] = unique bytes 0 content [] (rw (← b) at there) (empty bytes) in
+              absurd (full_at bytes chains j ok proper a (rw none at here))
+          | inr b ↦ same_index Has stays unique bytes chains ok j k content a b here there
+        ]
+      ]
 
 pub IsProper-add : (bytes more : List ℕ) (old new : Chains) (index : ℕ) (content : List ℕ) → Finds old bytes → IsProper bytes old
     → AddsPlace old new (bytes ++ more) index content → content ≢ [] → IsProper (bytes ++ more) new
 IsProper-add bytes more old new index content finds proper (place, places, at_index, is) full k p at e =
     elim (snoc_cases old.places place p k (sym (ap (λ ps. slice_get ps k) places) ∙ at)) [
-        inl was ↦ proper k p was (sym (content_of-append bytes more p (finds.within k p was)) ∙ e)
-      | inr new_one ↦ full (sym is ∙ ap (content_of (bytes ++ more)) (sym new_one.1) ∙ e) ]
+      | inl was ↦ proper k p was (sym (content_of-append bytes more p (finds.within k p was)) ∙ e)
+      | inr new_one ↦ full (sym is ∙ ap (content_of (bytes ++ more)) (sym new_one.1) ∙ e)
+    ]
 
 -- what a test of emptiness says
 pub from_empty : (xs : List ℕ) (b : Bool) → b ≡ true → b ≡ (length xs == 0) → xs ≡ []

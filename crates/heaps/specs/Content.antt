@@ -2,10 +2,14 @@
 use Rattle.std.specs.Prelude.{◌≡◌, ◌≢◌, ℕ, zero, suc, ◌+◌, ◌*◌, ◌%◌, List, [], ◌∷◌, ◌++◌, All, IsUtf8, length, drop}
 use Rattle.il_base.specs.Numbers.{Packed}
 
+-- the bytes begin with a text in UTF-8 and the zero byte that ends it
+abbrev pub BeginsText : List ℕ → List ℕ → Type 0
+BeginsText bytes text = (rest : List ℕ) × (bytes ≡ text ++ (0 ∷ rest)) × All (λ byte. byte ≢ 0) text × IsUtf8 text
+
 -- `#Strings`: index 0 is the empty text; from any other index on the text stands in UTF-8, up to the first zero byte
 abbrev pub HasText : List ℕ → ℕ → List ℕ → Type 0
 HasText heap zero text = text ≡ []
-HasText heap (suc k) text = (rest : List ℕ) × (drop (suc k) heap ≡ text ++ (0 ∷ rest)) × All (λ byte. byte ≢ 0) text × IsUtf8 text
+HasText heap (suc k) text = BeginsText (drop (suc k) heap) text
 
 -- `#Blob`: index 0 is the empty blob; at any other index stand its length as a packed number and then its bytes
 abbrev pub HasBlob : List ℕ → ℕ → List ℕ → Type 0

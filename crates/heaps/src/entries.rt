@@ -62,7 +62,10 @@ impl Entries {
         let len = self.bytes.len();
         let start = (len + lead.len()) as u32;
         append(&mut self.bytes, lead, content, tail)?;
-        match self.chains.note(self.bytes.as_slice(), index, start, content) {
+        match self
+            .chains
+            .note(self.bytes.as_slice(), index, start, content)
+        {
             Ok(()) => Ok(()),
             Err(NoMemory) => {
                 self.bytes.truncate(len);
@@ -73,12 +76,7 @@ impl Entries {
 }
 
 // Adds three pieces at the end, or none of them.
-fn append(
-    bytes: &mut Bytes,
-    lead: &[u8],
-    content: &[u8],
-    tail: &[u8],
-) -> Result<(), NoMemory>
+fn append(bytes: &mut Bytes, lead: &[u8], content: &[u8], tail: &[u8]) -> Result<(), NoMemory>
     ensures ok { OnOk result (bytes.new ≡ bytes.old ++ (lead.now ++ (content.now ++ tail.now))) }
     ensures err { OnErr result (bytes.new ≡ bytes.old) }
 {
@@ -91,12 +89,7 @@ fn append(
 }
 
 // Adds three pieces at the end, or some of their bytes.
-fn extend(
-    bytes: &mut Bytes,
-    lead: &[u8],
-    content: &[u8],
-    tail: &[u8],
-) -> Result<(), NoMemory>
+fn extend(bytes: &mut Bytes, lead: &[u8], content: &[u8], tail: &[u8]) -> Result<(), NoMemory>
     ensures ok { OnOk result (bytes.new ≡ bytes.old ++ (lead.now ++ (content.now ++ tail.now))) }
     ensures err { (more : List ℕ) × (bytes.new ≡ bytes.old ++ more) }
 {

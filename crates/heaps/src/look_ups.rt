@@ -1,7 +1,7 @@
 //! The content at an index of a heap's bytes (ECMA-335 II.24.2.3 to II.24.2.5). No look-up takes
 //! memory.
 ghost use Rattle.std.specs.Prelude.{◌≡◌, ◌≢◌, ◌<◌, List, ℕ, length, slice_index, IfSome, IfNone};
-ghost use Rattle.heaps.specs.Content.{HasText, HasGuid};
+ghost use Rattle.heaps.specs.Content.{BeginsText, HasText, HasGuid};
 
 /// The text at an index of `#Strings`, or None where no text is there: the index is past the heap, no
 /// zero byte follows, or the bytes before it aren't UTF-8.
@@ -12,9 +12,21 @@ pub fn string_at(heap: &[u8], at: u32) -> Option<&str>
     if at == 0 {
         return Some("");
     }
-    let rest = heap.get(at as usize..)?;
-    let end = first_zero(rest)?;
-    match std::str::from_utf8(&rest[..end]) {
+    let at = at as usize;
+    if heap.len() <= at {
+        return None;
+    }
+    let (_, bytes) = heap.split_at(at);
+    text_of(bytes)
+}
+
+// The text that the bytes begin with.
+fn text_of(bytes: &[u8]) -> Option<&str>
+    ensures found { IfSome result (λ text. BeginsText bytes.now text.now) }
+    ensures none { IfNone result ((text : List ℕ) → BeginsText bytes.now text → ⊥) }
+{
+    let end = first_zero(bytes)?;
+    match std::str::from_utf8(&bytes[..end]) {
         Ok(text) => Some(text),
         Err(_) => None,
     }
@@ -44,5 +56,8 @@ pub fn guid_at(heap: &[u8], at: u32) -> Option<&[u8]>
         return None;
     }
     let start = (at as usize - 1) * 16;
-    heap.get(start..start + 16)
+    if heap.len() < start + 16 {
+        return None;
+    }
+    Some(&heap[start..start + 16])
 }

@@ -27,7 +27,7 @@ loop-at-smaller c =
     let here = content_here c.args.bytes.now c.args.self.now.places m place c.at-place.ensures in
     let link = link_here c.args.self.now.places m place c.at-place.ensures in
     ahead_of-smaller place.next c.loop-at.at m c.in-Some.is
-      (λ j is. smaller_next hash_of _ _ _ c.requires.chained c.args.content.now m j (content_of c.args.bytes.now place) here (link ∙ ap Some is))
+    (λ j is. smaller_next hash_of _ _ _ c.requires.chained c.args.content.now m j (content_of c.args.bytes.now place) here (link ∙ ap Some is))
 
 pub loop-at-preserved : goal.loop-at-preserved
 loop-at-preserved c =
@@ -38,9 +38,9 @@ loop-at-preserved c =
     let link = link_here c.args.self.now.places m place c.at-place.ensures in
     let was = c.loop-at.invariant.hashed m c.in-Some.is in
     let same : hash_of content ≡ hash_of c.args.content.now
-          = ap hash_of (same_Some content was.0 (sym here ∙ was.1)) ∙ was.2 in
+    = ap hash_of (same_Some content was.0 (sym here ∙ was.1)) ∙ was.2 in
     let other : content ≡ c.args.content.now → ⊥
-          = λ e. false≢true (sym c.if-eq.false ∙ (slice_eq-Decides Decides-eqb _ _ _ c.eq.ensures).1 (c.content_at.ensures ∙ e)) in
+    = λ e. false≢true (sym c.if-eq.false ∙ (slice_eq-Decides Decides-eqb _ _ _ c.eq.ensures).1 (c.content_at.ensures ∙ e)) in
     record {
       hashed = λ j is. hashed_next hash_of _ _ _ c.requires.chained c.args.content.now m j content here (link ∙ ap Some is) same;
       ahead = λ k at. let a = c.loop-at.invariant.ahead k at in

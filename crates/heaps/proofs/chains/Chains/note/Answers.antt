@@ -18,6 +18,6 @@ returns-in-Ok-clause-finds c =
     let next : place.next ≡ get nat_eq old.newest (hash_of c.args.content.now) = search rules in
     let newest : (q : ℕ) → get nat_eq new.newest q ≡ cond (nat_eq (hash_of c.args.content.now) q) (Some (length old.places)) (get nat_eq old.newest q) = search rules in
     Finds-note old new c.args.bytes.now place c.requires.finds
-      (rw here c.requires.lacks) c.requires.within c.requires.room
-      (search rules)
-      (rw (← hash) next) (rw (← hash) newest)
+    (rw here c.requires.lacks) c.requires.within c.requires.room
+    (search rules)
+    (rw (← hash) next) (rw (← hash) newest)

@@ -23,5 +23,5 @@ note-requires-clause-here c =
 pub returns-in-Err-clause-finds : goal.returns-in-Err-clause-finds
 returns-in-Err-clause-finds c =
     rw c.truncate.ensures
-      (Finds-undo c.args.self.now.chains c.note.new.self c.args.self.now.bytes _ c.append.new.bytes c.len-len.result
-        c.requires.finds c.in-Err.ensures.err c.in_ok-append.ensures.ok c.len-len.ensures (rw c.as_slice.ensures at c.in-Err.ensures.finds))
+    (Finds-undo c.args.self.now.chains c.note.new.self c.args.self.now.bytes _ c.append.new.bytes c.len-len.result
+    c.requires.finds c.in-Err.ensures.err c.in_ok-append.ensures.ok c.len-len.ensures (rw c.as_slice.ensures at c.in-Err.ensures.finds))

@@ -31,10 +31,11 @@ invariant_of-self-2 c =
     let new = c.add.new.self in
     let more = [] ++ (c.args.content.now ++ []) in
     let index = (c.end.result / 16 + 1) in
-    let content = c.args.content.now in
-    ( IsFilled-grown HasGuid HasGuid-append HasGuid-unique old.bytes more new.bytes old.chains new.chains index content (grown c)
-        c.self.invariant.0 c.in_ok-add.ensures.finds (added c) (here c)
-    , rw (grown c, length-append) (omega (arith, c.self.invariant.1, c.requires.whole, length-append c.args.content.now [])) )
+    let content = c.args.content.now in (
+      IsFilled-grown HasGuid HasGuid-append HasGuid-unique old.bytes more new.bytes old.chains new.chains index content (grown c)
+          c.self.invariant.0 c.in_ok-add.ensures.finds (added c) (here c),
+      rw (grown c, length-append) (omega (arith, c.self.invariant.1, c.requires.whole, length-append c.args.content.now [])),
+    )
 
 pub returns-clause-has : goal.returns-clause-has
 returns-clause-has c =

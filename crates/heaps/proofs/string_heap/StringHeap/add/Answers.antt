@@ -36,17 +36,20 @@ invariant_of-self-2 c =
     let more = [] ++ (c.args.content.now ++ (0 ∷ [])) in
     let index = c.end-index.result in
     let content = c.args.content.now in
-    let full = from_full content c.is_empty.result c.if-is_empty.false c.is_empty.ensures in
-    ( IsFilled-grown HasText HasText-append HasText-unique old.bytes more new.bytes old.chains new.chains index content (grown c)
-        c.self.invariant.0 c.in_ok-add.ensures.finds (added c) (here c)
-    , IsProper-grown HasText HasText-append HasText-unique old.bytes more new.bytes old.chains new.chains index content (grown c)
-        c.self.invariant.0 c.in_ok-add.ensures.finds (added c) c.self.invariant.1 full
-    , rw (grown c, length-append) (omega (arith, c.self.invariant.2)) )
+    let full = from_full content c.is_empty.result c.if-is_empty.false c.is_empty.ensures in (
+      IsFilled-grown HasText HasText-append HasText-unique old.bytes more new.bytes old.chains new.chains index content (grown c)
+          c.self.invariant.0 c.in_ok-add.ensures.finds (added c) (here c),
+      IsProper-grown HasText HasText-append HasText-unique old.bytes more new.bytes old.chains new.chains index content (grown c)
+          c.self.invariant.0 c.in_ok-add.ensures.finds (added c) c.self.invariant.1 full,
+      rw (grown c, length-append) (omega (arith, c.self.invariant.2)),
+    )
 
 pub returns-clause-has : goal.returns-clause-has
-returns-clause-has c =
-    (here c, Contains-cons 0 (indexes c.add.new.self.chains.places) c.end-index.result
-      (index_of_added c.self.inside.entries.chains c.add.new.self.chains c.add.new.self.bytes c.end-index.result c.args.content.now (added c)))
+returns-clause-has c = (
+  here c,
+  Contains-cons 0 (indexes c.add.new.self.chains.places) c.end-index.result
+      (index_of_added c.self.inside.entries.chains c.add.new.self.chains c.add.new.self.bytes c.end-index.result c.args.content.now (added c)),
+)
 
 pub returns-clause-stays : goal.returns-clause-stays
 returns-clause-stays c index text was =
