@@ -1,9 +1,9 @@
 -- A function of a whole type that goes by a step for each layer, at each variant.
-use Rattle.std.proofs.Common.{◌≡◌, ◌∙◌, ap, ℕ, ℤ, Bool, List, map}
+use Rattle.std.proofs.Common.{◌≡◌, ◌∙◌, ap, subst, ℕ, ℤ, Bool, List, map}
 use Rattle.type_terms.specs.declared.name.TypeName.{TypeName}
 use Rattle.type_terms.specs.declared.term.Prim as prim
-use Rattle.type_terms.specs.declared.term.Owner.{Owner, fold-Owner, fold_out-Owner, map-Owner}
-use Rattle.type_terms.specs.declared.term.SigType.{SigType, fold-SigType, fold_out-SigType, map-SigType}
+use Rattle.type_terms.specs.declared.term.Owner.{Owner, fold-Owner, fold_out-Owner, map-Owner, roll-Owner, ind-Owner}
+use Rattle.type_terms.specs.declared.term.SigType.{SigType, fold-SigType, fold_out-SigType, map-SigType, roll-SigType, ind-SigType}
 use Rattle.type_terms.specs.declared.term.Owner.TheVariants as o
 use Rattle.type_terms.specs.declared.term.SigType.TheVariants as t
 use Rattle.type_terms.specs.declared.term.Owner.TheOpen as layer
@@ -62,3 +62,28 @@ module _ (A B : Type 0) (f : layer.Owner-F A B → A) (g : layer.SigType-F A B �
 
   pub fold-Pinned : (of : SigType) → types (t.Pinned of) ≡ g (layer.Pinned (types of))
   fold-Pinned of = fold_out-SigType A B f g (t.Pinned of) ∙ ap type_at (t.outs-Pinned of)
+
+-- Induction by layers: a layer holds each child with its fact.
+module _ (P : Owner → Type 0) (Q : SigType → Type 0) where
+  abbrev pub OwnerWith : Type 0
+  OwnerWith = (a : Owner) × P a
+
+  abbrev pub TypeWith : Type 0
+  TypeWith = (a : SigType) × Q a
+
+  abbrev pub owner_values : layer.Owner-F OwnerWith TypeWith → layer.Owner-F Owner SigType
+  owner_values = map-Owner OwnerWith TypeWith Owner SigType (λ x. x.0) (λ x. x.0)
+
+  abbrev pub type_values : layer.SigType-F OwnerWith TypeWith → layer.SigType-F Owner SigType
+  type_values = map-SigType OwnerWith TypeWith Owner SigType (λ x. x.0) (λ x. x.0)
+
+  module _ (owner : (l : layer.Owner-F OwnerWith TypeWith) → P (roll-Owner (owner_values l))) (type : (l : layer.SigType-F OwnerWith TypeWith) → Q (roll-SigType (type_values l))) where
+    pub by_layers : (t : SigType) → Q t
+    by_layers = ind-SigType P Q
+        (λ x y e. subst (λ l. P (roll-Owner l)) e (owner y))
+        (λ x y e. subst (λ l. Q (roll-SigType l)) e (type y))
+
+    pub owner_by_layers : (o : Owner) → P o
+    owner_by_layers = ind-Owner P Q
+        (λ x y e. subst (λ l. P (roll-Owner l)) e (owner y))
+        (λ x y e. subst (λ l. Q (roll-SigType l)) e (type y))

@@ -1,2 +1,3 @@
-pub mod Layers
 mod Comparing
+pub mod Layers
+mod OrderLaws

@@ -1,4 +1,5 @@
-ghost use Rattle.std.specs.Prelude.{◌≡◌};
+ghost use Rattle.std.specs.Prelude.{◌≡◌, ◌↔◌};
+ghost use Rattle.std.specs.declared.cmp.Ordering.TheVariants.{Equal};
 ghost use Rattle.std.specs.Cmp.Lexicographic.{slice_cmp};
 ghost use Rattle.type_terms.specs.Order.{scope_order, id_order, name_order, prim_place, type_place, term_fields, term_order, owner_order};
 
@@ -6,10 +7,29 @@ use crate::{Owner, Prim, Scope, SigType, TypeId, TypeName};
 use std::cmp::Ordering;
 
 /// Compares two types: by variant in the order of declaration, and then by their fields from left to
-/// right, texts by bytes, and lists item by item with a proper prefix before the longer list.
-#[cycle(compare)]
+/// right, texts by bytes, and lists item by item with a proper prefix before the longer list. `Equal`
+/// comes exactly for equal types. Takes no memory.
+#[tactic(auto, using(crate::proofs::OrderLaws::equal_terms))]
 pub fn compare_terms(a: &SigType, b: &SigType) -> Ordering
     ensures order { result ≡ term_order a.now b.now }
+    ensures equal { (result ≡ Equal) ↔ (a.now ≡ b.now) }
+{
+    compare_types(a, b)
+}
+
+/// Compares two owners: a name stands before a type, and names and types go by their own order.
+/// `Equal` comes exactly for equal owners. Takes no memory.
+#[tactic(auto, using(crate::proofs::OrderLaws::equal_owners))]
+pub fn compare_owners(a: &Owner, b: &Owner) -> Ordering
+    ensures order { result ≡ owner_order a.now b.now }
+    ensures equal { (result ≡ Equal) ↔ (a.now ≡ b.now) }
+{
+    compare_named(a, b)
+}
+
+#[cycle(compare)]
+fn compare_types(a: &SigType, b: &SigType) -> Ordering
+    ensures { result ≡ term_order a.now b.now }
 {
     let places = place_of(a).cmp(&place_of(b));
     if places != Ordering::Equal {
@@ -18,10 +38,9 @@ pub fn compare_terms(a: &SigType, b: &SigType) -> Ordering
     compare_fields(a, b)
 }
 
-/// Compares two owners: a name stands before a type, and names and types go by their own order.
 #[cycle(compare)]
-pub fn compare_owners(a: &Owner, b: &Owner) -> Ordering
-    ensures order { result ≡ owner_order a.now b.now }
+fn compare_named(a: &Owner, b: &Owner) -> Ordering
+    ensures { result ≡ owner_order a.now b.now }
 {
     match a {
         Owner::Name(name) => match b {
@@ -30,7 +49,7 @@ pub fn compare_owners(a: &Owner, b: &Owner) -> Ordering
         },
         Owner::Spec(of) => match b {
             Owner::Name(_) => Ordering::Greater,
-            Owner::Spec(other) => compare_terms(of, other),
+            Owner::Spec(other) => compare_types(of, other),
         },
     }
 }
@@ -62,7 +81,7 @@ fn compare_fields(a: &SigType, b: &SigType) -> Ordering
         (SigType::SzArray(x), SigType::SzArray(y))
         | (SigType::ByRef(x), SigType::ByRef(y))
         | (SigType::Pointer(x), SigType::Pointer(y))
-        | (SigType::Pinned(x), SigType::Pinned(y)) => compare_terms(x.get(), y.get()),
+        | (SigType::Pinned(x), SigType::Pinned(y)) => compare_types(x.get(), y.get()),
         (
             SigType::Array {
                 of,
@@ -76,7 +95,7 @@ fn compare_fields(a: &SigType, b: &SigType) -> Ordering
                 sizes: other_sizes,
                 lower: other_lower,
             },
-        ) => compare_terms(of.get(), other_of.get())
+        ) => compare_types(of.get(), other_of.get())
             .then(rank.cmp(other_rank))
             .then(sizes.as_slice().cmp(other_sizes.as_slice()))
             .then(lower.as_slice().cmp(other_lower.as_slice())),
@@ -90,9 +109,9 @@ fn compare_fields(a: &SigType, b: &SigType) -> Ordering
         ) => {
             match required
                 .cmp(other_required)
-                .then(compare_owners(by.get(), other_by.get()))
+                .then(compare_named(by.get(), other_by.get()))
             {
-                Ordering::Equal => compare_terms(of.get(), other_of.get()),
+                Ordering::Equal => compare_types(of.get(), other_of.get()),
                 head => head,
             }
         }
@@ -110,7 +129,7 @@ fn compare_all(a: &[SigType], b: &[SigType]) -> Ordering
         let Some((y, rest)) = others.split_first() else {
             return Ordering::Greater;
         };
-        let order = compare_terms(x, y);
+        let order = compare_types(x, y);
         if order != Ordering::Equal {
             return order;
         }

@@ -5,6 +5,7 @@
 mod compare;
 mod copying;
 mod depth;
+mod laws;
 mod name;
 mod path;
 mod reference;
@@ -13,6 +14,7 @@ mod term;
 pub use compare::{compare_owners, compare_terms};
 pub use depth::{MAX_DEPTH, fits};
 use il_lists::Items;
+pub use laws::orders_are_total;
 pub use name::{Scope, TypeId, TypeName};
 pub use path::Path;
 pub use reference::{FieldRef, MethodRef, MethodSig};
