@@ -1,7 +1,7 @@
 -- A function of a whole type that goes by a step for each layer, at each variant.
 use Rattle.std.proofs.Common.{◌≡◌, ◌∙◌, ap, subst, ℕ, ℤ, Bool, List, map}
 use Rattle.type_terms.specs.declared.name.TypeName.{TypeName}
-use Rattle.type_terms.specs.declared.term.Prim as prim
+use Rattle.type_terms.specs.declared.term.Primitive as prim
 use Rattle.type_terms.specs.declared.term.Owner.{Owner, fold-Owner, fold_out-Owner, map-Owner, roll-Owner, ind-Owner}
 use Rattle.type_terms.specs.declared.term.SigType.{SigType, fold-SigType, fold_out-SigType, map-SigType, roll-SigType, ind-SigType}
 use Rattle.type_terms.specs.declared.term.Owner.TheVariants as o
@@ -27,7 +27,7 @@ module _ (A B : Type 0) (f : layer.Owner-F A B → A) (g : layer.SigType-F A B �
   pub fold-Spec : (of : SigType) → owners (o.Spec of) ≡ f (layer.Spec (types of))
   fold-Spec of = fold_out-Owner A B f g (o.Spec of) ∙ ap owner_at (o.outs-Spec of)
 
-  pub fold-Prim : (p : prim.Prim) → types (t.Prim p) ≡ g (layer.Prim p)
+  pub fold-Prim : (p : prim.Primitive) → types (t.Prim p) ≡ g (layer.Prim p)
   fold-Prim p = fold_out-SigType A B f g (t.Prim p) ∙ ap type_at (t.outs-Prim p)
 
   pub fold-Class : (n : TypeName) → types (t.Class n) ≡ g (layer.Class n)

@@ -12,8 +12,8 @@ use Rattle.type_terms.specs.declared.name.Scope.{Scope}
 use Rattle.type_terms.specs.declared.name.Scope.TheVariants.{Here, Extern}
 use Rattle.type_terms.specs.declared.name.TypeId.{TypeId}
 use Rattle.type_terms.specs.declared.name.TypeName.{TypeName}
-use Rattle.type_terms.specs.declared.term.Prim as prim
-use Rattle.type_terms.specs.declared.term.Prim.TheVariants as prim_is
+use Rattle.type_terms.specs.declared.term.Primitive as prim
+use Rattle.type_terms.specs.declared.term.Primitive.TheVariants as prim_is
 use Rattle.type_terms.specs.declared.term.Owner.{Owner, fold-Owner, out-Owner, roll-Owner, roll-out-Owner, map-Owner, fold-roll-Owner, fold_out-Owner}
 use Rattle.type_terms.specs.declared.term.SigType.{SigType, fold-SigType, out-SigType, roll-SigType, roll-out-SigType, map-SigType, fold-roll-SigType, fold_out-SigType}
 use Rattle.type_terms.specs.declared.term.Owner.TheOpen.{Owner-F, SigType-F, Name, Spec, Prim, Class, Value, Inst, Var, MVar, SzArray, Array, ByRef, Pointer, Mod, Pinned}
@@ -293,10 +293,10 @@ name_ties a b e =
     let p : a.path ≡ b.path = lists_tie id_order id_ties a.path b.path d.1 in
     λ i. record { scope = s i; path = p i }
 
-abbrev prims : List prim.Prim
+abbrev prims : List prim.Primitive
 prims = prim_is.Void ∷ prim_is.Bool ∷ prim_is.Char ∷ prim_is.I1 ∷ prim_is.U1 ∷ prim_is.I2 ∷ prim_is.U2 ∷ prim_is.I4 ∷ prim_is.U4 ∷ prim_is.I8 ∷ prim_is.U8 ∷ prim_is.R4 ∷ prim_is.R8 ∷ prim_is.Str ∷ prim_is.Object ∷ prim_is.TypedRef ∷ prim_is.NInt ∷ prim_is.NUint ∷ []
 
-prim_back : (p : prim.Prim) → get_or prims (prim_place p) prim_is.Void ≡ p
+prim_back : (p : prim.Primitive) → get_or prims (prim_place p) prim_is.Void ≡ p
 prim_back prim_is.Void = refl
 prim_back prim_is.Bool = refl
 prim_back prim_is.Char = refl
@@ -316,7 +316,7 @@ prim_back prim_is.TypedRef = refl
 prim_back prim_is.NInt = refl
 prim_back prim_is.NUint = refl
 
-prim_ties : (p q : prim.Prim) → prim_place p ≡ prim_place q → p ≡ q
+prim_ties : (p q : prim.Primitive) → prim_place p ≡ prim_place q → p ≡ q
 prim_ties p q e = sym (prim_back p) ∙ ap (λ n. get_or prims n prim_is.Void) e ∙ prim_back q
 
 abbrev TypeTies : SigType → Type 0

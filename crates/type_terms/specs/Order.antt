@@ -9,8 +9,8 @@ use Rattle.type_terms.specs.declared.name.Scope.{Scope}
 use Rattle.type_terms.specs.declared.name.Scope.TheVariants.{Here, Extern}
 use Rattle.type_terms.specs.declared.name.TypeId.{TypeId}
 use Rattle.type_terms.specs.declared.name.TypeName.{TypeName}
-use Rattle.type_terms.specs.declared.term.Prim.TheVariants.{Void, Bool, Char, I1, U1, I2, U2, I4, U4, I8, U8, R4, R8, Str, Object, TypedRef, NInt, NUint}
-use Rattle.type_terms.specs.declared.term.Prim as prim
+use Rattle.type_terms.specs.declared.term.Primitive.TheVariants.{Void, Bool, Char, I1, U1, I2, U2, I4, U4, I8, U8, R4, R8, Str, Object, TypedRef, NInt, NUint}
+use Rattle.type_terms.specs.declared.term.Primitive as prim
 use Rattle.type_terms.specs.declared.term.Owner.{Owner, fold-Owner, out-Owner}
 use Rattle.type_terms.specs.declared.term.SigType.{SigType, fold-SigType, out-SigType, map-SigType}
 use Rattle.type_terms.specs.declared.term.Owner.TheOpen.{Owner-F, SigType-F, Name, Spec, Prim, Class, Value, Inst, Var, MVar, SzArray, Array, ByRef, Pointer, Mod, Pinned}
@@ -31,7 +31,7 @@ abbrev pub name_order : TypeName → TypeName → Ordering
 name_order a b = ordering_then (scope_order a.scope b.scope) (slice_cmp id_order a.path b.path)
 
 -- the place of a primitive type among the variants
-abbrev pub prim_place : prim.Prim → ℕ
+abbrev pub prim_place : prim.Primitive → ℕ
 prim_place Void = 0
 prim_place Bool = 1
 prim_place Char = 2

@@ -18,7 +18,7 @@ pub use laws::orders_are_total;
 pub use name::{Scope, TypeId, TypeName};
 pub use path::Path;
 pub use reference::{FieldRef, MethodRef, MethodSig};
-pub use term::{Owner, Prim, SigType};
+pub use term::{Owner, Primitive as Prim, SigType};
 
 /// A list of types.
 pub type Types = Items<SigType>;

@@ -3,7 +3,7 @@ use il_lists::{Boxed, Numbers, Signed};
 
 /// The types that a signature has an element type for (ECMA-335 II.23.1.16).
 #[derive(Debug, Clone, Copy, PartialEq, Eq, Drop)]
-pub enum Prim {
+pub enum Primitive {
     Void,
     Bool,
     Char,
@@ -28,7 +28,7 @@ pub enum Prim {
 #[cycle(terms)]
 #[derive(Drop)]
 pub enum SigType {
-    Prim(Prim),
+    Prim(Primitive),
     /// `class X`
     Class(TypeName),
     /// `valuetype X`
