@@ -3,12 +3,18 @@
 #![tactic(auto)]
 
 mod console;
+mod counts;
 mod failed;
 mod laws;
+mod mem_console;
+mod mem_shelf;
 mod packed;
+mod plan;
 mod pos;
 mod shelf;
 mod steps;
+mod stored;
+mod stored_files;
 
 pub use console::Console;
 pub use failed::Failed;
@@ -18,6 +24,8 @@ pub use laws::{
     no_packed_begins_another, no_packed_signed_begins_another, one_packed_stands_at_a_place,
     packed_is_short, packed_stands_where_put,
 };
+pub use mem_console::MemConsole;
+pub use mem_shelf::MemShelf;
 pub use packed::{push_packed, push_packed_signed, read_packed, read_packed_signed};
 pub use pos::Pos;
 pub use shelf::Shelf;
