@@ -1,5 +1,6 @@
-ghost use Rattle.std.specs.Prelude.{◌≡◌, ◌+◌, ◌≤◌, length, IsTrue};
-ghost use Rattle.pe_layout.specs.Headers.{signature_place_of};
+ghost use Rattle.std.specs.Prelude.{◌≡◌, ◌+◌, ◌*◌, ◌≤◌, length};
+ghost use Rattle.std.specs.Bool.{OnTrue};
+ghost use Rattle.pe_layout.specs.Headers.{signature_place_of, section_table_of, section_count_of, optional_size_of};
 ghost use Rattle.pe_layout.specs.Faults.{has_headers, is_in_profile};
 
 use crate::field::{u16_at, u32_at};
@@ -9,7 +10,9 @@ pub(crate) const SIGNATURE_PLACE: usize = 0x3C;
 
 // Whether the headers are a PE file's and lie in the file.
 pub(crate) fn has_headers(file: &[u8]) -> bool
-    ensures { result ≡ has_headers file.now }
+    ensures value { result ≡ has_headers file.now }
+    ensures dos { OnTrue result (64 ≤ length file.now) }
+    ensures sections { OnTrue result (section_table_of file.now + 40 * section_count_of file.now ≤ length file.now) }
 {
     if file.len() < 64 || u16_at(file, 0) != 0x5A4D {
         return false;
@@ -25,9 +28,10 @@ pub(crate) fn has_headers(file: &[u8]) -> bool
 
 // Whether machine and optional header are in the profile. The PE signature stands at `signature`.
 pub(crate) fn is_in_profile(file: &[u8], signature: usize) -> bool
-    requires headers { IsTrue (has_headers file.now) }
     requires place { signature ≡ signature_place_of file.now }
-    ensures { result ≡ is_in_profile file.now }
+    requires within { section_table_of file.now ≤ length file.now }
+    ensures value { result ≡ is_in_profile file.now }
+    ensures directories { OnTrue result (216 ≤ optional_size_of file.now) }
 {
     let optional_size = u16_at(file, signature + 20) as usize;
     if u16_at(file, signature + 4) != 0x14C || optional_size < 96 {

@@ -1,6 +1,9 @@
-ghost use Rattle.std.specs.Prelude.{◌≡◌, ◌+◌, ◌*◌, ◌≤◌, ◌<◌, ◌↔◌, ◌&&◌, ℕ, [], length, IsTrue, IsNone, IfSome, nat_le};
+ghost use Rattle.std.specs.Prelude.{◌≡◌, ◌+◌, ◌*◌, ◌≤◌, ◌<◌, ◌↔◌, ℕ, [], length, IsTrue, IsNone, IsSome, IfSome};
 ghost use Rattle.std.specs.List.{find};
-ghost use Rattle.pe_layout.specs.FileMap.{section_at, sections_from, extent_of, holds, readable_in, readable_by};
+ghost use Rattle.pe_layout.specs.Headers.{section_table_of, section_count_of, directory_rva_of};
+ghost use Rattle.pe_layout.specs.FileMap.{section_at, sections_from, extent_of, holds, readable_in, readable};
+ghost use Rattle.pe_layout.specs.CliHeader.{cli_header_of};
+ghost use Rattle.pe_layout.specs.Faults.{has_cli_header};
 
 use crate::field::u32_at;
 
@@ -68,7 +71,8 @@ impl Section {
 // The first of `count` sections that holds an RVA; their headers begin at the place `sections`.
 fn section_of(file: &[u8], sections: usize, count: usize, rva: u32) -> Option<Section>
     requires { sections + 40 * count ≤ length file.now }
-    ensures { result ≡ find (holds rva) (sections_from file.now sections count) }
+    ensures first { result ≡ find (holds rva) (sections_from file.now sections count) }
+    ensures held { IfSome result (λ section. IsTrue (holds rva section)) }
 {
     for k in 0..count {
         let section = Section::at(file, sections + 40 * k);
@@ -79,14 +83,38 @@ fn section_of(file: &[u8], sections: usize, count: usize, rva: u32) -> Option<Se
     None
 }
 
-// What can be read of the file from an RVA on.
+// What can be read of the file from an RVA on; `count` section headers begin at the place `sections`.
 pub(crate) fn readable_at(file: &[u8], sections: usize, count: usize, rva: u32) -> Option<&[u8]>
-    requires { sections + 40 * count ≤ length file.now }
-    ensures none { IsNone result ↔ (readable_by file.now rva (find (holds rva) (sections_from file.now sections count)) ≡ []) }
-    ensures bytes { IfSome result (λ bytes. bytes.now ≡ readable_by file.now rva (find (holds rva) (sections_from file.now sections count))) }
+    requires sections { sections ≡ section_table_of file.now }
+    requires count { count ≡ section_count_of file.now }
+    requires within { sections + 40 * count ≤ length file.now }
+    ensures none { IsNone result ↔ (readable file.now rva ≡ []) }
+    ensures bytes { IfSome result (λ bytes. bytes.now ≡ readable file.now rva) }
 {
     match section_of(file, sections, count, rva) {
         Some(section) => section.readable(file, rva),
         None => None,
     }
+}
+
+// The CLI header, of which directory 14 gives the RVA.
+pub(crate) fn cli_header_at(
+    file: &[u8],
+    sections: usize,
+    count: usize,
+    rva: u32,
+) -> Option<&[u8]>
+    requires sections { sections ≡ section_table_of file.now }
+    requires count { count ≡ section_count_of file.now }
+    requires within { sections + 40 * count ≤ length file.now }
+    requires rva { rva ≡ directory_rva_of file.now 14 }
+    ensures found { IsSome result ↔ IsTrue (has_cli_header file.now) }
+    ensures bytes { IfSome result (λ bytes. bytes.now ≡ cli_header_of file.now) }
+    ensures len { IfSome result (λ bytes. length bytes.now ≡ 72) }
+{
+    let bytes = readable_at(file, sections, count, rva)?;
+    if bytes.len() < 72 {
+        return None;
+    }
+    Some(&bytes[..72])
 }

@@ -8,7 +8,7 @@ ghost use Rattle.pe_layout.specs.Numbers.{numbers_of};
 
 use crate::field::{u16_at, u32_at};
 use crate::profile::{SIGNATURE_PLACE, has_headers, is_in_profile};
-use crate::section::readable_at;
+use crate::section::{cli_header_at, readable_at};
 use crate::{ManifestNumbers, PeFault};
 use std::marker::Model;
 
@@ -56,18 +56,15 @@ pub fn open(file: &[u8]) -> Result<PeView<'_>, PeFault>
     let optional = signature as usize + 24;
     let sections = optional + u16_at(file, optional - 4) as usize;
     let count = u16_at(file, optional - 18) as usize;
-    let Some(cli) = readable_at(file, sections, count, u32_at(file, optional + 208)) else {
+    let Some(cli) = cli_header_at(file, sections, count, u32_at(file, optional + 208)) else {
         return Err(PeFault { rule: 3, at: 0 });
     };
-    if cli.len() < 72 {
-        return Err(PeFault { rule: 3, at: 0 });
-    }
     Ok(PeView {
         file,
         optional,
         sections,
         count,
-        cli: &cli[..72],
+        cli,
     })
 }
 

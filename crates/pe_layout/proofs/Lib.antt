@@ -1,0 +1,3 @@
+pub mod Sections
+pub mod Readable
+pub mod FirstFault

@@ -1,0 +1,8 @@
+-- What the file holds from the place on is what is read.
+use Rattle.std.proofs.lemmas.List.{take_rest}
+use Rattle.pe_layout.specs.Fields.{u32_at}
+use Rattle.pe_layout.proofs.field.u32_at.Goals as goal
+
+pub returns : goal.returns
+unfolding u32_at
+returns c = rw take_rest at c.read_u32.ensures
