@@ -29,9 +29,9 @@ pub(crate) fn push_text_front(
             Field::Word(parts.metadata.len() as u32),
             Field::Word(parts.numbers.cor_flags),
             Field::Word(parts.entry),
+            Field::Zeros(48),
         ],
-    )?;
-    push_zeros(out, 48)
+    )
 }
 
 // Code or metadata, filled up to a multiple of 4.
@@ -45,12 +45,12 @@ pub(crate) fn push_padded(out: &mut Bytes, bytes: &[u8]) -> Result<(), NoMemory>
 }
 
 // The function by which the loader enters the runtime.
-fn function_for(kind: Kind) -> &'static [u8]
-    ensures { result.now ≡ function_for kind ++ 0 ∷ [] }
+fn function_for(kind: Kind) -> [u8; 12]
+    ensures { result ≡ function_for kind ++ 0 ∷ [] }
 {
     match kind {
-        Kind::Exe => b"_CorExeMain\0",
-        Kind::Dll => b"_CorDllMain\0",
+        Kind::Exe => *b"_CorExeMain\0",
+        Kind::Dll => *b"_CorDllMain\0",
     }
 }
 
@@ -69,26 +69,15 @@ pub(crate) fn push_text_back(
         out,
         &[
             Field::Word(layout.imports_rva + 40),
-            Field::Word(0),
-            Field::Word(0),
+            Field::Zeros(8),
             Field::Word(layout.imports_rva + 62),
             Field::Word(TEXT_RVA),
-        ],
-    )?;
-    push_zeros(out, 20)?;
-    push_fields(
-        out,
-        &[
+            Field::Zeros(20),
             Field::Word(layout.imports_rva + 48),
             Field::Word(0),
             Field::Half(0),
-        ],
-    )?;
-    out.extend(function_for(kind))?;
-    out.extend(b"mscoree.dll\0")?;
-    push_fields(
-        out,
-        &[
+            Field::Text(function_for(kind)),
+            Field::Text(*b"mscoree.dll\0"),
             Field::Byte(0xFF),
             Field::Byte(0x25),
             Field::Word(numbers.image_base + TEXT_RVA),

@@ -5,12 +5,15 @@ ghost use Rattle.pe_layout.specs.Layout.{field_bytes, spelled};
 use byteorder::{ByteOrder, LittleEndian};
 use il_lists::{Bytes, NoMemory};
 
-// A number of a header, with its width.
+// A field of a header: a number of one, two or four bytes, a name, a text, or zeros.
 #[derive(Clone, Copy)]
 pub(crate) enum Field {
     Byte(u8),
     Half(u16),
     Word(u32),
+    Name([u8; 8]),
+    Text([u8; 12]),
+    Zeros(u32),
 }
 
 // The number in the two bytes at a place.
@@ -29,7 +32,7 @@ pub(crate) fn u32_at(file: &[u8], place: usize) -> u32
     LittleEndian::read_u32(&file[place..])
 }
 
-// Adds one number.
+// Adds one field.
 fn push_field(out: &mut Bytes, field: Field) -> Result<(), NoMemory>
     ensures { OnOk result (out.new ≡ out.old ++ field_bytes field) }
 {
@@ -45,10 +48,13 @@ fn push_field(out: &mut Bytes, field: Field) -> Result<(), NoMemory>
             LittleEndian::write_u32(&mut bytes, number);
             out.extend(&bytes)
         }
+        Field::Name(bytes) => out.extend(&bytes),
+        Field::Text(bytes) => out.extend(&bytes),
+        Field::Zeros(count) => push_zeros(out, count),
     }
 }
 
-// Adds numbers, one after the other.
+// Adds fields, one after the other.
 pub(crate) fn push_fields(out: &mut Bytes, fields: &[Field]) -> Result<(), NoMemory>
     ensures { OnOk result (out.new ≡ out.old ++ spelled fields.now) }
 {

@@ -1,8 +1,8 @@
 // The headers of an image that is written, piece by piece.
 ghost use Rattle.std.specs.Prelude.{◌≡◌, ◌++◌, ◌+◌, ◌^◌, ◌<◌, ◌≤◌, ℕ, length, OnOk};
-ghost use Rattle.pe_layout.specs.Layout.{dos_header, file_header, standard_fields, nt_fields, directories, section_headers, headers};
+ghost use Rattle.pe_layout.specs.Layout.{characteristics_for, dos_header, file_header, standard_fields, nt_fields, directories, section_headers, headers};
 
-use crate::field::{Field, push_fields, push_zeros};
+use crate::field::{Field, push_fields};
 use crate::layout::{Layout, RELOC_SIZE, TEXT_RVA};
 use crate::{Kind, ManifestNumbers};
 use il_lists::{Bytes, NoMemory};
@@ -11,31 +11,40 @@ use il_lists::{Bytes, NoMemory};
 fn push_dos_header(out: &mut Bytes) -> Result<(), NoMemory>
     ensures { OnOk result (out.new ≡ out.old ++ dos_header) }
 {
-    out.extend(b"MZ")?;
-    push_zeros(out, 58)?;
-    push_fields(out, &[Field::Word(0x80)])?;
-    push_zeros(out, 64)
+    push_fields(
+        out,
+        &[
+            Field::Half(0x5A4D),
+            Field::Zeros(58),
+            Field::Word(0x80),
+            Field::Zeros(64),
+        ],
+    )
+}
+
+// II.25.2.2.1: an executable of 32 bits, and a library too.
+fn characteristics_for(kind: Kind) -> u16
+    ensures { result ≡ characteristics_for kind }
+{
+    match kind {
+        Kind::Exe => 0x0102,
+        Kind::Dll => 0x2102,
+    }
 }
 
 // II.25.2.2, behind the signature
 fn push_file_header(out: &mut Bytes, kind: Kind) -> Result<(), NoMemory>
     ensures { OnOk result (out.new ≡ out.old ++ file_header kind) }
 {
-    let characteristics = match kind {
-        Kind::Exe => 0x0102,
-        Kind::Dll => 0x2102,
-    };
     push_fields(
         out,
         &[
             Field::Word(0x4550),
             Field::Half(0x14C),
             Field::Half(2),
-            Field::Word(0),
-            Field::Word(0),
-            Field::Word(0),
+            Field::Zeros(12),
             Field::Half(0xE0),
-            Field::Half(characteristics),
+            Field::Half(characteristics_for(kind)),
         ],
     )
 }
@@ -77,12 +86,9 @@ fn push_nt_fields(
             Field::Word(TEXT_RVA),
             Field::Word(numbers.file_alignment),
             Field::Half(5),
-            Field::Half(0),
-            Field::Half(0),
-            Field::Half(0),
+            Field::Zeros(6),
             Field::Half(5),
-            Field::Half(0),
-            Field::Word(0),
+            Field::Zeros(6),
             Field::Word(layout.reloc_rva + TEXT_RVA),
             Field::Word(numbers.file_alignment),
             Field::Word(0),
@@ -102,25 +108,22 @@ fn push_nt_fields(
 fn push_directories(out: &mut Bytes, layout: &Layout) -> Result<(), NoMemory>
     ensures { OnOk result (out.new ≡ out.old ++ directories layout.now) }
 {
-    push_zeros(out, 8)?;
-    push_fields(out, &[Field::Word(layout.imports_rva), Field::Word(40)])?;
-    push_zeros(out, 24)?;
-    push_fields(
-        out,
-        &[Field::Word(layout.reloc_rva), Field::Word(RELOC_SIZE)],
-    )?;
-    push_zeros(out, 48)?;
     push_fields(
         out,
         &[
+            Field::Zeros(8),
+            Field::Word(layout.imports_rva),
+            Field::Word(40),
+            Field::Zeros(24),
+            Field::Word(layout.reloc_rva),
+            Field::Word(RELOC_SIZE),
+            Field::Zeros(48),
             Field::Word(TEXT_RVA),
             Field::Word(8),
-            Field::Word(0),
-            Field::Word(0),
+            Field::Zeros(8),
             Field::Word(TEXT_RVA + 8),
             Field::Word(72),
-            Field::Word(0),
-            Field::Word(0),
+            Field::Zeros(8),
         ],
     )
 }
@@ -131,33 +134,22 @@ fn push_section_headers(out: &mut Bytes, layout: &Layout, alignment: u32) -> Res
     requires alignment { alignment < 2 ^ 31 }
     ensures { OnOk result (out.new ≡ out.old ++ section_headers layout.now alignment) }
 {
-    out.extend(b".text")?;
-    push_zeros(out, 3)?;
     push_fields(
         out,
         &[
+            Field::Name(*b".text\0\0\0"),
             Field::Word(layout.text_size),
             Field::Word(TEXT_RVA),
             Field::Word(layout.text_raw),
             Field::Word(alignment),
-            Field::Word(0),
-            Field::Word(0),
-            Field::Word(0),
+            Field::Zeros(12),
             Field::Word(0x6000_0020),
-        ],
-    )?;
-    out.extend(b".reloc")?;
-    push_zeros(out, 2)?;
-    push_fields(
-        out,
-        &[
+            Field::Name(*b".reloc\0\0"),
             Field::Word(RELOC_SIZE),
             Field::Word(layout.reloc_rva),
             Field::Word(layout.reloc_raw),
             Field::Word(alignment + layout.text_raw),
-            Field::Word(0),
-            Field::Word(0),
-            Field::Word(0),
+            Field::Zeros(12),
             Field::Word(0x4200_0040),
         ],
     )

@@ -1,7 +1,7 @@
 ghost use Rattle.std.specs.Prelude.{◌≡◌, ◌+◌, ◌^◌, ◌<◌, ◌≤◌, ℕ, length};
 ghost use Rattle.pe_layout.specs.Fields.{round_up};
 ghost use Rattle.pe_layout.specs.Numbers.{IsFileAlignment};
-ghost use Rattle.pe_layout.specs.Layout.{layout_of};
+ghost use Rattle.pe_layout.specs.Layout.{layout_of, IsBounded};
 
 use crate::Parts;
 
@@ -46,7 +46,8 @@ impl Layout {
     pub(crate) fn of(parts: &Parts) -> Layout
         requires alignment { IsFileAlignment parts.now.numbers.file_alignment }
         requires size { length parts.now.code + length parts.now.metadata < 2 ^ 26 }
-        ensures { result ≡ layout_of (length parts.now.code) (length parts.now.metadata) parts.now.numbers.file_alignment }
+        ensures value { result ≡ layout_of (length parts.now.code) (length parts.now.metadata) parts.now.numbers.file_alignment }
+        ensures bounded { IsBounded result }
     {
         let alignment = parts.numbers.file_alignment;
         let metadata_rva = CODE_RVA + round_up(parts.code.len() as u32, 4);

@@ -98,12 +98,7 @@ pub(crate) fn readable_at(file: &[u8], sections: usize, count: usize, rva: u32) 
 }
 
 // The CLI header, of which directory 14 gives the RVA.
-pub(crate) fn cli_header_at(
-    file: &[u8],
-    sections: usize,
-    count: usize,
-    rva: u32,
-) -> Option<&[u8]>
+pub(crate) fn cli_header_at(file: &[u8], sections: usize, count: usize, rva: u32) -> Option<&[u8]>
     requires sections { sections ≡ section_table_of file.now }
     requires count { count ≡ section_count_of file.now }
     requires within { sections + 40 * count ≤ length file.now }

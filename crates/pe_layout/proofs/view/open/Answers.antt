@@ -23,14 +23,14 @@ invariant_of-result c =
     let headers : has_headers c.args.file.now ≡ true = cc in
     let profile : is_in_profile c.args.file.now ≡ true = cc in
     record {
-    faultless = faultless c.args.file.now headers profile (c.in-Some.ensures.found.0 refl);
-    optional_is = omega arith;
-    optional_in = grind arith;
-    sections_is = grind arith;
-    count_is = grind arith;
-    sections_in = grind arith;
-    cli_is = c.in-Some.ensures.bytes;
-    cli_len = c.in-Some.ensures.len
+      faultless = faultless c.args.file.now headers profile (c.in-Some.ensures.found.0 refl);
+      optional_is = omega arith;
+      optional_in = grind arith;
+      sections_is = grind arith;
+      count_is = grind arith;
+      sections_in = grind arith;
+      cli_is = c.in-Some.ensures.bytes;
+      cli_len = c.in-Some.ensures.len;
     }
 
 pub returns : goal.returns

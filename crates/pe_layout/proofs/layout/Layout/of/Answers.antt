@@ -2,6 +2,6 @@ use Rattle.std.proofs.Common.{arith, rules}
 use Rattle.pe_layout.specs.Layout.{layout_of}
 use Rattle.pe_layout.proofs.layout.Layout.of.Goals as goal
 
-pub returns : goal.returns
+pub returns-clause-value : goal.returns-clause-value
 unfolding layout_of
-returns c = search rules
+returns-clause-value c = search rules

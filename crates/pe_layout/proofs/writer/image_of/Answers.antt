@@ -1,0 +1,8 @@
+use Rattle.std.proofs.Common.{arith}
+use Rattle.std.proofs.lemmas.Grind.{common_steps}
+use Rattle.pe_layout.specs.Layout.{image_of, image_by, text}
+use Rattle.pe_layout.proofs.writer.image_of.Goals as goal
+
+pub returns : goal.returns
+unfolding image_of image_by text
+returns c = grind (arith, common_steps)
