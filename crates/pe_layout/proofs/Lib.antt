@@ -1,3 +1,5 @@
 pub mod Sections
 pub mod Readable
 pub mod FirstFault
+pub mod WrittenHeaders
+pub mod LaidOut

@@ -41,6 +41,13 @@ layout_of code metadata alignment =
     let text = imports + 80 - 0x2000 in
     record { metadata_rva = 0x2050 + round_up code 4; imports_rva = imports; text_size = text; text_raw = round_up text alignment; reloc_rva = round_up (0x2000 + text) 0x2000; reloc_raw = round_up 12 alignment }
 
+-- the numbers that the caller gives fit their types
+pub record IsRanged (p : Parts) : Type 0 where
+  pub entry : p.entry < 2 ^ 32
+  pub stack_reserve : p.numbers.stack_reserve < 2 ^ 32
+  pub subsystem : p.numbers.subsystem < 2 ^ 16
+  pub cor_flags : p.numbers.cor_flags < 2 ^ 32
+
 -- what is laid out has far fewer bytes than an RVA can name, and each section is filled up
 pub record IsBounded (l : Layout) : Type 0 where
   pub imports_rva : l.imports_rva < 2 ^ 27
@@ -88,9 +95,9 @@ headers l n kind =
     dos_header ++ file_header kind ++ standard_fields l ++ nt_fields l n ++ directories l ++ section_headers l n.file_alignment
 
 -- II.25.3.1: the address table, 8 bytes, and II.25.3.3: the CLI header, 72 bytes
-unfoldable pub text_front : Layout → Parts → List ℕ
-text_front l p =
-    spelled (Word (l.imports_rva + 48) ∷ Word 0 ∷ Word 72 ∷ Half 2 ∷ Half 0 ∷ Word l.metadata_rva ∷ Word (length p.metadata) ∷ Word p.numbers.cor_flags ∷ Word p.entry ∷ Zeros 48 ∷ [])
+unfoldable pub text_front : Layout → ℕ → ℕ → ℕ → List ℕ
+text_front l metadata flags entry =
+    spelled (Word (l.imports_rva + 48) ∷ Word 0 ∷ Word 72 ∷ Half 2 ∷ Half 0 ∷ Word l.metadata_rva ∷ Word metadata ∷ Word flags ∷ Word entry ∷ Zeros 48 ∷ [])
 
 -- II.25.3.1: the descriptor and 20 zero bytes, the lookup table, hint and name of the function, the name
 -- of the library; then the stub, which jumps to the address in the address table
@@ -110,7 +117,7 @@ padded bytes = bytes ++ replicate (round_up (length bytes) 4 - length bytes) 0
 
 unfoldable pub text : Layout → Parts → List ℕ
 text l p =
-    text_front l p ++ padded p.code ++ padded p.metadata ++ text_back l p.numbers p.kind
+    text_front l (length p.metadata) p.numbers.cor_flags p.entry ++ padded p.code ++ padded p.metadata ++ text_back l p.numbers p.kind
 
 -- headers, `.text` and `.reloc`, each filled up with zeros
 unfoldable pub image_by : Layout → Parts → List ℕ

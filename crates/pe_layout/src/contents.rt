@@ -4,18 +4,21 @@ ghost use Rattle.pe_layout.specs.Layout.{function_for, text_front, text_back, pa
 
 use crate::field::{Field, push_fields, push_zeros};
 use crate::layout::{Layout, RELOC_SIZE, TEXT_RVA, round_up};
-use crate::{Kind, ManifestNumbers, Parts};
+use crate::{Kind, ManifestNumbers};
 use il_lists::{Bytes, NoMemory};
 
 // II.25.3.1 and II.25.3.3: the address table and the CLI header.
 pub(crate) fn push_text_front(
     out: &mut Bytes,
     layout: &Layout,
-    parts: &Parts,
+    metadata: u32,
+    flags: u32,
+    entry: u32,
 ) -> Result<(), NoMemory>
-    requires imports { layout.now.imports_rva < 2 ^ 31 }
-    requires metadata { length parts.now.metadata < 2 ^ 31 }
-    ensures { OnOk result (out.new ≡ out.old ++ text_front layout.now parts.now) }
+    requires { layout.now.imports_rva < 2 ^ 31 }
+    ensures value { OnOk result (out.new ≡ out.old ++ text_front layout.now metadata flags entry) }
+    ensures flags_fit { flags < 2 ^ 32 }
+    ensures entry_fits { entry < 2 ^ 32 }
 {
     push_fields(
         out,
@@ -26,9 +29,9 @@ pub(crate) fn push_text_front(
             Field::Half(2),
             Field::Half(0),
             Field::Word(layout.metadata_rva),
-            Field::Word(parts.metadata.len() as u32),
-            Field::Word(parts.numbers.cor_flags),
-            Field::Word(parts.entry),
+            Field::Word(metadata),
+            Field::Word(flags),
+            Field::Word(entry),
             Field::Zeros(48),
         ],
     )

@@ -77,7 +77,9 @@ fn push_nt_fields(
     numbers: &ManifestNumbers,
 ) -> Result<(), NoMemory>
     requires { layout.now.reloc_rva < 2 ^ 31 }
-    ensures { OnOk result (out.new ≡ out.old ++ nt_fields layout.now numbers.now) }
+    ensures value { OnOk result (out.new ≡ out.old ++ nt_fields layout.now numbers.now) }
+    ensures stack_fits { numbers.now.stack_reserve < 2 ^ 32 }
+    ensures subsystem_fits { numbers.now.subsystem < 2 ^ 16 }
 {
     push_fields(
         out,
@@ -166,7 +168,9 @@ pub(crate) fn push_headers(
     requires reloc { layout.now.reloc_rva < 2 ^ 31 }
     requires text { layout.now.text_raw < 2 ^ 31 }
     requires alignment { numbers.now.file_alignment < 2 ^ 31 }
-    ensures { OnOk result (out.new ≡ out.old ++ headers layout.now numbers.now kind) }
+    ensures value { OnOk result (out.new ≡ out.old ++ headers layout.now numbers.now kind) }
+    ensures stack_fits { OnOk result (numbers.now.stack_reserve < 2 ^ 32) }
+    ensures subsystem_fits { OnOk result (numbers.now.subsystem < 2 ^ 16) }
 {
     push_dos_header(out)?;
     push_file_header(out, kind)?;

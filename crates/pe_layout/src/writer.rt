@@ -4,7 +4,7 @@ ghost use Rattle.pe_layout.specs.CliHeader.{metadata_rva_of, metadata_size_of, e
 ghost use Rattle.pe_layout.specs.Faults.{pe_fault};
 ghost use Rattle.pe_layout.specs.Numbers.{numbers_of, IsImageBase, IsFileAlignment};
 ghost use Rattle.pe_layout.specs.Frame.{HasFrame};
-ghost use Rattle.pe_layout.specs.Layout.{image_of};
+ghost use Rattle.pe_layout.specs.Layout.{image_of, IsRanged};
 
 use crate::Parts;
 use crate::contents::{push_padded, push_relocations, push_text_back, push_text_front};
@@ -29,7 +29,7 @@ fn image_of(alloc: Global, parts: &Parts) -> Result<Bytes, NoMemory>
     requires base { IsImageBase parts.now.numbers.image_base }
     requires alignment { IsFileAlignment parts.now.numbers.file_alignment }
     requires size { length parts.now.code + length parts.now.metadata < 2 ^ 26 }
-    ensures { IfOk result (λ image. image ≡ image_of parts.now) }
+    ensures { IfOk result (λ image. (image ≡ image_of parts.now) × IsRanged parts.now) }
 {
     let layout = Layout::of(parts);
     let numbers = &parts.numbers;
@@ -38,7 +38,13 @@ fn image_of(alloc: Global, parts: &Parts) -> Result<Bytes, NoMemory>
     let mut out = Bytes::with_capacity(alloc, len as usize)?;
     push_headers(&mut out, &layout, numbers, parts.kind)?;
     push_zeros(&mut out, alignment - HEADERS_SIZE)?;
-    push_text_front(&mut out, &layout, parts)?;
+    push_text_front(
+        &mut out,
+        &layout,
+        parts.metadata.len() as u32,
+        numbers.cor_flags,
+        parts.entry,
+    )?;
     push_padded(&mut out, parts.code.as_slice())?;
     push_padded(&mut out, parts.metadata.as_slice())?;
     push_text_back(&mut out, &layout, numbers, parts.kind)?;
@@ -65,8 +71,9 @@ pub fn write(alloc: Global, parts: &Parts) -> Result<Bytes, NoMemory>
     ensures metadata { IfOk result (λ image. StandsAt image (metadata_rva_of image) parts.now.metadata) }
     ensures metadata_size { IfOk result (λ image. metadata_size_of image ≡ length parts.now.metadata) }
 
-    // Beside code and metadata there are at most 166 bytes in `.text`, and three parts are filled up.
-    ensures len { IfOk result (λ image. length image ≤ length parts.now.code + length parts.now.metadata + 3 * parts.now.numbers.file_alignment + 166) }
+    // Beside code and metadata there are at most 166 bytes in `.text` and 12 in `.reloc`; headers and
+    // sections are filled up to the file alignment.
+    ensures len { IfOk result (λ image. length image ≤ length parts.now.code + length parts.now.metadata + 3 * parts.now.numbers.file_alignment + 178) }
 {
     image_of(alloc, parts)
 }

@@ -3,6 +3,6 @@ use Rattle.std.proofs.lemmas.Grind.{common_steps}
 use Rattle.pe_layout.specs.Layout.{headers}
 use Rattle.pe_layout.proofs.frame.push_headers.Goals as goal
 
-pub returns : goal.returns
+pub returns-clause-value : goal.returns-clause-value
 unfolding headers
-returns c = grind (arith, common_steps)
+returns-clause-value c = grind (arith, common_steps)
