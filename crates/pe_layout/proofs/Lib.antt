@@ -3,3 +3,7 @@ pub mod Readable
 pub mod FirstFault
 pub mod WrittenHeaders
 pub mod LaidOut
+pub mod ReadBack
+pub mod WrittenText
+pub mod WrittenImage
+pub mod WrittenFrame
