@@ -1,5 +1,5 @@
 -- The opcodes of the standard as one table (III.1.2, III.3, III.4, VI.C.2): bytes, mnemonic, and what follows in a body.
-use Rattle.std.specs.Prelude.{ℕ, ◌≡◌, ◌⊎◌, List, [], ◌∷◌, Contains, slice_index_or, codes, Option, None, Some}
+use Rattle.std.specs.Prelude.{ℕ, List, [], ◌∷◌, ◌++◌, map, slice_index_or, codes, Option, None, Some}
 use Rattle.opcode_table.specs.declared.kind.OperandKind.{OperandKind}
 use Rattle.opcode_table.specs.declared.kind.OperandKind.TheVariants.{Nothing, Var8, Var16, Num8, Num32, Num64, Byte, Real4, Real8, Branch8, Branch32, Switch, Method, Field, Of, Text, Token}
 use Rattle.opcode_table.specs.declared.op.Op.{Op}
@@ -705,6 +705,6 @@ aliases =
     (codes "stelem.any", Stelem) ∷
     []
 
--- `word` is the mnemonic of `op` or an alias of it
-abbrev pub Names : List ℕ → Op → Type 0
-Names word op = (word_of op ≡ word) ⊎ Contains aliases (word, op)
+-- every word with the opcode that it names: the mnemonics, and the aliases
+unfoldable pub names : List (List ℕ × Op)
+names = map (λ row. (row.word, row.op)) opcodes ++ aliases

@@ -22,8 +22,9 @@ macro_rules! rows {
     };
 }
 
-/// The opcodes of Partition III in the order of their bytes, so that an `Op` is its row's number.
-pub static OPCODES: [Opcode; 216] = rows![
+/// The opcodes of Partition III in the order of their bytes, so that an `Op` is its row's number, and then a row for each
+/// alias, a word that sources use besides the mnemonic.
+pub static OPCODES: [Opcode; 227] = rows![
     0x00 None, Nop "nop" Nothing;
     0x01 None, Break "break" Nothing;
     0x02 None, Ldarg0 "ldarg.0" Nothing;
@@ -240,6 +241,17 @@ pub static OPCODES: [Opcode; 216] = rows![
     0xFE Some(0x1C), Sizeof "sizeof" Of;
     0xFE Some(0x1D), Refanytype "refanytype" Nothing;
     0xFE Some(0x1E), Readonly "readonly." Nothing;
+    0x39 None, Brfalse "brnull" Branch32;
+    0x39 None, Brfalse "brzero" Branch32;
+    0x3A None, Brtrue "brinst" Branch32;
+    0x2C None, BrfalseS "brnull.s" Branch8;
+    0x2C None, BrfalseS "brzero.s" Branch8;
+    0x2D None, BrtrueS "brinst.s" Branch8;
+    0xDC None, Endfinally "endfault" Nothing;
+    0x4C None, LdindI8 "ldind.u8" Nothing;
+    0x96 None, LdelemI8 "ldelem.u8" Nothing;
+    0xA3 None, Ldelem "ldelem.any" Of;
+    0xA4 None, Stelem "stelem.any" Of;
 ];
 
 // The number of an opcode's row.

@@ -1,12 +1,15 @@
-use Rattle.std.proofs.Common.{◌≡◌, List, get_or, map, sym, ap, refl, ◌∙◌}
-use Rattle.std.proofs.Math.ListN.{get_or-map}
+use Rattle.std.proofs.Common.{◌≡◌, ℕ, List, get_or, map, sym, ap, refl, ◌∙◌}
+use Rattle.std.proofs.Math.ListN.{get_or-map, get_or-append}
+use Rattle.opcode_table.specs.declared.op.Op.{Op}
 use Rattle.opcode_table.specs.declared.table.Opcode.{Opcode}
-use Rattle.opcode_table.specs.Opcodes.{Row, opcodes, number_of}
+use Rattle.opcode_table.specs.Opcodes.{Row, opcodes, aliases, number_of}
 use Rattle.opcode_table.proofs.table.word_of.Goals as goal
 
 -- the field of the row at a place is the one at that place of the rows' fields
 pub returns : goal.returns
 returns c =
     rw (← get_or-map (λ (r : Opcode). r.word.now)) (
-    ap (λ n. get_or (map (λ (r : Row). r.word) opcodes) n _) c.number_of.ensures.value
+    get_or-append (map (λ (r : Row). r.word) opcodes) (map (λ (p : List ℕ × Op). p.0) aliases) _ c.number_of.result
+    c.number_of.ensures.below
+    ∙ ap (λ n. get_or (map (λ (r : Row). r.word) opcodes) n _) c.number_of.ensures.value
     ∙ get_or-map (λ (r : Row). r.word) opcodes (number_of c.args.op) _)
