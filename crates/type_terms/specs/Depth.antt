@@ -1,7 +1,8 @@
 -- The depth of a type: a leaf has depth 1, any other type one more than its deepest child. The children of a type are
 -- its element, arguments or modified type, and the type that a modifier names where it is made from others
 -- (ECMA-335 II.23.2.7, II.23.2.12).
-use Rattle.std.specs.Prelude.{ℕ, ◌+◌, max, List, [], ◌∷◌}
+use Rattle.std.specs.Prelude.{ℕ, ◌+◌, max, List, [], ◌∷◌, map}
+use Rattle.type_terms.specs.declared.reference.MethodSig.{MethodSig}
 use Rattle.type_terms.specs.declared.term.Owner.{Owner, fold-Owner}
 use Rattle.type_terms.specs.declared.term.SigType.{SigType, fold-SigType}
 use Rattle.type_terms.specs.declared.term.Owner.TheOpen.{Owner-F, SigType-F, Name, Spec, Prim, Class, Value, Inst, Var, MVar, SzArray, Array, ByRef, Pointer, Mod, Pinned}
@@ -36,3 +37,7 @@ depth t = fold-SigType ℕ ℕ owner_depth_step depth_step t
 
 abbrev pub owner_depth : Owner → ℕ
 owner_depth o = fold-Owner ℕ ℕ owner_depth_step depth_step o
+
+-- the depth of the deepest type in a signature (ECMA-335 II.23.2.1)
+abbrev pub sig_depth : MethodSig → ℕ
+sig_depth s = max (depth s.ret) (largest (map depth s.params))
