@@ -4,19 +4,25 @@
 
 mod console;
 mod counts;
+mod disk_shelf;
 mod failed;
 mod laws;
 mod mem_console;
 mod mem_shelf;
+mod open_files;
 mod packed;
 mod plan;
 mod pos;
 mod shelf;
+mod std_console;
 mod steps;
 mod stored;
 mod stored_files;
+#[cfg(test)]
+mod tests;
 
 pub use console::Console;
+pub use disk_shelf::DiskShelf;
 pub use failed::Failed;
 pub use il_lists::{Boxed, Bytes, Copies, Items, NoMemory, Numbers, Signed, Text, Units, Words};
 pub use laws::{
@@ -29,4 +35,5 @@ pub use mem_shelf::MemShelf;
 pub use packed::{push_packed, push_packed_signed, read_packed, read_packed_signed};
 pub use pos::Pos;
 pub use shelf::Shelf;
+pub use std_console::StdConsole;
 pub use steps::Steps;

@@ -118,10 +118,12 @@ impl Console for MemConsole {
         ensures same_err { console_err self.new ≡ console_err self.old }
         ensures count_stays { console_failed self.old ≤ console_failed self.new }
 
-        // Exactly.
+        // Exactly, and calm without a failing number and with room.
         ensures fails { IsTrue (fails_next (console_calls self.old)) → IsErr result }
         ensures succeeds { fails_next (console_calls self.old) ≡ false
             → length (console_out self.old) + taken (console_calls self.old) (length piece.now) ≤ console_room self.old → IsOk result }
+        ensures calm { (console_calls self.old).failing ≡ [] → (console_calls self.old).at_most ≢ Some 0
+            → length (console_out self.old) + length piece.now ≤ console_room self.old → console_failed self.new ≡ console_failed self.old }
         ensures amount { IfOk result (λ count. count ≡ taken (console_calls self.old) (length piece.now)) }
         ensures count { console_failed self.new ≡
             (if is_err result || (taken (console_calls self.old) (length piece.now) == 0 && not (length piece.now == 0)) then one_more (console_failed self.old) else console_failed self.old) }
@@ -130,7 +132,7 @@ impl Console for MemConsole {
     {
         let fails = self.plan.next();
         let count = self.plan.taken(piece.len());
-        take(&mut self.out, piece, count, fails, &mut self.failed)
+        take_front(&mut self.out, piece, count, fails, &mut self.failed)
     }
 
     fn err(&mut self, piece: &[u8]) -> Result<usize, Failed>
@@ -142,10 +144,12 @@ impl Console for MemConsole {
         ensures same_out { console_out self.new ≡ console_out self.old }
         ensures count_stays { console_failed self.old ≤ console_failed self.new }
 
-        // Exactly.
+        // Exactly, and calm without a failing number and with room.
         ensures fails { IsTrue (fails_next (console_calls self.old)) → IsErr result }
         ensures succeeds { fails_next (console_calls self.old) ≡ false
             → length (console_err self.old) + taken (console_calls self.old) (length piece.now) ≤ console_room self.old → IsOk result }
+        ensures calm { (console_calls self.old).failing ≡ [] → (console_calls self.old).at_most ≢ Some 0
+            → length (console_err self.old) + length piece.now ≤ console_room self.old → console_failed self.new ≡ console_failed self.old }
         ensures amount { IfOk result (λ count. count ≡ taken (console_calls self.old) (length piece.now)) }
         ensures count { console_failed self.new ≡
             (if is_err result || (taken (console_calls self.old) (length piece.now) == 0 && not (length piece.now == 0)) then one_more (console_failed self.old) else console_failed self.old) }
@@ -154,12 +158,12 @@ impl Console for MemConsole {
     {
         let fails = self.plan.next();
         let count = self.plan.taken(piece.len());
-        take(&mut self.err, piece, count, fails, &mut self.failed)
+        take_front(&mut self.err, piece, count, fails, &mut self.failed)
     }
 }
 
 /// Adds the first `count` bytes of `piece` to `bytes`, unless the call is to fail, and counts a failure.
-fn take(
+fn take_front(
     bytes: &mut Stored,
     piece: &[u8],
     count: usize,

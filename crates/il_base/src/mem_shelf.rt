@@ -148,10 +148,11 @@ impl Shelf for MemShelf {
         ensures reads_stay { shelf_failed_reads self.old ≤ shelf_failed_reads self.new }
         ensures same_writes { shelf_failed_writes self.new ≡ shelf_failed_writes self.old }
 
-        // Exactly.
+        // Exactly, and calm without a failing number and with room.
         ensures fails { IsTrue (fails_next (shelf_calls self.old)) → IsErr result }
         ensures succeeds { fails_next (shelf_calls self.old) ≡ false → shelf_files self.old name.now ≢ None → IsOk result }
         ensures count { shelf_failed_reads self.new ≡ (if fails_next (shelf_calls self.old) then one_more (shelf_failed_reads self.old) else shelf_failed_reads self.old) }
+        ensures calm { (shelf_calls self.old).failing ≡ [] → shelf_failed_reads self.new ≡ shelf_failed_reads self.old }
         ensures amount { IfOk result (λ count. count ≡ min (readable (shelf_calls self.old) (length into.old)) (length (content (shelf_files self.old) name.now) - at)) }
         ensures bytes { IfOk result (λ count. into.new ≡ take count (drop at (content (shelf_files self.old) name.now)) ++ drop count into.old) }
         ensures calls { shelf_calls self.new ≡ record (shelf_calls self.old) { count = next_call (shelf_calls self.old) } }
@@ -178,10 +179,11 @@ impl Shelf for MemShelf {
         ensures writes_stay { shelf_failed_writes self.old ≤ shelf_failed_writes self.new }
         ensures same_reads { shelf_failed_reads self.new ≡ shelf_failed_reads self.old }
 
-        // Exactly.
+        // Exactly, and calm without a failing number and with room.
         ensures fails { IsTrue (fails_next (shelf_calls self.old)) → IsErr result }
         ensures succeeds { fails_next (shelf_calls self.old) ≡ false → HasRoom self.old name.now 0 → IsOk result }
         ensures count { shelf_failed_writes self.new ≡ (if is_err result then one_more (shelf_failed_writes self.old) else shelf_failed_writes self.old) }
+        ensures calm { (shelf_calls self.old).failing ≡ [] → HasRoom self.old name.now 0 → shelf_failed_writes self.new ≡ shelf_failed_writes self.old }
         ensures calls { shelf_calls self.new ≡ record (shelf_calls self.old) { count = next_call (shelf_calls self.old) } }
         ensures room { KeepsRoom self.old self.new }
     {
@@ -208,10 +210,12 @@ impl Shelf for MemShelf {
         ensures writes_stay { shelf_failed_writes self.old ≤ shelf_failed_writes self.new }
         ensures same_reads { shelf_failed_reads self.new ≡ shelf_failed_reads self.old }
 
-        // Exactly.
+        // Exactly, and calm without a failing number and with room.
         ensures fails { IsTrue (fails_next (shelf_calls self.old)) → IsErr result }
         ensures succeeds { fails_next (shelf_calls self.old) ≡ false
             → HasRoom self.old name.now (length (content (shelf_files self.old) name.now) + taken (shelf_calls self.old) (length piece.now)) → IsOk result }
+        ensures calm { (shelf_calls self.old).failing ≡ [] → (shelf_calls self.old).at_most ≢ Some 0
+            → HasRoom self.old name.now (length (content (shelf_files self.old) name.now) + length piece.now) → shelf_failed_writes self.new ≡ shelf_failed_writes self.old }
         ensures amount { IfOk result (λ count. count ≡ taken (shelf_calls self.old) (length piece.now)) }
         ensures count { shelf_failed_writes self.new ≡
             (if is_err result || (taken (shelf_calls self.old) (length piece.now) == 0 && not (length piece.now == 0)) then one_more (shelf_failed_writes self.old) else shelf_failed_writes self.old) }

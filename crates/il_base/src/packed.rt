@@ -6,8 +6,10 @@ use byteorder::{BigEndian, ByteOrder};
 
 /// Reads the packed number at the place `at` (ECMA-335, II.23.2), and answers it and the number of its bytes. None
 /// exactly where no packed number stands there. Longer spellings than the shortest are read too.
+#[inline]
 pub fn read_packed(bytes: &[u8], at: usize) -> Option<(u32, usize)>
     ensures found { IfSome result (λ r. StandsAt Packed bytes.now at r.0 r.1) }
+    ensures bounds { IfSome result (λ r. (r.0 < 2 ^ 29) × (1 ≤ r.1) × (r.1 ≤ 4) × (at + r.1 ≤ length bytes.now)) }
 
     // What stands there is answered: so at most one number does, and None comes only where none does.
     ensures only { (n count : ℕ) → StandsAt Packed bytes.now at n count → result ≡ Some (n, count) }
@@ -17,8 +19,10 @@ pub fn read_packed(bytes: &[u8], at: usize) -> Option<(u32, usize)>
 }
 
 /// The packed number that begins `rest`, and the number of its bytes.
+#[inline]
 fn first_packed(rest: &[u8]) -> Option<(u32, usize)>
     ensures found { IfSome result (λ r. (r.1 ≤ length rest.now) × Packed (take r.1 rest.now) r.0) }
+    ensures bounds { IfSome result (λ r. (r.0 < 2 ^ 29) × (1 ≤ r.1) × (r.1 ≤ 4)) }
     ensures only { (n count : ℕ) → count ≤ length rest.now → Packed (take count rest.now) n → result ≡ Some (n, count) }
 {
     let first = *rest.first()?;
@@ -38,6 +42,7 @@ fn first_packed(rest: &[u8]) -> Option<(u32, usize)>
 /// None exactly where none stands there. Longer spellings than the shortest are read too.
 pub fn read_packed_signed(bytes: &[u8], at: usize) -> Option<(i32, usize)>
     ensures found { IfSome result (λ r. StandsAt PackedSigned bytes.now at r.0 r.1) }
+    ensures bounds { IfSome result (λ r. (least_signed 29 ≤ℤ r.0) × (r.0 ≤ℤ greatest_signed 29) × (1 ≤ r.1) × (r.1 ≤ 4) × (at + r.1 ≤ length bytes.now)) }
 
     // What stands there is answered: so at most one number does, and None comes only where none does.
     ensures only { (n : ℤ) (count : ℕ) → StandsAt PackedSigned bytes.now at n count → result ≡ Some (n, count) }

@@ -25,6 +25,7 @@ impl Steps {
     }
 
     /// Counts one step more.
+    #[inline]
     pub fn tick(&mut self)
         requires { self.old < 2 ^ 127 }
         ensures { self.new ≡ self.old + 1 }
@@ -33,6 +34,7 @@ impl Steps {
     }
 
     /// The number of steps so far.
+    #[inline]
     pub fn count(&self) -> u128
         ensures { result ≡ self.now }
     {
