@@ -1,0 +1,13 @@
+pub mod ChoiceLemmas
+pub mod CountsLemmas
+pub mod CourseLemmas
+pub mod LeftmostLemmas
+pub mod TableCheck
+pub mod Tables
+pub mod TableFacts
+pub mod TableLemmas
+pub mod IlasmFacts
+pub mod StackLemmas
+pub mod SizesLemmas
+pub mod NodesLemmas
+pub mod LawLemmas

@@ -1,0 +1,10 @@
+pub mod Certificate
+pub mod Choice
+pub mod Counts
+pub mod Course
+pub mod Grammar
+pub mod Ilasm
+pub mod Laws
+pub mod Leftmost
+pub mod Parsing
+pub mod Terminals

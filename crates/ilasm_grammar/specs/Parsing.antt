@@ -1,0 +1,79 @@
+-- What the parser's parts answer.
+use Rattle.std.specs.Prelude.{◌≡◌, ℕ, ◌==◌, List, [], ◌∷◌, map, drop, Option, Some, None, Bool, slice_get, if◌then◌else◌}
+use Rattle.std.specs.List.{list_any}
+use Rattle.il_base.specs.declared.pos.Pos.{Pos}
+use Rattle.il_lexer.specs.declared.types.Token.{Token}
+use Rattle.ilasm_grammar.specs.declared.terminals.TheConstants.{END}
+use Rattle.ilasm_grammar.specs.Terminals.{terminal_of}
+use Rattle.ilasm_grammar.specs.declared.nonterminals.TheConstants.{SOURCE}
+use Rattle.ilasm_grammar.specs.declared.fault.TheConstants.{LEFT_OUT}
+use Rattle.ilasm_grammar.specs.declared.fault.SyntaxFault.{SyntaxFault}
+use Rattle.ilasm_grammar.specs.declared.fault.SyntaxFault.TheVariants.{Bad, NoMemory}
+use Rattle.ilasm_grammar.specs.declared.leftmost.Outcome.{Outcome}
+use Rattle.ilasm_grammar.specs.declared.leftmost.Outcome.TheVariants.{Whole, Stops}
+use Rattle.ilasm_grammar.specs.declared.symbol.Symbol.{Symbol}
+use Rattle.ilasm_grammar.specs.declared.symbol.Symbol.TheVariants.{Nonterminal}
+use Rattle.ilasm_grammar.specs.declared.tree.TreeNode.{TreeNode}
+use Rattle.ilasm_grammar.specs.Grammar.{Derives, IsFaultAt}
+use Rattle.ilasm_grammar.specs.Leftmost.{Leftmost}
+use Rattle.ilasm_grammar.specs.Choice.{next_of}
+use Rattle.ilasm_grammar.specs.Course.{IsCourse}
+use Rattle.ilasm_grammar.specs.Ilasm.{ilasm, ilasm_sets, picked, IsNoRule}
+
+-- the terminals of the tokens
+abbrev pub terminals_of : List Token → List ℕ
+terminals_of tokens = map (λ (token : Token). terminal_of token.kind) tokens
+
+-- the tokens are a source, and this is its derivation
+abbrev pub IsTreeOf : List Token → List TreeNode → Type 0
+IsTreeOf tokens tree = Derives ilasm 0 (Nonterminal SOURCE ∷ []) (terminals_of tokens) tree
+
+-- the syntax fault of the tokens stands at token k
+abbrev pub IsSyntaxFaultAt : List Token → ℕ → Type 0
+IsSyntaxFaultAt tokens k = IsFaultAt ilasm SOURCE (terminals_of tokens) k
+
+-- where the token with this number stands; a number behind the last one stands at the end
+abbrev pub position_of : Option Token → Pos → Pos
+position_of None end = end
+position_of (Some token) end = token.pos
+
+-- whether the terminal is a word for a construct that is left out of the language
+unfoldable pub is_left_out : ℕ → Bool
+is_left_out terminal = list_any (λ (x : ℕ). x == terminal) LEFT_OUT
+
+-- the rule of a fault at this token: 2 where it is a word that is left out of the language, else 1
+abbrev pub rule_at : Option Token → ℕ
+rule_at None = 1
+rule_at (Some token) = if is_left_out (terminal_of token.kind) then 2 else 1
+
+-- a fault of the tokens, with its position and rule
+pub record IsSyntaxFault (tokens : List Token) (end : Pos) (pos : Pos) (rule : ℕ) : Type 0 where
+  pub at : ℕ
+  pub stands : IsSyntaxFaultAt tokens at
+  pub pos-is : pos ≡ position_of (slice_get tokens at) end
+  pub rule-is : rule ≡ rule_at (slice_get tokens at)
+
+-- why there is no tree
+abbrev pub IsCause : List Token → Pos → SyntaxFault → Type 0
+IsCause tokens end (Bad pos rule) = IsSyntaxFault tokens end pos rule
+IsCause tokens end NoMemory = Unit {0}
+
+-- ---- the parser's own steps
+
+-- so many tokens are taken, and these symbols and nodes have come of it
+abbrev pub IsUnderWay : List ℕ → ℕ → List Symbol → List TreeNode → Type 0
+IsUnderWay kinds at symbols nodes = IsCourse ilasm ilasm_sets END SOURCE kinds at symbols nodes
+
+-- wherever this terminal comes next, the parser may go from the first symbols and nodes to the second
+abbrev pub KeepsCourse : ℕ → List Symbol → List TreeNode → List Symbol → List TreeNode → Type 0
+KeepsCourse terminal symbols nodes symbols' nodes' =
+    (kinds : List ℕ) (at : ℕ) → next_of END (drop at kinds) ≡ terminal → IsUnderWay kinds at symbols nodes → IsUnderWay kinds at symbols' nodes'
+
+-- the first symbol, if it is a nonterminal, doesn't go on with this terminal
+abbrev pub IsExpanded : ℕ → List Symbol → Type 0
+IsExpanded terminal symbols = (n : ℕ) (rest : List Symbol) → symbols ≡ Nonterminal n ∷ rest → IsNoRule ilasm n (picked n terminal)
+
+-- what the first pass of the parser answers: the nodes without their counts, or the number of the token at fault
+abbrev pub IsOutcome : List ℕ → Outcome → Type 0
+IsOutcome kinds (Whole nodes) = Leftmost ilasm 0 (Nonterminal SOURCE ∷ []) kinds nodes
+IsOutcome kinds (Stops at) = IsFaultAt ilasm SOURCE kinds at
