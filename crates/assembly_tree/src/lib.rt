@@ -4,9 +4,6 @@
 
 mod assembly;
 mod body;
-mod copying;
-mod copying_bodies;
-mod copying_members;
 mod members;
 mod typedef;
 
