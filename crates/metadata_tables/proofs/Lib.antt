@@ -1,1 +1,13 @@
+pub mod AddedRows
+pub mod Bits
+pub mod Encoded
+pub mod Joins
+pub mod Layouts
+pub mod Masks
+pub mod Pieces
+pub mod Places
+pub mod Profile
+pub mod Sorting
 pub mod Table
+pub mod Tags
+pub mod Widths

@@ -36,6 +36,7 @@ pub record IsRowOf (table : ℕ) (cells : List ℕ) : Type 0 where
 
 -- all rows are rows of tables that are written here, and no table has 2 ^ 24 rows or more
 pub record AreRows (tables : List (List (List ℕ))) : Type 0 where
+  pub all : length tables ≡ 0x2D
   pub counts : (table : ℕ) → rows_in tables table < 2 ^ 24
   pub rows : (table row : ℕ) → row < rows_in tables table → IsRowOf table (slice_index_or (rows_of tables table) row [])
 

@@ -10,6 +10,7 @@ use Rattle.metadata_tables.specs.declared.index.TableIndex.{TableIndex}
 
 -- the size of a row with these columns, and where its columns stand and how wide they are
 pub record IsLayoutOf (counts : ℕ → ℕ) (heaps : ℕ) (columns : List Column) (layout : RowLayout) : Type 0 where
+  pub there : length layout.widths ≡ 9
   pub size : layout.size ≡ columns_size counts heaps columns
   pub places : (k : ℕ) → k < length columns → slice_index layout.places k ≡ columns_size counts heaps (take k columns)
   pub widths : (k : ℕ) → k < length columns → slice_index layout.widths k ≡ width counts heaps (slice_index_or columns k (Number 0))
@@ -23,4 +24,5 @@ pub record IsIndexOf (stream : List ℕ) (table : ℕ) (index : TableIndex) : Ty
 -- a whole stream beside the places of all its tables
 pub record IsIndexed (stream : List ℕ) (indexes : List TableIndex) : Type 0 where
   pub whole : IsWhole stream
+  pub there : length indexes ≡ 0x2D
   pub tables : (table : ℕ) (other : TableIndex) → table < 0x2D → IsIndexOf stream table (slice_index_or indexes table other)

@@ -1,3 +1,4 @@
+pub mod Bytes
 pub mod CodedIndex
 pub mod Schema
 pub mod Stream

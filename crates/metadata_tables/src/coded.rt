@@ -49,19 +49,21 @@ pub(crate) fn tag_bits(kind: Coded) -> u32
 }
 
 /// The tag of a table, or None where the kind has none for it.
+#[tactic(auto, unfolding(crate::specs::CodedIndex::tag_of))]
 fn tag_of(kind: Coded, table: u8) -> Option<u8>
     ensures { result ≡ tag_of kind table }
 {
-    let (_, tag) = tags(kind).iter().find(|pair| pair.0 == table)?;
-    Some(*tag)
+    let pair = tags(kind).iter().find(|pair| pair.0 == table);
+    pair.map(|pair| pair.1)
 }
 
 /// The table of a tag, or None where the kind has none for it.
+#[tactic(auto, unfolding(crate::specs::CodedIndex::table_of))]
 fn table_of(kind: Coded, tag: u32) -> Option<u8>
     ensures { result ≡ table_of kind tag }
 {
-    let (table, _) = tags(kind).iter().find(|pair| u32::from(pair.1) == tag)?;
-    Some(*table)
+    let pair = tags(kind).iter().find(|pair| u32::from(pair.1) == tag);
+    pair.map(|pair| pair.0)
 }
 
 /// The tables that an index of this kind may name, each with its tag.

@@ -1,6 +1,6 @@
-ghost use Rattle.std.specs.Prelude.{◌≡◌, ◌<◌, ◌≤◌, ◌++◌, ◌^◌, ℕ, length, slice_index, IfOk, OnOk, OnErr};
-ghost use Rattle.byteorder.specs.Endian.{little_bytes};
-ghost use Rattle.metadata_tables.specs.Encoding.{FitsWidths, Holds};
+ghost use Rattle.std.specs.Prelude.{◌≡◌, ◌<◌, ◌≤◌, ◌++◌, ◌^◌, ℕ, [], length, slice_index, slice_index_or, IfOk, OnOk};
+ghost use Rattle.metadata_tables.specs.Bytes.{FitsCell, FitsRow, count_bytes, header_bytes, joined, mask_upto, number_bytes, row_bytes, table_bytes};
+ghost use Rattle.metadata_tables.specs.Encoding.{FitsWidths, Holds, rows_in};
 
 use crate::Rows;
 use crate::layout::row_layout;
@@ -19,7 +19,7 @@ pub fn encode(alloc: Global, rows: &Rows, wide: u8) -> Result<Bytes, NoMemory>
     requires { FitsWidths rows.now wide }
     ensures { IfOk result (Holds rows.now wide) }
 {
-    let counts = row_counts(rows);
+    let counts = rows.counts();
     let mut out = Bytes::with_capacity(alloc, stream_size(&counts, wide))?;
     push_header(&mut out, &counts, wide)?;
     for table in 0..TABLES {
@@ -29,17 +29,10 @@ pub fn encode(alloc: Global, rows: &Rows, wide: u8) -> Result<Bytes, NoMemory>
     Ok(out)
 }
 
-/// The row counts, by table.
-fn row_counts(rows: &Rows) -> [u32; 45] {
-    let mut counts = [0; 45];
-    for table in 0..TABLES {
-        counts[usize::from(table)] = rows.len(table);
-    }
-    counts
-}
-
 /// How long the stream of tables with these row counts is.
-fn stream_size(counts: &[u32], wide: u8) -> usize {
+fn stream_size(counts: &[u32], wide: u8) -> usize
+    requires { length counts.now ≡ 45 }
+{
     let mut size = 24;
     for table in 0..TABLES {
         let count = counts[usize::from(table)];
@@ -52,50 +45,84 @@ fn stream_size(counts: &[u32], wide: u8) -> usize {
 }
 
 /// Adds the header and the row counts.
-fn push_header(out: &mut Bytes, counts: &[u32], wide: u8) -> Result<(), NoMemory> {
+fn push_header(out: &mut Bytes, counts: &[u32], wide: u8) -> Result<(), NoMemory>
+    requires { length counts.now ≡ 45 }
+    ensures { OnOk result (out.new ≡ out.old ++ header_bytes (slice_index counts.now) wide) }
+{
     out.extend(&[0, 0, 0, 0, 2, 0, wide, 1])?;
-    out.extend(&present(counts).to_le_bytes())?;
-    out.extend(&SORTED.to_le_bytes())?;
+    push_number(out, present(counts))?;
+    push_number(out, SORTED)?;
+    push_counts(out, counts)
+}
+
+/// Adds the row counts of the tables that have rows.
+fn push_counts(out: &mut Bytes, counts: &[u32]) -> Result<(), NoMemory>
+    requires { length counts.now ≡ 45 }
+    ensures { OnOk result (out.new ≡ out.old ++ joined (λ table. count_bytes (slice_index counts.now table)) 45) }
+{
     for count in counts {
         if *count > 0 {
-            out.extend(&count.to_le_bytes())?;
+            push_cell(out, *count, 4)?;
         }
     }
     Ok(())
 }
 
 /// The tables that have rows, a bit for each.
-fn present(counts: &[u32]) -> u64 {
+fn present(counts: &[u32]) -> u64
+    requires { length counts.now ≡ 45 }
+    ensures { result ≡ mask_upto (slice_index counts.now) 45 }
+{
     let mut present = 0;
-    for (table, count) in counts.iter().enumerate() {
-        if *count > 0 {
+    for table in 0..45u32 {
+        if counts[table as usize] > 0 {
             present += 1u64 << table;
         }
     }
     present
 }
 
-/// Adds the rows of one table, its columns of these widths.
-fn push_rows(out: &mut Bytes, rows: &TableRows, widths: &[u8]) -> Result<(), NoMemory> {
+/// Adds the rows of one table, their cells of these widths.
+fn push_rows(out: &mut Bytes, rows: &TableRows, widths: &[u8]) -> Result<(), NoMemory>
+    requires widths { (k : ℕ) → k < length rows.now → length (slice_index_or rows.now k []) ≤ length widths.now }
+    requires cells { (k : ℕ) → k < length rows.now → FitsRow (slice_index widths.now) (slice_index_or rows.now k []) }
+    ensures { OnOk result (out.new ≡ out.old ++ table_bytes (slice_index widths.now) rows.now) }
+{
     for k in 0..rows.len() {
         push_row(out, rows.row(k), widths)?;
     }
     Ok(())
 }
 
-/// Adds the cells of a row.
-fn push_row(out: &mut Bytes, cells: &[u32], widths: &[u8]) -> Result<(), NoMemory> {
-    for (cell, width) in cells.iter().zip(widths) {
-        push_cell(out, *cell, *width)?;
+/// Adds a row, its cells of these widths.
+fn push_row(out: &mut Bytes, cells: &[u32], widths: &[u8]) -> Result<(), NoMemory>
+    requires widths { length cells.now ≤ length widths.now }
+    requires cells { FitsRow (slice_index widths.now) cells.now }
+    ensures { OnOk result (out.new ≡ out.old ++ row_bytes (slice_index widths.now) cells.now) }
+{
+    for (k, cell) in cells.iter().enumerate() {
+        push_cell(out, *cell, widths[k])?;
     }
     Ok(())
 }
 
-/// Adds a number of 1, 2 or 4 bytes, the lowest first.
-fn push_cell(out: &mut Bytes, cell: u32, width: u8) -> Result<(), NoMemory> {
+/// Adds a cell of 1, 2 or 4 bytes.
+#[tactic(auto, unfolding(crate::specs::Bytes::number_bytes))]
+fn push_cell(out: &mut Bytes, cell: u32, width: u8) -> Result<(), NoMemory>
+    requires { FitsCell width cell }
+    ensures { OnOk result (out.new ≡ out.old ++ number_bytes width cell) }
+{
     match width {
         1 => out.push(cell as u8),
         2 => out.extend(&(cell as u16).to_le_bytes()),
         _ => out.extend(&cell.to_le_bytes()),
     }
+}
+
+/// Adds a number of 8 bytes.
+#[tactic(auto, unfolding(crate::specs::Bytes::number_bytes))]
+fn push_number(out: &mut Bytes, number: u64) -> Result<(), NoMemory>
+    ensures { OnOk result (out.new ≡ out.old ++ number_bytes 8 number) }
+{
+    out.extend(&number.to_le_bytes())
 }

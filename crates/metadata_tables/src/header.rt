@@ -1,9 +1,10 @@
-ghost use Rattle.std.specs.Prelude.{◌≡◌, ◌<◌, ◌≤◌, ℕ, length, slice_index, IfOk, IfErr, ◌⊎◌};
+ghost use Rattle.std.specs.Prelude.{◌≡◌, ◌+◌, ◌<◌, ◌≤◌, ℕ, length, drop, slice_index, IfOk, IfErr, ◌⊎◌};
 ghost use Rattle.metadata_tables.specs.Stream.{header_size, present, row_count};
 ghost use Rattle.metadata_tables.specs.Faults.{IsForeign, IsHeaderFault, IsProfileFault};
 ghost use Rattle.metadata_tables.specs.Header.{IsHeaderOf, IsKnown};
 
 use crate::TableFault;
+use crate::number::number_at;
 use crate::schema::PROFILE;
 use byteorder::{ByteOrder, LittleEndian};
 
@@ -27,7 +28,7 @@ pub(crate) fn read_header(stream: &[u8]) -> Result<Header, TableFault>
     if stream.len() < 24 {
         return Err(cut_header());
     }
-    let present = LittleEndian::read_u64(&stream[8..]);
+    let present = present_tables(stream);
     let start = 24 + 4 * present.count_ones() as usize;
     if stream.len() < start {
         return Err(cut_header());
@@ -47,6 +48,15 @@ pub(crate) fn read_header(stream: &[u8]) -> Result<Header, TableFault>
     })
 }
 
+/// The tables that are present, a bit for each.
+#[tactic(auto, unfolding(crate::specs::Stream::present))]
+fn present_tables(stream: &[u8]) -> u64
+    requires { 24 ≤ length stream.now }
+    ensures { result ≡ present stream.now }
+{
+    LittleEndian::read_u64(&stream[8..])
+}
+
 /// The fault of a header that can't be read whole.
 fn cut_header() -> TableFault
     ensures rule { result.rule ≡ 6 }
@@ -64,15 +74,18 @@ fn cut_header() -> TableFault
 fn row_counts(stream: &[u8], mask: u64) -> [u32; 45]
     requires tables { mask ≡ present stream.now }
     requires room { header_size stream.now ≤ length stream.now }
-    ensures { (table : ℕ) → table < 45 → slice_index result table ≡ row_count stream.now table }
+    ensures there { length result ≡ 45 }
+    ensures counts { (table : ℕ) → table < 45 → slice_index result table ≡ row_count stream.now table }
 {
     let mut counts = [0; 45];
     let mut at = 24;
     for table in 0..45 {
+        let mut count = 0;
         if (mask >> table) % 2 == 1 {
-            counts[table] = LittleEndian::read_u32(&stream[at..]);
+            count = number_at(stream, at, 4);
             at += 4;
         }
+        counts[table] = count;
     }
     counts
 }

@@ -1,4 +1,5 @@
-ghost use Rattle.std.specs.Prelude.{◌≡◌, ◌<◌, ◌≤◌, ◌-◌, ◌^◌, ℕ, length, slice_index};
+ghost use Rattle.std.specs.Prelude.{◌≡◌, ◌<◌, ◌≤◌, ◌-◌, ◌^◌, ℕ, length, slice_index, nat_lt};
+ghost use Rattle.std.specs.List.{list_all};
 ghost use Rattle.metadata_tables.specs.CodedIndex.{tag_bits, tags};
 ghost use Rattle.metadata_tables.specs.Stream.{width, simple_width, heap_width, coded_width};
 ghost use Rattle.metadata_tables.specs.Layout.{IsLayoutOf};
@@ -75,15 +76,19 @@ fn simple_width(counts: &[u32], table: u8) -> u8
 fn coded_width(counts: &[u32], kind: Coded) -> u8
     ensures { result ≡ coded_width (slice_index counts.now) (tag_bits kind) (tags kind) }
 {
-    let limit = 0x1_0000 >> tag_bits(kind);
-    if tags(kind)
-        .iter()
-        .all(|pair| count_of(counts, pair.0) < limit)
-    {
+    let limit = 0x1_0000u32 >> tag_bits(kind);
+    if all_below(counts, tags(kind), limit) {
         2
     } else {
         4
     }
+}
+
+/// Whether each of these tables, each before its tag, has fewer rows than `limit`.
+fn all_below(counts: &[u32], tags: &[(u8, u8)], limit: u32) -> bool
+    ensures { result ≡ list_all (λ pair. nat_lt (slice_index counts.now pair.0) limit) tags.now }
+{
+    tags.iter().all(|pair| count_of(counts, pair.0) < limit)
 }
 
 /// The row count of a table, 0 where there is none.

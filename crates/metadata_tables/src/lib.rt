@@ -9,6 +9,7 @@ mod fault;
 mod header;
 mod index;
 mod layout;
+mod number;
 mod order;
 mod rows;
 mod schema;

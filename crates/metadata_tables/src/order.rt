@@ -2,6 +2,7 @@ ghost use Rattle.std.specs.Prelude.{◌≡◌};
 ghost use Rattle.metadata_tables.specs.Order.{sort_columns};
 
 /// The columns that a table is sorted by, the first key first; none for a table that need not be sorted.
+#[tactic(auto, using(std::proofs::lemmas::Bool::Decides::nat_tests), unfolding(crate::specs::Order::sort_columns))]
 pub fn sort_columns(table: u8) -> &'static [u8]
     ensures { result.now ≡ sort_columns table }
 {

@@ -1,5 +1,5 @@
-ghost use Rattle.std.specs.Prelude.{◌≡◌, ◌<◌, ◌+◌, ◌-◌, ◌^◌, ℕ, [], length, OnOk, OnErr, IfOk, slice_index_or};
-ghost use Rattle.metadata_tables.specs.Encoding.{rows_of, rows_in, AddsRow, IsRowOf};
+ghost use Rattle.std.specs.Prelude.{◌≡◌, ◌<◌, ◌+◌, ◌-◌, ◌^◌, ℕ, [], length, OnOk, OnErr, IfOk, slice_index, slice_index_or};
+ghost use Rattle.metadata_tables.specs.Encoding.{rows_of, rows_in, AddsRow, AreRows, IsRowOf};
 
 use crate::table_rows::TableRows;
 use il_lists::NoMemory;
@@ -65,5 +65,18 @@ impl Rows {
         ensures { result.now ≡ rows_of self.now table }
     {
         &self.tables[usize::from(table)]
+    }
+
+    /// The row counts, by table.
+    pub(crate) fn counts(&self) -> [u32; 45]
+        ensures there { length result ≡ 45 }
+        ensures counts { (table : ℕ) → slice_index result table ≡ rows_in self.now table }
+        ensures rows { AreRows self.now }
+    {
+        let mut counts = [0; 45];
+        for (table, rows) in self.tables.iter().enumerate() {
+            counts[table] = rows.len() as u32;
+        }
+        counts
     }
 }

@@ -1,4 +1,4 @@
-ghost use Rattle.std.specs.Prelude.{◌≡◌, ◌<◌, ◌++◌, ◌∷◌, [], length, slice_index_or, OnOk, OnErr, All};
+ghost use Rattle.std.specs.Prelude.{◌≡◌, ◌<◌, ◌^◌, ◌++◌, ◌∷◌, [], length, slice_index_or, OnOk, OnErr, All};
 
 use il_lists::{NoMemory, Numbers};
 use std::alloc::Global;
@@ -49,12 +49,14 @@ impl TableRows {
         requires { k < length self.now }
         ensures { result.now ≡ slice_index_or self.now k [] }
     {
+        let cells = self.cells.as_slice();
         let first = self.columns * k;
-        &self.cells.as_slice()[first..first + self.columns]
+        &cells[first..first + self.columns]
     }
 
     /// Adds a row at the end.
     pub(crate) fn push(&mut self, cells: &[u32]) -> Result<(), NoMemory>
+        requires room { length self.old < 2 ^ 32 }
         requires some { 0 < length cells.now }
         requires alike { All (λ row. length row ≡ length cells.now) self.old }
         ensures ok { OnOk result (self.new ≡ self.old ++ cells.now ∷ []) }

@@ -7,8 +7,8 @@ ghost use Rattle.metadata_tables.specs.Order.{IsSortedTable, IsInOrder};
 use crate::TableFault;
 use crate::header::read_header;
 use crate::index::{TableIndex, index_tables};
+use crate::number::number_at;
 use crate::order::sort_columns;
-use byteorder::{ByteOrder, LittleEndian};
 use std::marker::Model;
 
 /// A stream `#~` that has been looked over. Contracts see it as the stream's bytes.
@@ -62,11 +62,12 @@ impl<'a> TableView<'a> {
         requires column { column < length (columns_of table) }
         ensures { result ≡ cell self.now table row column }
     {
-        let index = &self.indexes[usize::from(table)];
+        let indexes = &self.indexes;
+        let index = &indexes[usize::from(table)];
         let column = usize::from(column);
         let before = (row - 1) as usize * usize::from(index.layout.size);
         let at = index.start + before + usize::from(index.layout.places[column]);
-        number(&self.stream[at..], index.layout.widths[column])
+        number_at(self.stream, at, index.layout.widths[column])
     }
 
     /// Whether the rows of a table keep the order that the standard asks of it: sorted by its keys, ties
@@ -74,7 +75,12 @@ impl<'a> TableView<'a> {
     pub fn sorted(&self, table: u8) -> bool
         ensures { IsTrue result ↔ IsSortedTable self.now table }
     {
-        (1..self.rows(table)).all(|row| self.in_order(table, row + 1))
+        for row in 1..self.rows(table) {
+            if !self.in_order(table, row + 1) {
+                return false;
+            }
+        }
+        true
     }
 
     /// Whether a row doesn't come before the row above it.
@@ -91,14 +97,5 @@ impl<'a> TableView<'a> {
             }
         }
         true
-    }
-}
-
-/// The number in the first bytes of `bytes`, of which there are 1, 2 or 4.
-fn number(bytes: &[u8], width: u8) -> u32 {
-    match width {
-        1 => u32::from(bytes[0]),
-        2 => u32::from(LittleEndian::read_u16(bytes)),
-        _ => LittleEndian::read_u32(bytes),
     }
 }
