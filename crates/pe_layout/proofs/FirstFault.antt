@@ -1,6 +1,5 @@
 -- The first fault, by the demands that hold.
 use Rattle.std.proofs.Common.{◌≡◌, ℕ, Bool, true, false, List, Some, None, refl}
-use Rattle.pe_layout.specs.declared.fault.PeFault.{PeFault}
 use Rattle.pe_layout.specs.Headers.{signature_place_of}
 use Rattle.pe_layout.specs.Faults.{has_headers, is_in_profile, has_cli_header, pe_fault}
 

@@ -1,5 +1,5 @@
 -- What is known of the numbers of a layout.
-use Rattle.std.proofs.Common.{◌≡◌, ℕ, ◌+◌, ◌-◌, ◌*◌, ◌/◌, ◌%◌, ◌^◌, ◌<◌, ◌≤◌, List, length, refl, arith}
+use Rattle.std.proofs.Common.{◌≡◌, ℕ, ◌+◌, ◌-◌, ◌*◌, ◌%◌, ◌^◌, ◌<◌, ◌≤◌, length, refl, arith}
 use Rattle.pe_layout.specs.declared.layout.Layout.{Layout}
 use Rattle.pe_layout.specs.declared.parts.Parts.{Parts}
 use Rattle.pe_layout.specs.Fields.{round_up}

@@ -1,5 +1,5 @@
 -- One more section header.
-use Rattle.std.proofs.Common.{◌≡◌, ℕ, suc, ◌+◌, ◌-◌, ◌*◌, ◌<◌, List, cond, Some, refl, sym, arith}
+use Rattle.std.proofs.Common.{◌≡◌, ℕ, suc, ◌+◌, ◌-◌, ◌*◌, ◌<◌, List, cond, Some, refl, arith}
 use Rattle.std.specs.List.{find}
 use Rattle.pe_layout.specs.FileMap.{section_at, sections_from, holds}
 

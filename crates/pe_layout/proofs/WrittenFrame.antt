@@ -1,5 +1,5 @@
 -- The frame of an image that is written.
-use Rattle.std.proofs.Common.{◌≡◌, ℕ, ◌+◌, ◌-◌, ◌*◌, ◌/◌, ◌%◌, ◌^◌, ◌<◌, ◌≤◌, true, List, [], ◌∷◌, ◌++◌, length, take, drop, replicate, None, refl, sym, ◌∙◌, ap, subst, inr, arith, length-drop, IfOk, Result, Ok, Err}
+use Rattle.std.proofs.Common.{◌≡◌, ℕ, ◌+◌, ◌-◌, ◌*◌, ◌^◌, ◌<◌, ◌≤◌, true, List, [], ◌∷◌, ◌++◌, length, take, drop, replicate, None, refl, sym, ◌∙◌, ap, subst, inr, arith, length-drop, IfOk, Result, Ok, Err}
 use Rattle.std.proofs.lemmas.Bool.Decides.{nat_tests}
 use Rattle.pe_layout.specs.declared.layout.Layout.{Layout}
 use Rattle.pe_layout.specs.declared.parts.Kind.{Kind}
@@ -15,8 +15,8 @@ use Rattle.pe_layout.specs.Layout.{headers, function_for, layout_of, image_by, i
 use Rattle.pe_layout.proofs.FirstFault.{faultless}
 use Rattle.pe_layout.proofs.LaidOut.{LaidOut, laid_out}
 use Rattle.pe_layout.proofs.WrittenHeaders.{HasNumbers, written_dos, written_file, written_standard, written_nt, written_directories, written_sections, written_numbers}
-use Rattle.pe_layout.proofs.WrittenText.{IsAddressTable, address_table, IsCliHeader, cli_header, IsBack, is_back, IsBlock, is_block}
-use Rattle.pe_layout.proofs.WrittenImage.{by_headers, behind, front_of, after_front, back_of, raw_reloc, raw_text, reads_text, reads_front, reads_back, reads_reloc, length-raw_reloc, length-raw_text, length-image_by, code_stands, metadata_stands}
+use Rattle.pe_layout.proofs.WrittenText.{address_table, IsCliHeader, cli_header, IsBack, is_back, is_block}
+use Rattle.pe_layout.proofs.WrittenImage.{by_headers, behind, front_of, after_front, back_of, raw_text, reads_text, reads_front, reads_back, reads_reloc, length-raw_reloc, length-raw_text, length-image_by, code_stands, metadata_stands}
 
 -- what holds of headers and what follows holds of the image
 at_headers : (l : Layout) (p : Parts) (P : List ℕ → Type 0) → P (headers l p.numbers p.kind ++ behind l p) → P (image_by l p)

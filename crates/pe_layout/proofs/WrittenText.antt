@@ -1,5 +1,5 @@
 -- What `.text` and `.reloc` hold in an image that is written.
-use Rattle.std.proofs.Common.{◌≡◌, ◌⊎◌, ℕ, ◌+◌, ◌-◌, ◌*◌, ◌/◌, ◌%◌, ◌^◌, ◌<◌, ◌≤◌, List, [], ◌∷◌, ◌++◌, length, take, drop, replicate, refl, sym, ◌∙◌, ap, subst, arith, codes}
+use Rattle.std.proofs.Common.{◌≡◌, ℕ, ◌+◌, ◌*◌, ◌/◌, ◌%◌, ◌^◌, ◌<◌, List, [], ◌∷◌, ◌++◌, length, take, drop, replicate, refl, arith, codes}
 use Rattle.byteorder.specs.Numbers.{little_number-reads_back}
 use Rattle.pe_layout.specs.declared.layout.Layout.{Layout}
 use Rattle.pe_layout.specs.declared.parts.Kind.{Kind}

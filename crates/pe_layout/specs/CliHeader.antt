@@ -1,5 +1,5 @@
 -- The CLI header (II.25.3.3): 72 bytes, to which data directory 14 leads.
-use Rattle.std.specs.Prelude.{ℕ, ◌+◌, List, take}
+use Rattle.std.specs.Prelude.{ℕ, List, take}
 use Rattle.pe_layout.specs.Fields.{u16_at, u32_at}
 use Rattle.pe_layout.specs.Headers.{directory_rva_of}
 use Rattle.pe_layout.specs.FileMap.{readable}

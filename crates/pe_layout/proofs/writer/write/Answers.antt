@@ -1,5 +1,5 @@
 -- The image is the one that the definition of its layout gives; what each clause says of it is a lemma.
-use Rattle.std.proofs.Common.{◌≡◌, ℕ, ◌≤◌, ◌+◌, ◌*◌, List, length, None, IfOk}
+use Rattle.std.proofs.Common.{◌≡◌, ℕ, ◌≤◌, ◌+◌, ◌*◌, List, length, None}
 use Rattle.pe_layout.specs.FileMap.{StandsAt}
 use Rattle.pe_layout.specs.CliHeader.{metadata_rva_of, metadata_size_of, entry_token_of}
 use Rattle.pe_layout.specs.Faults.{pe_fault}

@@ -1,4 +1,4 @@
-use Rattle.std.proofs.Common.{arith, rules}
+use Rattle.std.proofs.Common.{rules}
 use Rattle.pe_layout.specs.Layout.{layout_of}
 use Rattle.pe_layout.proofs.layout.Layout.of.Goals as goal
 
