@@ -4,7 +4,8 @@ use Rattle.std.proofs.lemmas.List.{drop-append-le, drop-drop, drop_at, take_at}
 use Rattle.std.proofs.lemmas.Bool.Decides.{nat_tests}
 use Rattle.pe_layout.specs.declared.section.Section.{Section}
 use Rattle.pe_layout.specs.Headers.{section_count_of, section_table_of, virtual_size_at, virtual_address_at, raw_size_at, raw_place_at}
-use Rattle.pe_layout.specs.FileMap.{section_at, sections_of, holds, section_of, readable_in, readable, StandsAt}
+use Rattle.pe_layout.specs.FileMap.{section_at, sections_of, holds, section_of, at, raw_end, readable, StandsAt}
+use Rattle.pe_layout.specs.View.{readable_in}
 
 pub section_is : (image : List ℕ) (place : ℕ) (s : Section) → virtual_size_at image place ≡ s.virtual_size → virtual_address_at image place ≡ s.virtual_address
     → raw_size_at image place ≡ s.raw_size → raw_place_at image place ≡ s.raw_place → section_at image place ≡ s
@@ -37,7 +38,7 @@ readable_part front body back s k place size low =
 -- an RVA of the first section
 pub reads_first : (image front body back : List ℕ) (s t : Section) → sections_of image ≡ s ∷ t ∷ [] → image ≡ front ++ body ++ back → length front ≡ s.raw_place → length body ≡ s.raw_size
     → s.virtual_size ≤ s.raw_size → (k : ℕ) → k < s.virtual_size → readable image (s.virtual_address + k) ≡ drop k body
-unfolding readable section_of
+unfolding readable at raw_end section_of
 reads_first image front body back s t sections whole place size filled k within =
     let held = holds_within (s.virtual_address + k) s (omega arith) (omega arith) (omega arith) in
     rw (sections, held, whole) (readable_part front body back s k place size (omega arith))
@@ -45,7 +46,7 @@ reads_first image front body back s t sections whole place size filled k within 
 -- an RVA of the second section
 pub reads_second : (image front body back : List ℕ) (s t : Section) → sections_of image ≡ s ∷ t ∷ [] → image ≡ front ++ body ++ back → length front ≡ t.raw_place → length body ≡ t.raw_size
     → t.virtual_size ≤ t.raw_size → 0 < s.virtual_size → s.virtual_address + s.virtual_size ≤ t.virtual_address → (k : ℕ) → k < t.virtual_size → readable image (t.virtual_address + k) ≡ drop k body
-unfolding readable section_of
+unfolding readable at raw_end section_of
 reads_second image front body back s t sections whole place size filled some apart k within =
     let passed = holds_before (t.virtual_address + k) s some (omega arith) in
     let held = holds_within (t.virtual_address + k) t (omega arith) (omega arith) (omega arith) in

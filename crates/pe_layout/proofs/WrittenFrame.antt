@@ -7,7 +7,7 @@ use Rattle.pe_layout.specs.declared.parts.Parts.{Parts}
 use Rattle.pe_layout.specs.Fields.{u16_at, u32_at}
 use Rattle.pe_layout.specs.Headers.{signature_place_of, machine_of, magic_of, directory_count_of, optional_size_of, section_count_of, section_table_of, entry_rva_of, directory_rva_of}
 use Rattle.pe_layout.specs.FileMap.{readable, StandsAt}
-use Rattle.pe_layout.specs.CliHeader.{cli_header_of, metadata_rva_of, metadata_size_of, entry_token_of}
+use Rattle.pe_layout.specs.CliHeader.{cli_header_of, metadata_rva_of, metadata_size_of, metadata_of, entry_token_of}
 use Rattle.pe_layout.specs.Faults.{has_headers, is_in_profile, has_cli_header, pe_fault}
 use Rattle.pe_layout.specs.Numbers.{numbers_of, IsImageBase, IsFileAlignment}
 use Rattle.pe_layout.specs.Frame.{HasDosHeader, HasFileHeader, HasStandardFields, HasNtFields, HasDirectories, HasSections, HasCliFields, HasImports, NamesFunction, HasEntryStub, HasRelocation, HasFrame}
@@ -198,7 +198,15 @@ pub record IsWritten (image : List ℕ) (p : Parts) : Type 0 where
   pub code : StandsAt image 0x2050 p.code
   pub metadata : StandsAt image (metadata_rva_of image) p.metadata
   pub metadata_size : metadata_size_of image ≡ length p.metadata
+  pub metadata_bytes : metadata_of image ≡ p.metadata
   pub len : length image ≤ length p.code + length p.metadata + 3 * p.numbers.file_alignment + 178
+
+metadata_is : (image bytes : List ℕ) → StandsAt image (metadata_rva_of image) bytes → metadata_size_of image ≡ length bytes → metadata_of image ≡ bytes
+unfolding metadata_of
+metadata_is image bytes stands size =
+    let here : metadata_rva_of image + 0 ≡ metadata_rva_of image = omega arith in
+    let all : length bytes - 0 ≡ length bytes = omega arith in
+    rw size (rw (here, all) at (stands.from 0 (omega arith)))
 
 written_by : (l : Layout) (p : Parts) → LaidOut l p → IsWritten (image_by l p) p
 written_by l p h =
@@ -206,7 +214,8 @@ written_by l p h =
     let S : ℕ → Type 0 = λ rva. StandsAt (image_by l p) rva p.metadata in
     let whole = length-image_by l p h in
     let len = h.len in
-    record { opens = opens l p h; frame = frame l p h; numbers = numbers_are l p h; entry = c.entry_token; code = code_stands l p h; metadata = subst S (sym c.metadata_rva) (metadata_stands l p h); metadata_size = c.metadata_size; len = omega arith }
+    let stands = subst S (sym c.metadata_rva) (metadata_stands l p h) in
+    record { opens = opens l p h; frame = frame l p h; numbers = numbers_are l p h; entry = c.entry_token; code = code_stands l p h; metadata = stands; metadata_size = c.metadata_size; metadata_bytes = metadata_is (image_by l p) p.metadata stands c.metadata_size; len = omega arith }
 
 pub written : (image : List ℕ) (p : Parts) → IsImageBase p.numbers.image_base → IsFileAlignment p.numbers.file_alignment → length p.code + length p.metadata < 2 ^ 26 → (image ≡ image_of p) × IsRanged p
     → IsWritten image p

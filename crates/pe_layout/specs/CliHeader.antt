@@ -63,3 +63,7 @@ native_header_rva_of image = u32_at (cli_header_of image) 64
 
 abbrev pub native_header_size_of : List ℕ → ℕ
 native_header_size_of image = u32_at (cli_header_of image) 68
+
+-- the metadata, as far as it can be read
+unfoldable pub metadata_of : List ℕ → List ℕ
+metadata_of image = take (metadata_size_of image) (readable image (metadata_rva_of image))

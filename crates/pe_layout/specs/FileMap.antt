@@ -1,7 +1,7 @@
 -- The file map (II.25): what a file holds at a relative virtual address (RVA).
-use Rattle.std.specs.Prelude.{ℕ, zero, suc, ◌+◌, ◌-◌, ◌≤◌, ◌≡◌, Bool, ◌&&◌, nat_le, nat_lt, nat_eq, if◌then◌else◌, List, [], ◌∷◌, take, drop, length, Option, None, Some}
+use Rattle.std.specs.Prelude.{ℕ, zero, suc, ◌+◌, ◌-◌, ◌≤◌, ◌≡◌, Bool, ◌&&◌, nat_le, nat_lt, nat_eq, if◌then◌else◌, List, [], ◌∷◌, take, drop, length, Option}
 use Rattle.std.specs.List.{find}
-use Rattle.std.specs.Option.{option_map}
+use Rattle.std.specs.Option.{option_map, option_map_or}
 use Rattle.pe_layout.specs.declared.section.Section.{Section}
 use Rattle.pe_layout.specs.Headers.{section_count_of, section_table_of, virtual_size_at, virtual_address_at, raw_size_at, raw_place_at}
 
@@ -39,18 +39,16 @@ place_in rva s = rva - s.virtual_address + s.raw_place
 unfoldable pub at : List ℕ → ℕ → Option ℕ
 at image rva = option_map (place_in rva) (section_of image rva)
 
--- from the place of an RVA that the section holds to the end of its raw bytes or of the file
-abbrev pub readable_in : List ℕ → ℕ → Section → List ℕ
-readable_in image rva s =
-    take (s.raw_place + s.raw_size - place_in rva s) (drop (place_in rva s) image)
+-- the end in the file of the raw bytes of the section that holds an RVA
+unfoldable pub raw_end : List ℕ → ℕ → ℕ
+raw_end image rva =
+    option_map_or (λ s. s.raw_place + s.raw_size) (section_of image rva) 0
 
-abbrev pub readable_by : List ℕ → ℕ → Option Section → List ℕ
-readable_by image rva None = []
-readable_by image rva (Some s) = readable_in image rva s
-
--- the bytes that can be read from an RVA on
+-- the bytes that can be read from an RVA on: from its place to the end of the section's raw bytes or of the
+-- file
 unfoldable pub readable : List ℕ → ℕ → List ℕ
-readable image rva = readable_by image rva (section_of image rva)
+readable image rva =
+    option_map_or (λ place. take (raw_end image rva - place) (drop place image)) (at image rva) []
 
 -- the bytes stand at an RVA: from the RVA of each of them on, the rest of them can be read
 pub record StandsAt (image : List ℕ) (rva : ℕ) (bytes : List ℕ) : Type 0 where

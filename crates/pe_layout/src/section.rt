@@ -1,7 +1,8 @@
 ghost use Rattle.std.specs.Prelude.{◌≡◌, ◌+◌, ◌*◌, ◌≤◌, ◌<◌, ◌↔◌, ℕ, [], length, IsTrue, IsNone, IsSome, IfSome};
 ghost use Rattle.std.specs.List.{find};
 ghost use Rattle.pe_layout.specs.Headers.{section_table_of, section_count_of, directory_rva_of};
-ghost use Rattle.pe_layout.specs.FileMap.{section_at, sections_from, extent_of, holds, readable_in, readable};
+ghost use Rattle.pe_layout.specs.FileMap.{section_at, sections_from, extent_of, holds, readable};
+ghost use Rattle.pe_layout.specs.View.{readable_in};
 ghost use Rattle.pe_layout.specs.CliHeader.{cli_header_of};
 ghost use Rattle.pe_layout.specs.Faults.{has_cli_header};
 

@@ -1,6 +1,6 @@
 ghost use Rattle.std.specs.Prelude.{◌≡◌, ◌+◌, ◌*◌, ◌^◌, ◌<◌, ◌≤◌, ℕ, length, None, IfOk};
 ghost use Rattle.pe_layout.specs.FileMap.{StandsAt};
-ghost use Rattle.pe_layout.specs.CliHeader.{metadata_rva_of, metadata_size_of, entry_token_of};
+ghost use Rattle.pe_layout.specs.CliHeader.{metadata_rva_of, metadata_size_of, metadata_of, entry_token_of};
 ghost use Rattle.pe_layout.specs.Faults.{pe_fault};
 ghost use Rattle.pe_layout.specs.Numbers.{numbers_of, IsImageBase, IsFileAlignment};
 ghost use Rattle.pe_layout.specs.Frame.{HasFrame};
@@ -70,6 +70,7 @@ pub fn write(alloc: Global, parts: &Parts) -> Result<Bytes, NoMemory>
     ensures code { IfOk result (λ image. StandsAt image 0x2050 parts.now.code) }
     ensures metadata { IfOk result (λ image. StandsAt image (metadata_rva_of image) parts.now.metadata) }
     ensures metadata_size { IfOk result (λ image. metadata_size_of image ≡ length parts.now.metadata) }
+    ensures metadata_bytes { IfOk result (λ image. metadata_of image ≡ parts.now.metadata) }
 
     // Beside code and metadata there are at most 166 bytes in `.text` and 12 in `.reloc`; headers and
     // sections are filled up to the file alignment.

@@ -1,7 +1,7 @@
 -- The image is the one that the definition of its layout gives; what each clause says of it is a lemma.
 use Rattle.std.proofs.Common.{◌≡◌, ℕ, ◌≤◌, ◌+◌, ◌*◌, List, length, None}
 use Rattle.pe_layout.specs.FileMap.{StandsAt}
-use Rattle.pe_layout.specs.CliHeader.{metadata_rva_of, metadata_size_of, entry_token_of}
+use Rattle.pe_layout.specs.CliHeader.{metadata_rva_of, metadata_size_of, metadata_of, entry_token_of}
 use Rattle.pe_layout.specs.Faults.{pe_fault}
 use Rattle.pe_layout.specs.Numbers.{numbers_of}
 use Rattle.pe_layout.specs.Frame.{HasFrame}
@@ -23,5 +23,6 @@ returns c =
       code = if_ok c.image_of.result W (λ image. StandsAt image 0x2050 p.code) (λ image w. w.code) all;
       metadata = if_ok c.image_of.result W (λ image. StandsAt image (metadata_rva_of image) p.metadata) (λ image w. w.metadata) all;
       metadata_size = if_ok c.image_of.result W (λ image. metadata_size_of image ≡ length p.metadata) (λ image w. w.metadata_size) all;
+      metadata_bytes = if_ok c.image_of.result W (λ image. metadata_of image ≡ p.metadata) (λ image w. w.metadata_bytes) all;
       len = if_ok c.image_of.result W (λ image. length image ≤ length p.code + length p.metadata + 3 * p.numbers.file_alignment + 178) (λ image w. w.len) all;
     }
