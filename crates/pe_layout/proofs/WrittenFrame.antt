@@ -10,13 +10,13 @@ use Rattle.pe_layout.specs.FileMap.{readable, StandsAt}
 use Rattle.pe_layout.specs.CliHeader.{cli_header_of, metadata_rva_of, metadata_size_of, metadata_of, entry_token_of}
 use Rattle.pe_layout.specs.Faults.{has_headers, is_in_profile, has_cli_header, pe_fault}
 use Rattle.pe_layout.specs.Numbers.{numbers_of, IsImageBase, IsFileAlignment}
-use Rattle.pe_layout.specs.Frame.{HasDosHeader, HasFileHeader, HasStandardFields, HasNtFields, HasDirectories, HasSections, HasCliFields, HasImports, NamesFunction, HasEntryStub, HasRelocation, HasFrame}
+use Rattle.pe_layout.specs.Frame.{HasDosHeader, HasFileHeader, HasStandardFields, HasNtFields, HasDirectories, HasSections, HasCliFields, HasImports, NamesFunction, HasEntryStub, HasRelocation, HasFrame, IsFilled}
 use Rattle.pe_layout.specs.Layout.{headers, function_for, layout_of, image_by, image_of, IsRanged}
 use Rattle.pe_layout.proofs.FirstFault.{faultless}
 use Rattle.pe_layout.proofs.LaidOut.{LaidOut, laid_out}
 use Rattle.pe_layout.proofs.WrittenHeaders.{HasNumbers, written_dos, written_file, written_standard, written_nt, written_directories, written_sections, written_numbers}
 use Rattle.pe_layout.proofs.WrittenText.{address_table, IsCliHeader, cli_header, IsBack, is_back, is_block}
-use Rattle.pe_layout.proofs.WrittenImage.{by_headers, behind, front_of, after_front, back_of, raw_text, reads_text, reads_front, reads_back, reads_reloc, length-raw_reloc, length-raw_text, length-image_by, code_stands, metadata_stands}
+use Rattle.pe_layout.proofs.WrittenImage.{by_headers, behind, front_of, after_front, back_of, raw_text, reads_text, reads_front, reads_back, reads_reloc, length-raw_reloc, length-raw_text, length-image_by, headers_filled, text_filled, reloc_filled, code_stands, metadata_stands}
 
 -- what holds of headers and what follows holds of the image
 at_headers : (l : Layout) (p : Parts) (P : List ℕ → Type 0) → P (headers l p.numbers p.kind ++ behind l p) → P (image_by l p)
@@ -149,6 +149,24 @@ frame : (l : Layout) (p : Parts) → LaidOut l p → HasFrame (image_by l p) p.k
 frame l p h =
     record { dos = dos_header l p; file = file_header l p; standard = standard l p; nt = nt l p h; directories = directories l p; sections = sections l p h; cli = cli_fields l p h; imports = imports l p h; stub = stub l p h; relocation = relocation l p h }
 
+table_is : (l : Layout) (p : Parts) → section_table_of (image_by l p) ≡ 376
+table_is l p =
+    let place = (dos_header l p).signature_place in
+    let optional = (file_header l p).optional_size in
+    omega arith
+
+filled : (l : Layout) (p : Parts) → LaidOut l p → IsFilled (image_by l p)
+filled l p h =
+    let n = numbers l p h in
+    let table = table_is l p in
+    let size = (nt l p h).header_size ∙ n.file_alignment in
+    record {
+      headers = rw (table, size) (headers_filled l p h);
+      text = rw (table, n.text_size, n.text_raw, n.text_place) (text_filled l p h);
+      reloc = rw (table, n.reloc_size, n.reloc_raw, n.reloc_place) (reloc_filled l p h);
+      ends = rw (table, n.reloc_raw, n.reloc_place) (length-image_by l p h);
+    }
+
 headers_hold : (image : List ℕ) → u16_at image 0 ≡ 0x5A4D → signature_place_of image ≡ 0x80 → u32_at image (signature_place_of image) ≡ 0x4550 → section_table_of image ≡ 376 → section_count_of image ≡ 2
     → 456 ≤ length image → has_headers image ≡ true
 unfolding has_headers
@@ -170,7 +188,7 @@ opens l p h =
     let f = file_header l p in
     let place = d.signature_place in
     let optional = f.optional_size in
-    let table : section_table_of image ≡ 376 = omega arith in
+    let table = table_is l p in
     let whole = length-image_by l p h in
     let low = h.alignment_low in
     let filled = h.bounded.text_filled in
@@ -193,6 +211,7 @@ numbers_are l p h =
 pub record IsWritten (image : List ℕ) (p : Parts) : Type 0 where
   pub opens : pe_fault image ≡ None
   pub frame : HasFrame image p.kind
+  pub filled : IsFilled image
   pub numbers : numbers_of image ≡ p.numbers
   pub entry : entry_token_of image ≡ p.entry
   pub code : StandsAt image 0x2050 p.code
@@ -215,7 +234,7 @@ written_by l p h =
     let whole = length-image_by l p h in
     let len = h.len in
     let stands = subst S (sym c.metadata_rva) (metadata_stands l p h) in
-    record { opens = opens l p h; frame = frame l p h; numbers = numbers_are l p h; entry = c.entry_token; code = code_stands l p h; metadata = stands; metadata_size = c.metadata_size; metadata_bytes = metadata_is (image_by l p) p.metadata stands c.metadata_size; len = omega arith }
+    record { opens = opens l p h; frame = frame l p h; filled = filled l p h; numbers = numbers_are l p h; entry = c.entry_token; code = code_stands l p h; metadata = stands; metadata_size = c.metadata_size; metadata_bytes = metadata_is (image_by l p) p.metadata stands c.metadata_size; len = omega arith }
 
 pub written : (image : List ℕ) (p : Parts) → IsImageBase p.numbers.image_base → IsFileAlignment p.numbers.file_alignment → length p.code + length p.metadata < 2 ^ 26 → (image ≡ image_of p) × IsRanged p
     → IsWritten image p

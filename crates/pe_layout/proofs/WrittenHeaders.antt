@@ -52,6 +52,7 @@ pub record HasNumbers (image : List ℕ) (l : Layout) (n : ManifestNumbers) : Ty
   pub text_size : virtual_size_at image 376 ≡ l.text_size
   pub text_raw : raw_size_at image 376 ≡ l.text_raw
   pub text_place : raw_place_at image 376 ≡ n.file_alignment
+  pub reloc_size : virtual_size_at image 416 ≡ 12
   pub reloc_rva : virtual_address_at image 416 ≡ l.reloc_rva
   pub reloc_raw : raw_size_at image 416 ≡ l.reloc_raw
   pub reloc_place : raw_place_at image 416 ≡ n.file_alignment + l.text_raw
@@ -74,6 +75,7 @@ written_numbers l p rest h =
       relocations_rva = little_number-reads_back 4 l.reloc_rva [] (omega arith);
       relocations_size = refl;
       dos = refl;
+      reloc_size = refl;
       text_size = little_number-reads_back 4 l.text_size [] (omega arith);
       text_raw = little_number-reads_back 4 l.text_raw [] (omega arith);
       text_place = little_number-reads_back 4 n.file_alignment [] (omega arith);

@@ -1,6 +1,6 @@
 -- What an image that is written holds, by its RVAs.
-use Rattle.std.proofs.Common.{◌≡◌, ℕ, ◌+◌, ◌-◌, ◌<◌, ◌≤◌, List, [], ◌∷◌, ◌++◌, length, drop, replicate, refl, sym, ◌∙◌, ap, subst, arith, append_assoc, length-append}
-use Rattle.std.proofs.lemmas.List.{append-nil, length-replicate}
+use Rattle.std.proofs.Common.{◌≡◌, ℕ, ◌+◌, ◌-◌, ◌<◌, ◌≤◌, List, [], ◌∷◌, ◌++◌, length, take, drop, replicate, refl, sym, ◌∙◌, ap, subst, arith, append_assoc, length-append}
+use Rattle.std.proofs.lemmas.List.{append-nil, length-replicate, drop_at, take_at, take_all}
 use Rattle.pe_layout.specs.declared.layout.Layout.{Layout}
 use Rattle.pe_layout.specs.declared.parts.Parts.{Parts}
 use Rattle.pe_layout.specs.Fields.{round_up}
@@ -107,6 +107,15 @@ length-raw_text l p h =
     let filled = h.bounded.text_filled in
     omega (arith, whole, length-append front (back_of l p), length-append (text_back l p.numbers p.kind) (replicate (l.text_raw - l.text_size) 0), length-text_back l p.numbers p.kind, length-to_back l p h, zeros)
 
+-- the true length of `.text`
+length-text : (l : Layout) (p : Parts) → LaidOut l p → length (text l p) ≡ l.text_size
+length-text l p h =
+    let whole = length-append (text l p) (replicate (l.text_raw - l.text_size) 0) in
+    let zeros = length-replicate {A = ℕ} (l.text_raw - l.text_size) 0 in
+    let raw = length-raw_text l p h in
+    let filled = h.bounded.text_filled in
+    omega (arith, whole, zeros, raw)
+
 pub length-raw_reloc : (l : Layout) (p : Parts) → LaidOut l p → length (raw_reloc l) ≡ l.reloc_raw
 length-raw_reloc l p h =
     let zeros = length-replicate {A = ℕ} (l.reloc_raw - 12) 0 in
@@ -171,3 +180,22 @@ metadata_stands l p h =
     let rva = h.imports_rva in
     let up = h.metadata_up in
     subst S there (stands (image_by l p) before p.metadata after 0x2000 l.text_size (λ k within. reads_text l p h k within ∙ ap (drop k) (by_metadata l p)) (omega arith))
+
+-- the bytes of the file that fill up
+pub headers_filled : (l : Layout) (p : Parts) → LaidOut l p → take (p.numbers.file_alignment - 456) (drop 456 (image_by l p)) ≡ replicate (p.numbers.file_alignment - 456) 0
+headers_filled l p h =
+    let zeros : List ℕ = replicate (p.numbers.file_alignment - 456) 0 in
+    ap (λ bytes. take (p.numbers.file_alignment - 456) (drop 456 bytes)) (by_headers l p) ∙ ap (take (p.numbers.file_alignment - 456)) (drop_at (headers l p.numbers p.kind) (behind l p) 456 (length-headers l p.numbers p.kind)) ∙ take_at zeros (raw_text l p ++ raw_reloc l) (p.numbers.file_alignment - 456) (length-replicate {A = ℕ} (p.numbers.file_alignment - 456) 0)
+
+pub text_filled : (l : Layout) (p : Parts) → LaidOut l p → drop l.text_size (take l.text_raw (drop p.numbers.file_alignment (image_by l p))) ≡ replicate (l.text_raw - l.text_size) 0
+text_filled l p h =
+    let zeros : List ℕ = replicate (l.text_raw - l.text_size) 0 in
+    let apart = by_sections l p ∙ append_assoc (before_text l p) (raw_text l p) (raw_reloc l) in
+    ap (λ bytes. drop l.text_size (take l.text_raw (drop p.numbers.file_alignment bytes))) apart ∙ ap (λ bytes. drop l.text_size (take l.text_raw bytes)) (drop_at (before_text l p) (raw_text l p ++ raw_reloc l) p.numbers.file_alignment (length-before_text l p h)) ∙ ap (drop l.text_size) (take_at (raw_text l p) (raw_reloc l) l.text_raw (length-raw_text l p h)) ∙ drop_at (text l p) zeros l.text_size (length-text l p h)
+
+pub reloc_filled : (l : Layout) (p : Parts) → LaidOut l p → drop 12 (take l.reloc_raw (drop (p.numbers.file_alignment + l.text_raw) (image_by l p))) ≡ replicate (l.reloc_raw - 12) 0
+reloc_filled l p h =
+    let zeros : List ℕ = replicate (l.reloc_raw - 12) 0 in
+    let before = before_text l p ++ raw_text l p in
+    let place : length before ≡ p.numbers.file_alignment + l.text_raw = omega (arith, length-append (before_text l p) (raw_text l p), length-before_text l p h, length-raw_text l p h) in
+    ap (λ bytes. drop 12 (take l.reloc_raw (drop (p.numbers.file_alignment + l.text_raw) bytes))) (by_sections l p) ∙ ap (λ bytes. drop 12 (take l.reloc_raw bytes)) (drop_at before (raw_reloc l) (p.numbers.file_alignment + l.text_raw) place) ∙ ap (drop 12) (take_all l.reloc_raw (raw_reloc l) (omega (arith, length-raw_reloc l p h))) ∙ drop_at (relocations l) zeros 12 (length-relocations l)

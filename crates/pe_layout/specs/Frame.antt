@@ -1,6 +1,6 @@
 -- The frame of a written image: each header field has the value that is written, and the image imports the
 -- runtime's entry and jumps to it.
-use Rattle.std.specs.Prelude.{◌≡◌, ◌≤◌, ◌⊎◌, ℕ, ◌+◌, ◌/◌, ◌%◌, List, [], ◌∷◌, ◌++◌, length, take, drop, replicate, All, codes}
+use Rattle.std.specs.Prelude.{◌≡◌, ◌≤◌, ◌-◌, ◌⊎◌, ℕ, ◌+◌, ◌/◌, ◌%◌, List, [], ◌∷◌, ◌++◌, length, take, drop, replicate, All, codes}
 use Rattle.pe_layout.specs.declared.parts.Kind.{Kind}
 use Rattle.pe_layout.specs.Fields.{u16_at, u32_at, round_up}
 use Rattle.pe_layout.specs.Headers.{signature_place_of, machine_of, section_count_of, time_stamp_of, symbol_table_of, symbol_count_of, optional_size_of, characteristics_of, magic_of, linker_major_of, linker_minor_of, code_size_of, initialized_size_of, uninitialized_size_of, entry_rva_of, code_base_of, data_base_of, image_base_of, section_alignment_of, file_alignment_of, os_major_of, os_minor_of, user_major_of, user_minor_of, subsystem_major_of, subsystem_minor_of, reserved_of, image_size_of, header_size_of, checksum_of, dll_flags_of, stack_commit_of, heap_reserve_of, heap_commit_of, loader_flags_of, directory_count_of, directory_rva_of, directory_size_of, section_table_of, section_name_at, virtual_size_at, virtual_address_at, raw_size_at, raw_place_at, relocation_place_at, line_place_at, relocation_count_at, line_count_at, section_flags_at}
@@ -158,3 +158,20 @@ pub record HasFrame (image : List ℕ) (kind : Kind) : Type 0 where
   pub imports : HasImports image (readable image (directory_rva_of image 1)) kind
   pub stub : HasEntryStub image (readable image (entry_rva_of image))
   pub relocation : HasRelocation image (readable image (directory_rva_of image 5))
+
+-- what the file holds of the section whose header stands at a place
+abbrev pub raw_bytes_at : List ℕ → ℕ → List ℕ
+raw_bytes_at image place =
+    take (raw_size_at image place) (drop (raw_place_at image place) image)
+
+-- the bytes behind the true length of a section are 0
+abbrev pub IsFilledAt : List ℕ → ℕ → Type 0
+IsFilledAt image place =
+    drop (virtual_size_at image place) (raw_bytes_at image place) ≡ replicate (raw_size_at image place - virtual_size_at image place) 0
+
+-- headers and sections are filled up with zeros, and behind `.reloc` the file ends
+pub record IsFilled (image : List ℕ) : Type 0 where
+  pub headers : take (header_size_of image - (text_header_of image + 80)) (drop (text_header_of image + 80) image) ≡ replicate (header_size_of image - (text_header_of image + 80)) 0
+  pub text : IsFilledAt image (text_header_of image)
+  pub reloc : IsFilledAt image (reloc_header_of image)
+  pub ends : length image ≡ raw_place_at image (reloc_header_of image) + raw_size_at image (reloc_header_of image)

@@ -26,6 +26,9 @@ pub(crate) fn has_headers(file: &[u8]) -> bool
     signature + 24 + optional_size + 40 * sections <= file.len()
 }
 
+// How many data directories there are at least: the last that is read is the 15th.
+const LEAST_DIRECTORIES: usize = 15;
+
 // Whether machine and optional header are in the profile. The PE signature stands at `signature`.
 pub(crate) fn is_in_profile(file: &[u8], signature: usize) -> bool
     requires place { signature ≡ signature_place_of file.now }
@@ -39,6 +42,6 @@ pub(crate) fn is_in_profile(file: &[u8], signature: usize) -> bool
     }
     let directories = u32_at(file, signature + 116) as usize;
     u16_at(file, signature + 24) == 0x10B
-        && 15 <= directories
+        && LEAST_DIRECTORIES <= directories
         && 96 + 8 * directories <= optional_size
 }

@@ -3,7 +3,7 @@ ghost use Rattle.pe_layout.specs.FileMap.{StandsAt};
 ghost use Rattle.pe_layout.specs.CliHeader.{metadata_rva_of, metadata_size_of, metadata_of, entry_token_of};
 ghost use Rattle.pe_layout.specs.Faults.{pe_fault};
 ghost use Rattle.pe_layout.specs.Numbers.{numbers_of, IsImageBase, IsFileAlignment};
-ghost use Rattle.pe_layout.specs.Frame.{HasFrame};
+ghost use Rattle.pe_layout.specs.Frame.{HasFrame, IsFilled};
 ghost use Rattle.pe_layout.specs.Layout.{image_of, IsRanged};
 
 use crate::Parts;
@@ -65,6 +65,7 @@ pub fn write(alloc: Global, parts: &Parts) -> Result<Bytes, NoMemory>
 
     ensures opens { IfOk result (λ image. pe_fault image ≡ None) }
     ensures frame { IfOk result (λ image. HasFrame image parts.now.kind) }
+    ensures filled { IfOk result IsFilled }
     ensures numbers { IfOk result (λ image. numbers_of image ≡ parts.now.numbers) }
     ensures entry { IfOk result (λ image. entry_token_of image ≡ parts.now.entry) }
     ensures code { IfOk result (λ image. StandsAt image 0x2050 parts.now.code) }

@@ -7,10 +7,10 @@ pub returns-then-u16_at-ne332-clause-value : goal.returns-then-u16_at-ne332-clau
 unfolding is_in_profile
 returns-then-u16_at-ne332-clause-value c = grind (arith, nat_tests)
 
-pub returns-then-directories-ge15-clause-value : goal.returns-then-directories-ge15-clause-value
+pub returns-then-directories-ge-LEAST_DIRECTORIES-clause-value : goal.returns-then-directories-ge-LEAST_DIRECTORIES-clause-value
 unfolding is_in_profile
-returns-then-directories-ge15-clause-value c = grind (arith, nat_tests)
+returns-then-directories-ge-LEAST_DIRECTORIES-clause-value c = grind (arith, nat_tests)
 
-pub returns-else-directories-ge15-clause-value : goal.returns-else-directories-ge15-clause-value
+pub returns-else-directories-ge-LEAST_DIRECTORIES-clause-value : goal.returns-else-directories-ge-LEAST_DIRECTORIES-clause-value
 unfolding is_in_profile
-returns-else-directories-ge15-clause-value c = grind (arith, nat_tests)
+returns-else-directories-ge-LEAST_DIRECTORIES-clause-value c = grind (arith, nat_tests)

@@ -4,7 +4,7 @@ use Rattle.pe_layout.specs.FileMap.{StandsAt}
 use Rattle.pe_layout.specs.CliHeader.{metadata_rva_of, metadata_size_of, metadata_of, entry_token_of}
 use Rattle.pe_layout.specs.Faults.{pe_fault}
 use Rattle.pe_layout.specs.Numbers.{numbers_of}
-use Rattle.pe_layout.specs.Frame.{HasFrame}
+use Rattle.pe_layout.specs.Frame.{HasFrame, IsFilled}
 use Rattle.pe_layout.specs.Layout.{image_of, IsRanged}
 use Rattle.pe_layout.proofs.WrittenFrame.{IsWritten, written, if_ok}
 use Rattle.pe_layout.proofs.writer.write.Goals as goal
@@ -18,6 +18,7 @@ returns c =
     record {
       opens = if_ok c.image_of.result W (λ image. pe_fault image ≡ None) (λ image w. w.opens) all;
       frame = if_ok c.image_of.result W (λ image. HasFrame image p.kind) (λ image w. w.frame) all;
+      filled = if_ok c.image_of.result W IsFilled (λ image w. w.filled) all;
       numbers = if_ok c.image_of.result W (λ image. numbers_of image ≡ p.numbers) (λ image w. w.numbers) all;
       entry = if_ok c.image_of.result W (λ image. entry_token_of image ≡ p.entry) (λ image w. w.entry) all;
       code = if_ok c.image_of.result W (λ image. StandsAt image 0x2050 p.code) (λ image w. w.code) all;
