@@ -11,7 +11,8 @@ use Rattle.pe_layout.specs.CliHeader.{cli_header_of, metadata_rva_of, metadata_s
 use Rattle.pe_layout.specs.Faults.{has_headers, is_in_profile, has_cli_header, pe_fault}
 use Rattle.pe_layout.specs.Numbers.{numbers_of, IsImageBase, IsFileAlignment}
 use Rattle.pe_layout.specs.Frame.{HasDosHeader, HasFileHeader, HasStandardFields, HasNtFields, HasDirectories, HasSections, HasCliFields, HasImports, NamesFunction, HasEntryStub, HasRelocation, HasFrame, IsFilled}
-use Rattle.pe_layout.specs.Layout.{headers, function_for, layout_of, image_by, image_of, IsRanged}
+use Rattle.pe_layout.specs.Kinds.{function_for}
+use Rattle.pe_layout.specs.Layout.{headers, layout_of, image_by, image_of, IsRanged}
 use Rattle.pe_layout.proofs.FirstFault.{faultless}
 use Rattle.pe_layout.proofs.LaidOut.{LaidOut, laid_out}
 use Rattle.pe_layout.proofs.WrittenHeaders.{HasNumbers, written_dos, written_file, written_standard, written_nt, written_directories, written_sections, written_numbers}

@@ -6,7 +6,8 @@ use Rattle.pe_layout.specs.declared.parts.Kind.{Kind}
 use Rattle.pe_layout.specs.declared.parts.Kind.TheVariants.{Exe, Dll}
 use Rattle.pe_layout.specs.declared.parts.ManifestNumbers.{ManifestNumbers}
 use Rattle.pe_layout.specs.Fields.{u16_at, u32_at}
-use Rattle.pe_layout.specs.Layout.{function_for, text_front, text_back, relocations}
+use Rattle.pe_layout.specs.Kinds.{function_for}
+use Rattle.pe_layout.specs.Layout.{text_front, text_back, relocations}
 
 pub length-text_front : (l : Layout) (metadata flags entry : ℕ) → length (text_front l metadata flags entry) ≡ 80
 unfolding text_front

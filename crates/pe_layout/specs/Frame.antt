@@ -6,7 +6,7 @@ use Rattle.pe_layout.specs.Fields.{u16_at, u32_at, round_up}
 use Rattle.pe_layout.specs.Headers.{signature_place_of, machine_of, section_count_of, time_stamp_of, symbol_table_of, symbol_count_of, optional_size_of, characteristics_of, magic_of, linker_major_of, linker_minor_of, code_size_of, initialized_size_of, uninitialized_size_of, entry_rva_of, code_base_of, data_base_of, image_base_of, section_alignment_of, file_alignment_of, os_major_of, os_minor_of, user_major_of, user_minor_of, subsystem_major_of, subsystem_minor_of, reserved_of, image_size_of, header_size_of, checksum_of, dll_flags_of, stack_commit_of, heap_reserve_of, heap_commit_of, loader_flags_of, directory_count_of, directory_rva_of, directory_size_of, section_table_of, section_name_at, virtual_size_at, virtual_address_at, raw_size_at, raw_place_at, relocation_place_at, line_place_at, relocation_count_at, line_count_at, section_flags_at}
 use Rattle.pe_layout.specs.FileMap.{readable}
 use Rattle.pe_layout.specs.CliHeader.{cb_of, runtime_major_of, runtime_minor_of, resources_rva_of, resources_size_of, strong_name_rva_of, strong_name_size_of, code_manager_rva_of, code_manager_size_of, vtable_fixups_rva_of, vtable_fixups_size_of, export_jumps_rva_of, export_jumps_size_of, native_header_rva_of, native_header_size_of}
-use Rattle.pe_layout.specs.Layout.{characteristics_for, function_for}
+use Rattle.pe_layout.specs.Kinds.{characteristics_for, function_for}
 
 -- II.25.2.1: the bytes before the PE signature at 0x80 are 0 but for the signature and its place
 pub record HasDosHeader (image : List ℕ) : Type 0 where

@@ -6,10 +6,10 @@ use Rattle.pe_layout.specs.declared.field.Field.{Field}
 use Rattle.pe_layout.specs.declared.field.Field.TheVariants.{Byte, Half, Word, Name, Text, Zeros}
 use Rattle.pe_layout.specs.declared.layout.Layout.{Layout}
 use Rattle.pe_layout.specs.declared.parts.Kind.{Kind}
-use Rattle.pe_layout.specs.declared.parts.Kind.TheVariants.{Exe, Dll}
 use Rattle.pe_layout.specs.declared.parts.ManifestNumbers.{ManifestNumbers}
 use Rattle.pe_layout.specs.declared.parts.Parts.{Parts}
 use Rattle.pe_layout.specs.Fields.{round_up}
+use Rattle.pe_layout.specs.Kinds.{characteristics_for, function_for}
 
 abbrev pub field_bytes : Field → List ℕ
 field_bytes (Byte n) = n ∷ []
@@ -22,16 +22,6 @@ field_bytes (Zeros n) = replicate n 0
 -- the bytes of fields, one after the other
 abbrev pub spelled : List Field → List ℕ
 spelled fields = flat_map field_bytes fields
-
--- II.25.2.2.1: an executable of 32 bits, and a library too
-abbrev pub characteristics_for : Kind → ℕ
-characteristics_for Exe = 0x0102
-characteristics_for Dll = 0x2102
-
--- II.25.3.1: the function by which the loader enters the runtime
-abbrev pub function_for : Kind → List ℕ
-function_for Exe = codes "_CorExeMain"
-function_for Dll = codes "_CorDllMain"
 
 -- `.text` holds the address table, the CLI header, code and metadata, each filled up to a multiple of 4,
 -- and 80 bytes of imports and stub; `.reloc` has the next free multiple of 0x2000

@@ -4,6 +4,7 @@ pub mod FileMap
 pub mod CliHeader
 pub mod Faults
 pub mod Numbers
+pub mod Kinds
 pub mod Frame
 pub mod Layout
 pub mod View

@@ -1,6 +1,7 @@
 // What stands in the sections of an image that is written, piece by piece.
 ghost use Rattle.std.specs.Prelude.{◌≡◌, ◌++◌, ◌+◌, ◌-◌, ◌^◌, ◌<◌, ◌≤◌, ℕ, [], ◌∷◌, length, codes, OnOk};
-ghost use Rattle.pe_layout.specs.Layout.{function_for, text_front, text_back, padded, relocations};
+ghost use Rattle.pe_layout.specs.Kinds.{function_for};
+ghost use Rattle.pe_layout.specs.Layout.{text_front, text_back, padded, relocations};
 
 use crate::field::{Field, push_fields, push_zeros};
 use crate::layout::{Layout, RELOC_SIZE, TEXT_RVA, round_up};

@@ -1,6 +1,7 @@
 // The headers of an image that is written, piece by piece.
 ghost use Rattle.std.specs.Prelude.{◌≡◌, ◌++◌, ◌+◌, ◌^◌, ◌<◌, ◌≤◌, ℕ, length, OnOk};
-ghost use Rattle.pe_layout.specs.Layout.{characteristics_for, dos_header, file_header, standard_fields, nt_fields, directories, section_headers, headers};
+ghost use Rattle.pe_layout.specs.Kinds.{characteristics_for};
+ghost use Rattle.pe_layout.specs.Layout.{dos_header, file_header, standard_fields, nt_fields, directories, section_headers, headers};
 
 use crate::field::{Field, push_fields};
 use crate::layout::{Layout, RELOC_SIZE, TEXT_RVA};

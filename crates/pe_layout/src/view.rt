@@ -80,10 +80,12 @@ impl<'a> PeView<'a> {
         readable_at(self.file, self.sections, self.count, rva)
     }
 
-    /// The CLI header, to which directory 14 leads: 72 bytes (ECMA-335 II.25.3.3).
+    /// The CLI header, to which directory 14 leads: 72 bytes (ECMA-335 II.25.3.3). Every image that
+    /// was opened has it.
     pub fn cli_header(&self) -> &[u8]
         ensures value { result.now ≡ cli_header_of self.now }
         ensures len { length result.now ≡ 72 }
+        ensures faultless { pe_fault self.now ≡ None }
     {
         self.cli
     }
