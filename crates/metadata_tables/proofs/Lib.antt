@@ -3,10 +3,13 @@ pub mod Bits
 pub mod Encoded
 pub mod Joins
 pub mod Layouts
+pub mod Longer
 pub mod Masks
+pub mod OneFault
 pub mod Pieces
 pub mod Places
 pub mod Profile
+pub mod RowOf
 pub mod Sorting
 pub mod Table
 pub mod Tags
