@@ -1,0 +1,6 @@
+//! What the program does: `run` takes the words of a command line, a shelf of files and a console.
+#![tactic(auto)]
+
+mod input;
+mod output;
+
