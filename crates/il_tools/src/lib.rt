@@ -3,4 +3,5 @@
 
 mod input;
 mod output;
+mod words;
 
