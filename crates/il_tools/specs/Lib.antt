@@ -1,2 +1,3 @@
+pub mod Form
 pub mod Output
 pub mod Words

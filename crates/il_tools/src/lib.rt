@@ -1,6 +1,7 @@
 //! What the program does: `run` takes the words of a command line, a shelf of files and a console.
 #![tactic(auto)]
 
+mod form;
 mod input;
 mod output;
 mod words;
