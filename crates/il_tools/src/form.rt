@@ -1,5 +1,5 @@
 //! The form of a source that is read so far: `.assembly NAME { .ver V }`, its six words parted by blanks.
-ghost use Rattle.std.specs.Prelude.{◌≡◌, ◌≢◌, ◌≤◌, ◌==◌, ◌∷◌, [], Some, None, true, false, length, slice_index, MatchOption, IfSome, IfNone};
+ghost use Rattle.std.specs.Prelude.{◌≡◌, ◌≢◌, ◌<◌, ◌≤◌, ◌==◌, ◌∷◌, [], Some, None, true, false, length, slice_index, MatchOption, IfSome, IfNone};
 ghost use Rattle.std.specs.List.{list_all, slice_split};
 ghost use Rattle.il_tools.specs.Form.{is_blank, words_of, is_upper, is_digit, is_letter_or_digit, is_name, decimal_value, version_part, version_of, form_of};
 
@@ -82,21 +82,22 @@ fn next_word(bytes: &[u8]) -> Option<(&[u8], &[u8])>
 // What begins at the first byte that is no blank.
 fn without_blanks(bytes: &[u8]) -> &[u8]
     ensures words { words_of result.now ≡ words_of bytes.now }
-    ensures begun { result.now ≢ [] → is_blank (slice_index result.now 0) ≡ false }
+    ensures begun { 0 < length result.now → is_blank (slice_index result.now 0) ≡ false }
 {
     let mut rest = bytes;
-    while let [first, more @ ..] = rest {
-        if !is_blank(*first) {
+    while let Some((first, more)) = rest.split_first() {
+        if is_blank(*first) {
+            rest = more;
+        } else {
             break;
         }
-        rest = more;
     }
     rest
 }
 
 // The word that the bytes begin with, and what stands behind it.
 fn word_and_rest(bytes: &[u8]) -> (&[u8], &[u8])
-    requires some { bytes.now ≢ [] }
+    requires some { 0 < length bytes.now }
     requires begun { is_blank (slice_index bytes.now 0) ≡ false }
     ensures { words_of bytes.now ≡ result.0.now ∷ words_of result.1.now }
 {
@@ -141,12 +142,33 @@ fn is_letter_or_digit(byte: u8) -> bool
 fn is_name(text: &[u8]) -> bool
     ensures { result ≡ is_name text.now }
 {
-    let Some(first) = text.first() else {
+    if 1000 < text.len() || !begins_upper(text) {
         return false;
-    };
-    text.len() <= 1000
-        && is_upper(*first)
-        && text.iter().all(|byte| is_letter_or_digit(*byte))
+    }
+    all_letters_or_digits(text)
+}
+
+fn all_letters_or_digits(text: &[u8]) -> bool
+    ensures { result ≡ list_all is_letter_or_digit text.now }
+{
+    text.iter().all(|byte| is_letter_or_digit(*byte))
+}
+
+fn all_digits(text: &[u8]) -> bool
+    ensures { result ≡ list_all is_digit text.now }
+{
+    text.iter().all(|byte| is_digit(*byte))
+}
+
+// Whether a text begins with an upper-case letter.
+#[tactic(auto, unfolding(crate::specs::Form::is_upper))]
+fn begins_upper(text: &[u8]) -> bool
+    ensures { result ≡ is_upper (slice_index text.now 0) }
+{
+    match text {
+        [first, ..] => is_upper(*first),
+        [] => false,
+    }
 }
 
 // The version that a text spells.
@@ -157,15 +179,15 @@ fn version_of(text: &[u8]) -> Option<[u16; 4]>
     let (a, rest) = cut_at_colon(text)?;
     let (b, rest) = cut_at_colon(rest)?;
     let (c, d) = cut_at_colon(rest)?;
-    if cut_at_colon(d).is_some() {
-        return None;
+    match cut_at_colon(d) {
+        Some(_) => None,
+        None => Some([
+            version_part(a)?,
+            version_part(b)?,
+            version_part(c)?,
+            version_part(d)?,
+        ]),
     }
-    Some([
-        version_part(a)?,
-        version_part(b)?,
-        version_part(c)?,
-        version_part(d)?,
-    ])
 }
 
 // What stands before the first colon, and what behind it.
@@ -188,7 +210,7 @@ fn cut_at_colon(text: &[u8]) -> Option<(&[u8], &[u8])>
 fn version_part(text: &[u8]) -> Option<u16>
     ensures { MatchOption result (version_part text.now ≡ None) (λ part. version_part text.now ≡ Some part) }
 {
-    if text.is_empty() || 5 < text.len() || !text.iter().all(|byte| is_digit(*byte)) {
+    if text.is_empty() || 5 < text.len() || !all_digits(text) {
         return None;
     }
     let value = decimal_value(text);
