@@ -1,9 +1,19 @@
 //! The tokens of an ILAsm source (II.5), or the first lexical fault in it.
 #![tactic(auto)]
 
+mod bytes;
+mod classes;
+mod gaps;
+mod lexeme;
+mod pairs;
+mod quotes;
+mod runs;
+mod scan;
+mod spellings;
 pub mod types;
 pub mod word;
 mod words;
 
-pub use types::{LexFault, Token, TokenKind};
-pub use words::WORDS;
+pub use scan::tokens;
+pub use types::{LexFault, Lexeme, Token, TokenKind};
+pub use words::{WORDS, word_number, word_text};

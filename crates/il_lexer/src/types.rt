@@ -1,5 +1,7 @@
 //! Tokens, their kinds, and the faults of a source that doesn't lex.
 
+ghost use Rattle.std.specs.Prelude.{◌≡◌};
+
 use il_base::{Items, NoMemory, Pos};
 use thiserror::Error;
 
@@ -28,6 +30,13 @@ pub enum TokenKind {
     Word(u16),
 }
 
+/// A kind of token and the number of its bytes.
+#[derive(Debug, Clone, Copy, PartialEq, Eq, Drop)]
+pub struct Lexeme {
+    pub kind: TokenKind,
+    pub length: usize,
+}
+
 /// A token of a source: its kind, the bytes from `start` up to `end`, and the place of its first byte.
 #[derive(Debug, Clone, Copy, PartialEq, Eq, Drop)]
 pub struct Token {
@@ -52,6 +61,10 @@ pub enum LexFault {
 }
 
 impl From<NoMemory> for LexFault {
+    ghost use Rattle.il_lexer.specs.declared.types.LexFault.TheVariants.{NoMemory};
+
+    ghost from_gives = { λ _ fault. fault ≡ NoMemory };
+
     fn from(_error: NoMemory) -> LexFault {
         LexFault::NoMemory
     }

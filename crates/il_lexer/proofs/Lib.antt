@@ -1,0 +1,6 @@
+mod BlockLemmas
+mod FrontLemmas
+mod LexLemmas
+mod PlaceLemmas
+mod RunLemmas
+mod WordNumbers

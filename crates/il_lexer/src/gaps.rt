@@ -1,0 +1,78 @@
+//! Gaps: blanks and comments.
+
+ghost use Rattle.std.specs.Prelude.{◌≡◌, ◌<◌, ◌≤◌, ◌==◌, not, length, drop, IfSome};
+ghost use Rattle.il_lexer.specs.Runs.{front};
+ghost use Rattle.il_lexer.specs.Gaps.{is_close, block_length, comment_length, gap_piece, gap};
+
+use crate::bytes::{behind, stands_at};
+use crate::classes::is_blank;
+use crate::runs::{Piece, run_of};
+
+// Whether a comment's end is at the front.
+fn is_close(rest: &[u8]) -> bool
+    ensures { result ≡ is_close rest.now }
+{
+    stands_at(rest, 0, b'*') && stands_at(rest, 1, b'/')
+}
+
+// The bytes up to and with the next `*/`.
+fn block_length(rest: &[u8]) -> Option<usize>
+    ensures value { result ≡ block_length rest.now }
+    ensures fits { IfSome result (λ n. n ≤ length rest.now) }
+{
+    let mut at = 0;
+    while at < rest.len() {
+        if is_close(behind(rest, at)) {
+            return Some(at + 2);
+        }
+        at += 1;
+    }
+    None
+}
+
+// The bytes up to the end of the line.
+fn line_length(rest: &[u8]) -> usize
+    ensures value { result ≡ front (λ c. not (c == 10)) rest.now }
+    ensures fits { result ≤ length rest.now }
+{
+    rest.iter().take_while(|b| **b != b'\n').count()
+}
+
+// The rest of a comment after its `/`.
+fn comment_length(rest: &[u8]) -> Option<usize>
+    ensures value { result ≡ comment_length rest.now }
+    ensures fits { IfSome result (λ n. n ≤ length rest.now) }
+{
+    match rest {
+        [b'/', more @ ..] => Some(1 + line_length(more)),
+        [b'*', more @ ..] => Some(1 + block_length(more)?),
+        _ => None,
+    }
+}
+
+struct GapPiece;
+
+impl Piece for GapPiece {
+    ghost piece_length = { λ _ bs. gap_piece bs };
+
+    fn piece(&self, rest: &[u8]) -> Option<usize> {
+        let [first, more @ ..] = rest else {
+            return None;
+        };
+        if is_blank(*first) {
+            return Some(1);
+        }
+        if *first != b'/' {
+            return None;
+        }
+        Some(1 + comment_length(more)?)
+    }
+}
+
+/// The bytes of the gap at the front, which may be none.
+pub fn gap(rest: &[u8]) -> usize
+    ensures value { result ≡ gap rest.now }
+    ensures within { result ≤ length rest.now }
+{
+    run_of(&GapPiece, rest).bytes
+}

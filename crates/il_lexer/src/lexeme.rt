@@ -1,0 +1,325 @@
+//! The token at the front of some bytes.
+
+ghost use Rattle.std.specs.Prelude.{◌≡◌, ◌+◌, ◌<◌, ◌≤◌, length, IfSome, IfOk};
+ghost use Rattle.il_lexer.specs.Tokens.{token, word_of, longer_word, bytearray_token, named, id_token, quoted_name_token, string_token, digits_token, minus_token, dot_token, hash_token, bracket_token, equals_token, paren_token, slash_token, doubled_token, mark_token, token_at};
+
+use crate::bytes::{behind, digit_at, stands_at};
+use crate::classes::{is_digit, is_id_start};
+use crate::pairs::{bytes_length, pairs_in};
+use crate::quotes::{quote_fault, quoted_length};
+use crate::spellings::{id_length, int_length, name_length};
+use crate::types::{Lexeme, TokenKind};
+use crate::word;
+use crate::words::word_number;
+
+// A token of `length` bytes.
+fn token(kind: TokenKind, length: usize) -> Result<Lexeme, u8>
+    ensures { result ≡ token kind length }
+{
+    Ok(Lexeme { kind, length })
+}
+
+// A word of one byte.
+fn mark(number: u16) -> Result<Lexeme, u8>
+    ensures { result ≡ token (TokenKind.Word number) 1 }
+{
+    token(TokenKind::Word(number), 1)
+}
+
+// The first `n` bytes as a word, where they are one.
+fn word_of(rest: &[u8], n: usize) -> Option<Lexeme>
+    requires { n ≤ length rest.now }
+    ensures value { result ≡ word_of rest.now n }
+    ensures fits { IfSome result (λ l. l.length ≡ n) }
+{
+    let number = word_number(&rest[..n])?;
+    Some(Lexeme {
+        kind: TokenKind::Word(number),
+        length: n,
+    })
+}
+
+// The word that goes on behind a name of `n` bytes: with a dot and a digit, or with a dot alone.
+#[tactic(auto, unfolding(crate::specs::Tokens::longer_word))]
+fn longer_word(rest: &[u8], n: usize) -> Option<Lexeme>
+    requires { n ≤ length rest.now }
+    ensures value { result ≡ longer_word rest.now n }
+    ensures fits { IfSome result (λ l. (0 < l.length) × (l.length ≤ length rest.now)) }
+{
+    if !stands_at(rest, n, b'.') {
+        return None;
+    }
+    if digit_at(rest, n + 1) {
+        if let Some(found) = word_of(rest, n + 2) {
+            return Some(found);
+        }
+    }
+    word_of(rest, n + 1)
+}
+
+// `bytearray`, of `n` bytes, with the bytes in parentheses that follow it, or without.
+#[tactic(auto, unfolding(crate::specs::Tokens::bytearray_token))]
+fn bytearray_token(rest: &[u8], n: usize) -> Lexeme
+    requires { n ≤ length rest.now }
+    ensures value { result ≡ bytearray_token rest.now n }
+    ensures fits { (n ≤ result.length) × (result.length ≤ length rest.now) }
+{
+    match bytes_length(behind(rest, n)) {
+        Some(more) => Lexeme {
+            kind: TokenKind::ByteArray,
+            length: n + more,
+        },
+        None => Lexeme {
+            kind: TokenKind::Word(word::BYTEARRAY),
+            length: n,
+        },
+    }
+}
+
+// The token that begins with a name of `n` bytes.
+#[tactic(auto, unfolding(crate::specs::Tokens::named))]
+fn named(rest: &[u8], n: usize) -> Lexeme
+    requires within { n ≤ length rest.now }
+    requires some { 0 < n }
+    ensures value { result ≡ named rest.now n }
+    ensures fits { (0 < result.length) × (result.length ≤ length rest.now) }
+{
+    if let Some(found) = longer_word(rest, n) {
+        return found;
+    }
+    match word_number(&rest[..n]) {
+        None => Lexeme {
+            kind: TokenKind::Name,
+            length: n,
+        },
+        Some(word::BYTEARRAY) => bytearray_token(rest, n),
+        Some(number) => Lexeme {
+            kind: TokenKind::Word(number),
+            length: n,
+        },
+    }
+}
+
+// At the first byte of an identifier.
+#[tactic(auto, unfolding(crate::specs::Tokens::id_token))]
+fn id_token(rest: &[u8]) -> Result<Lexeme, u8>
+    ensures value { result ≡ id_token rest.now }
+    ensures fits { IfOk result (λ l. (0 < l.length) × (l.length ≤ length rest.now)) }
+{
+    match name_length(rest) {
+        Some(n) => Ok(named(rest, n)),
+        None => Err(5),
+    }
+}
+
+// At a `'`.
+#[tactic(auto, unfolding(crate::specs::Tokens::quoted_name_token))]
+fn quoted_name_token(rest: &[u8]) -> Result<Lexeme, u8>
+    requires { 0 < length rest.now }
+    ensures value { result ≡ quoted_name_token rest.now }
+    ensures fits { IfOk result (λ l. (0 < l.length) × (l.length ≤ length rest.now)) }
+{
+    match name_length(rest) {
+        Some(n) => token(TokenKind::Name, n),
+        None => Err(quote_fault(b'\'', behind(rest, 1))),
+    }
+}
+
+// At a `"`.
+#[tactic(auto, unfolding(crate::specs::Tokens::string_token))]
+fn string_token(rest: &[u8]) -> Result<Lexeme, u8>
+    requires { 0 < length rest.now }
+    ensures value { result ≡ string_token rest.now }
+    ensures fits { IfOk result (λ l. (0 < l.length) × (l.length ≤ length rest.now)) }
+{
+    let text = behind(rest, 1);
+    match quoted_length(b'"', text) {
+        Some(n) => token(TokenKind::QString, n + 1),
+        None => Err(quote_fault(b'"', text)),
+    }
+}
+
+// At a digit.
+#[tactic(auto, unfolding(crate::specs::Tokens::digits_token))]
+fn digits_token(rest: &[u8]) -> Result<Lexeme, u8>
+    ensures value { result ≡ digits_token rest.now }
+    ensures fits { IfOk result (λ l. (0 < l.length) × (l.length ≤ length rest.now)) }
+{
+    match int_length(rest) {
+        Some(n) => token(TokenKind::Int, n),
+        None => Err(4),
+    }
+}
+
+// At a `-`.
+#[tactic(auto, unfolding(crate::specs::Tokens::minus_token))]
+fn minus_token(rest: &[u8]) -> Result<Lexeme, u8>
+    requires { 0 < length rest.now }
+    ensures value { result ≡ minus_token rest.now }
+    ensures fits { IfOk result (λ l. (0 < l.length) × (l.length ≤ length rest.now)) }
+{
+    match int_length(behind(rest, 1)) {
+        Some(n) => token(TokenKind::Int, n + 1),
+        None => mark(word::MINUS),
+    }
+}
+
+// At a dot: a directive or `...`.
+#[tactic(auto, unfolding(crate::specs::Tokens::dot_token))]
+fn dot_token(rest: &[u8]) -> Result<Lexeme, u8>
+    requires { 0 < length rest.now }
+    ensures value { result ≡ dot_token rest.now }
+    ensures fits { IfOk result (λ l. (0 < l.length) × (l.length ≤ length rest.now)) }
+{
+    if let Some(n) = id_length(behind(rest, 1)) {
+        let kind = match word_number(&rest[..n + 1]) {
+            Some(number) => TokenKind::Word(number),
+            None => TokenKind::Unused,
+        };
+        return token(kind, n + 1);
+    }
+    if stands_at(rest, 1, b'.') && stands_at(rest, 2, b'.') {
+        token(TokenKind::Word(word::ELLIPSIS), 3)
+    } else {
+        Err(5)
+    }
+}
+
+// At a `#`.
+#[tactic(auto, unfolding(crate::specs::Tokens::hash_token))]
+fn hash_token(rest: &[u8]) -> Result<Lexeme, u8>
+    requires { 0 < length rest.now }
+    ensures value { result ≡ hash_token rest.now }
+    ensures fits { IfOk result (λ l. (0 < l.length) × (l.length ≤ length rest.now)) }
+{
+    match id_length(behind(rest, 1)) {
+        Some(n) => token(TokenKind::Hash, n + 1),
+        None => Err(5),
+    }
+}
+
+// At a `[`: a bracket word or a name in brackets, or the mark.
+#[tactic(auto, unfolding(crate::specs::Tokens::bracket_token))]
+fn bracket_token(rest: &[u8]) -> Result<Lexeme, u8>
+    requires { 0 < length rest.now }
+    ensures value { result ≡ bracket_token rest.now }
+    ensures fits { IfOk result (λ l. (0 < l.length) × (l.length ≤ length rest.now)) }
+{
+    if let Some(n) = name_length(behind(rest, 1)) {
+        if stands_at(rest, n + 1, b']') {
+            let kind = match word_number(&rest[..n + 2]) {
+                Some(number) => TokenKind::Word(number),
+                None => TokenKind::Scope,
+            };
+            return token(kind, n + 2);
+        }
+    }
+    mark(word::OPEN_BRACKET)
+}
+
+// At a `=`.
+#[tactic(auto, unfolding(crate::specs::Tokens::equals_token))]
+fn equals_token(rest: &[u8]) -> Result<Lexeme, u8>
+    requires { 0 < length rest.now }
+    ensures value { result ≡ equals_token rest.now }
+    ensures fits { IfOk result (λ l. (0 < l.length) × (l.length ≤ length rest.now)) }
+{
+    match bytes_length(behind(rest, 1)) {
+        Some(n) => token(TokenKind::EqBytes, n + 1),
+        None => mark(word::EQUALS),
+    }
+}
+
+// At a `(`.
+#[tactic(auto, unfolding(crate::specs::Tokens::paren_token))]
+fn paren_token(rest: &[u8]) -> Result<Lexeme, u8>
+    requires { 0 < length rest.now }
+    ensures value { result ≡ paren_token rest.now }
+    ensures fits { IfOk result (λ l. (0 < l.length) × (l.length ≤ length rest.now)) }
+{
+    match pairs_in(behind(rest, 1)) {
+        Some(found) if found.count == 4 || found.count == 8 => {
+            token(TokenKind::RealBytes, found.bytes + 1)
+        }
+        _ => mark(word::OPEN_PAREN),
+    }
+}
+
+// At a `/`, which begins no comment that ends.
+#[tactic(auto, unfolding(crate::specs::Tokens::slash_token))]
+fn slash_token(rest: &[u8]) -> Result<Lexeme, u8>
+    requires { 0 < length rest.now }
+    ensures value { result ≡ slash_token rest.now }
+    ensures fits { IfOk result (λ l. (0 < l.length) × (l.length ≤ length rest.now)) }
+{
+    if stands_at(rest, 1, b'*') {
+        Err(2)
+    } else {
+        mark(word::SLASH)
+    }
+}
+
+// At a mark that may be doubled.
+fn doubled_token(byte: u8, one: u16, two: u16, rest: &[u8]) -> Result<Lexeme, u8>
+    requires { 0 < length rest.now }
+    ensures value { result ≡ doubled_token byte one two rest.now }
+    ensures fits { IfOk result (λ l. (0 < l.length) × (l.length ≤ length rest.now)) }
+{
+    if stands_at(rest, 1, byte) {
+        token(TokenKind::Word(two), 2)
+    } else {
+        mark(one)
+    }
+}
+
+// At any other byte: a mark of one byte.
+#[tactic(auto, unfolding(crate::specs::Tokens::mark_token))]
+fn mark_token(byte: u8) -> Result<Lexeme, u8>
+    ensures value { result ≡ mark_token byte }
+    ensures one { IfOk result (λ l. l.length ≡ 1) }
+{
+    match byte {
+        b'{' => mark(word::OPEN_BRACE),
+        b'}' => mark(word::CLOSE_BRACE),
+        b')' => mark(word::CLOSE_PAREN),
+        b']' => mark(word::CLOSE_BRACKET),
+        b'<' => mark(word::LESS),
+        b'>' => mark(word::GREATER),
+        b',' => mark(word::COMMA),
+        b'+' => mark(word::PLUS),
+        b'&' => mark(word::AMPERSAND),
+        b'*' => mark(word::STAR),
+        _ => Err(5),
+    }
+}
+
+/// The token at the front: the longest spelling that begins there, a word before a name of equal length. The error is the
+/// number of the rule that is broken where no token begins.
+#[tactic(auto, unfolding(crate::specs::Tokens::token_at))]
+pub fn token_at(rest: &[u8]) -> Result<Lexeme, u8>
+    requires { 0 < length rest.now }
+    ensures value { result ≡ token_at rest.now }
+    ensures fits { IfOk result (λ l. (0 < l.length) × (l.length ≤ length rest.now)) }
+{
+    let byte = rest[0];
+    if is_id_start(byte) {
+        return id_token(rest);
+    }
+    if is_digit(byte) {
+        return digits_token(rest);
+    }
+    match byte {
+        b'\'' => quoted_name_token(rest),
+        b'"' => string_token(rest),
+        b'.' => dot_token(rest),
+        b'#' => hash_token(rest),
+        b'[' => bracket_token(rest),
+        b'-' => minus_token(rest),
+        b'=' => equals_token(rest),
+        b'(' => paren_token(rest),
+        b'/' => slash_token(rest),
+        b':' => doubled_token(b':', word::COLON, word::DOUBLE_COLON, rest),
+        b'!' => doubled_token(b'!', word::BANG, word::DOUBLE_BANG, rest),
+        _ => mark_token(byte),
+    }
+}
