@@ -1,21 +1,18 @@
 -- The stream of encoded rows, read back.
-use Rattle.std.proofs.Common.{◌≡◌, ℕ, zero, suc, ◌+◌, ◌-◌, ◌*◌, ◌/◌, ◌%◌, ◌^◌, ◌<◌, ◌≤◌, List, [], ◌∷◌, ◌++◌, length, get_or, take, drop, refl, sym, ap, ◌∙◌, arith, Bool, true, false, cond, ⊎_elim, inl, inr, add-one}
-use Rattle.std.specs.Prelude.{slice_index, slice_index_or, ◌↔◌, nat_lt, if◌then◌else◌}
+use Rattle.std.proofs.Common.{◌≡◌, ℕ, zero, suc, ◌+◌, ◌-◌, ◌*◌, ◌%◌, ◌^◌, ◌<◌, ◌≤◌, List, [], ◌∷◌, ◌++◌, length, take, drop, refl, sym, ap, ◌∙◌, arith, ⊎_elim}
+use Rattle.std.specs.Prelude.{slice_index, slice_index_or}
 use Rattle.std.specs.Int.{bit_at}
-use Rattle.std.specs.Int.RustNames.{count_ones}
 use Rattle.std.proofs.Math.Nat.{mod-eq_of_lt}
 use Rattle.std.proofs.lemmas.Bool.{lt-ltb, le-ltb, cases_lt}
-use Rattle.std.proofs.lemmas.List.{append_assoc, append-nil, length-append, take_all, drop_at, get_or_past, get_or_default}
+use Rattle.std.proofs.lemmas.List.{append_assoc, length-append, take_all, drop_at, get_or_past}
 use Rattle.std.proofs.lemmas.List.Sums.{sum_by_more}
-use Rattle.std.proofs.lemmas.Nat.{pow_below}
 use Rattle.byteorder.specs.Endian.{little_number, little_bytes}
 use Rattle.byteorder.specs.Numbers.{little_number-reads_back, length-bytes_low_first}
 use Rattle.metadata_tables.specs.Schema.{columns_of}
-use Rattle.metadata_tables.specs.Stream.{present, header_size, count_place, row_count, heap_sizes, width, columns_size, column_of, column_width, column_place, row_size, table_start, row_end, cell_place, cell}
-use Rattle.metadata_tables.specs.Faults.{IsPresent, IsForeign, IsWhole}
+use Rattle.metadata_tables.specs.Stream.{present, header_size, count_place, row_count, heap_sizes, width, columns_size, column_of, column_width, column_place, row_size, table_start, cell_place, cell}
 use Rattle.metadata_tables.specs.Header.{IsKnown}
-use Rattle.metadata_tables.specs.Encoding.{rows_of, rows_in, cell_of, AreRows, IsRowOf, FitsWidths, Holds}
-use Rattle.metadata_tables.specs.Bytes.{FitsRow, joined, number_bytes, row_bytes, table_bytes, mask_upto, count_bytes, sorted_tables, header_bytes, widths_of, body_bytes}
+use Rattle.metadata_tables.specs.Encoding.{rows_of, rows_in, cell_of, AreRows, FitsWidths, Holds}
+use Rattle.metadata_tables.specs.Bytes.{FitsRow, joined, number_bytes, row_bytes, table_bytes, mask_upto, count_bytes, sorted_tables, header_bytes, widths_of}
 use Rattle.metadata_tables.specs.declared.schema.Column.TheVariants.{Number}
 use Rattle.metadata_tables.proofs.Bits.{count_place_none, count_place_more, row_count_there, row_count_none, count_place_all}
 use Rattle.metadata_tables.proofs.Joins.{joined_none, joined_more, joined_agree, joined_split}

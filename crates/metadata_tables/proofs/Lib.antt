@@ -10,6 +10,7 @@ pub mod Pieces
 pub mod Places
 pub mod Profile
 pub mod RowOf
+pub mod Small
 pub mod Sorting
 pub mod Table
 pub mod Tags

@@ -1,5 +1,5 @@
 -- Bytes behind the last row of a stream change nothing of its tables.
-use Rattle.std.proofs.Common.{◌≡◌, ℕ, zero, suc, ◌+◌, ◌-◌, ◌*◌, ◌%◌, ◌^◌, ◌<◌, ◌≤◌, List, [], ◌∷◌, ◌++◌, length, get_or, take, drop, refl, sym, ap, ◌∙◌, arith, ⊎_elim, add-one}
+use Rattle.std.proofs.Common.{◌≡◌, ℕ, zero, suc, ◌+◌, ◌-◌, ◌*◌, ◌%◌, ◌^◌, ◌<◌, ◌≤◌, List, ◌++◌, length, take, drop, refl, sym, ap, ◌∙◌, arith, ⊎_elim}
 use Rattle.std.specs.Int.{bit_at}
 use Rattle.std.specs.Int.RustNames.{count_ones}
 use Rattle.std.proofs.lemmas.Bool.{cases_eq}
@@ -8,8 +8,8 @@ use Rattle.byteorder.specs.Endian.{little_number}
 use Rattle.byteorder.specs.Numbers.{little_from-append}
 use Rattle.metadata_tables.specs.Schema.{columns_of}
 use Rattle.metadata_tables.specs.Stream.{present, header_size, count_place, row_count, heap_sizes, width, columns_size, column_of, column_width, column_place, row_size, table_start, row_end, cell_place, cell, IsRow}
-use Rattle.metadata_tables.specs.Faults.{IsPresent, IsForeign, IsWhole}
-use Rattle.metadata_tables.specs.Laws.{KeepsTables, LongerStream}
+use Rattle.metadata_tables.specs.Faults.{IsWhole}
+use Rattle.metadata_tables.specs.Laws.{LongerStream}
 use Rattle.metadata_tables.proofs.Bits.{header_size_is, count_fits, row_count_there, row_count_none}
 use Rattle.metadata_tables.proofs.Places.{cell_is, cell_lies}
 

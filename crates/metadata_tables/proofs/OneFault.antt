@@ -1,7 +1,7 @@
 -- A stream has one fault at most, and a whole stream has none.
-use Rattle.std.proofs.Common.{◌≡◌, ℕ, ◌+◌, ◌<◌, ◌≤◌, ◌⊎◌, List, length, sym, ap, ◌∙◌, arith, inl, inr, ⊎_elim}
+use Rattle.std.proofs.Common.{◌≡◌, ℕ, List, sym, ◌∙◌, arith, inl, inr, ⊎_elim}
 use Rattle.std.proofs.lemmas.Bool.{cases_order}
-use Rattle.metadata_tables.specs.Faults.{IsWhole, IsForeign, IsFault, IsHeaderFault, IsProfileFault, IsRowFault}
+use Rattle.metadata_tables.specs.Faults.{IsWhole, IsFault, IsHeaderFault, IsProfileFault, IsRowFault}
 use Rattle.metadata_tables.specs.Laws.{OneFault}
 use Rattle.metadata_tables.specs.declared.fault.TableFault.{TableFault}
 

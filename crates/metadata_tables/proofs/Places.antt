@@ -1,15 +1,15 @@
 -- Where rows lie in a stream: the tables' starts rise, and a row that lies before the next table's start
 -- lies in the stream.
-use Rattle.std.proofs.Common.{◌≡◌, ℕ, zero, suc, ◌+◌, ◌-◌, ◌*◌, ◌/◌, ◌^◌, ◌<◌, ◌≤◌, List, [], length, get_or, set, drop, refl, sym, ap, ◌∙◌, subst, arith, inl, inr, ⊎_elim, add-one}
+use Rattle.std.proofs.Common.{◌≡◌, ℕ, zero, suc, ◌+◌, ◌-◌, ◌*◌, ◌/◌, ◌<◌, ◌≤◌, List, length, set, drop, refl, sym, ◌∙◌, subst, arith, ⊎_elim, add-one}
 use Rattle.std.specs.Prelude.{slice_index, slice_index_or}
 use Rattle.std.proofs.Math.Nat.{le_refl, mul-le-mul_right, mul-div-le, lt-mul-div-succ, div-lt_iff_lt-mul}
 use Rattle.std.proofs.lemmas.Bool.{cases_lt, cases_eq}
 use Rattle.std.proofs.lemmas.List.{get_or-set_same, get_or-set_other, length-set}
 use Rattle.metadata_tables.specs.Schema.{columns_of}
-use Rattle.metadata_tables.specs.Stream.{present, header_size, row_count, heap_sizes, row_size, table_start, row_end, IsRow, columns_size, width, column_place, column_width, cell_place, cell}
-use Rattle.metadata_tables.specs.Faults.{IsWhole, IsForeign, IsRowFault, IsEarlier}
+use Rattle.metadata_tables.specs.Stream.{header_size, row_count, heap_sizes, row_size, table_start, row_end, IsRow, width, column_place, column_width, cell_place, cell}
+use Rattle.metadata_tables.specs.Faults.{IsWhole, IsRowFault}
 use Rattle.metadata_tables.specs.Header.{IsHeaderOf, IsKnown}
-use Rattle.metadata_tables.specs.Layout.{IsLayoutOf, IsIndexOf, IsIndexed}
+use Rattle.metadata_tables.specs.Layout.{IsLayoutOf, IsIndexOf}
 use Rattle.std.proofs.lemmas.List.Sums.{sum_by_more_le}
 use Rattle.byteorder.specs.Endian.{little_number}
 use Rattle.metadata_tables.specs.declared.schema.Column.TheVariants.{Number}

@@ -1,5 +1,5 @@
 -- Tables that are present and have no columns: the bits that are left when those of the profile are cleared.
-use Rattle.std.proofs.Common.{◌≡◌, ℕ, ◌+◌, ◌-◌, ◌^◌, ◌<◌, ◌≤◌, List, [], length, min, refl, sym, ap, ◌∙◌, arith, Bool, true, eqb, ⊎_elim}
+use Rattle.std.proofs.Common.{◌≡◌, ℕ, ◌-◌, ◌^◌, ◌<◌, List, [], length, min, refl, sym, ap, ◌∙◌, arith, Bool, true, eqb, ⊎_elim}
 use Rattle.std.specs.Int.{bit_at, bit_not, trailing_zeros, w64}
 use Rattle.std.specs.Int.RustNames.{bit_and}
 use Rattle.std.proofs.lemmas.Nat.Bits.{bit_at_and, bit_at_not, bit_at_above, bit_at-lt, bit_at-zero, bit_at-trailing_zeros}

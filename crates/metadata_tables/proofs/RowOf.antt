@@ -1,8 +1,8 @@
 -- Cells that fit the columns one after another fit them by number.
-use Rattle.std.proofs.Common.{◌≡◌, ℕ, zero, suc, ◌+◌, ◌<◌, List, [], ◌∷◌, length, get_or, refl, ap, arith}
+use Rattle.std.proofs.Common.{◌≡◌, ℕ, zero, suc, ◌<◌, List, [], ◌∷◌, length, refl, ap, arith}
 use Rattle.std.specs.Prelude.{slice_index, slice_index_or}
 use Rattle.metadata_tables.specs.Schema.{columns_of}
-use Rattle.metadata_tables.specs.Encoding.{FitsNumber, IsRowOf}
+use Rattle.metadata_tables.specs.Encoding.{FitsNumber}
 use Rattle.metadata_tables.specs.Laws.{FitColumns, RowOfColumns}
 use Rattle.metadata_tables.specs.declared.schema.Column.{Column}
 use Rattle.metadata_tables.specs.declared.schema.Column.TheVariants.{Number}

@@ -1,6 +1,6 @@
 -- The code's table of columns against the schema, and facts of the schema that hold of each table.
-use Rattle.std.proofs.Common.{◌≡◌, ℕ, suc, ◌+◌, ◌-◌, ◌<◌, ◌≤◌, List, [], ◌∷◌, length, map, get_or, take, drop, refl, sym, ap, ◌∙◌, arith, Bool, true, false, ⊎_elim, leb, ◌&&◌}
-use Rattle.std.specs.List.{range_with_len, list_all}
+use Rattle.std.proofs.Common.{◌≡◌, ℕ, ◌+◌, ◌-◌, ◌<◌, ◌≤◌, List, [], length, map, get_or, take, drop, refl, sym, ap, ◌∙◌, arith, Bool, true, ⊎_elim, leb, ◌&&◌}
+use Rattle.std.specs.List.{range_with_len}
 use Rattle.std.proofs.lemmas.List.{get_or_past}
 use Rattle.std.proofs.lemmas.List.FromFn.{get_or-map-range_with_len}
 use Rattle.std.proofs.lemmas.Bool.{agree_below, agree_below_at, leb-true, and_parts, cases_lt}

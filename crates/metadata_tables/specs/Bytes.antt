@@ -1,8 +1,8 @@
 -- The bytes of rows that are written: one piece after another.
-use Rattle.std.specs.Prelude.{ℕ, zero, suc, ◌+◌, ◌^◌, ◌≡◌, ◌<◌, ◌≤◌, ◌⊎◌, nat_lt, List, [], ◌∷◌, ◌++◌, length, slice_index, slice_index_or, if◌then◌else◌}
+use Rattle.std.specs.Prelude.{ℕ, zero, suc, ◌+◌, ◌^◌, ◌≡◌, ◌<◌, ◌⊎◌, nat_lt, List, [], ◌∷◌, ◌++◌, length, slice_index, slice_index_or, if◌then◌else◌}
 use Rattle.byteorder.specs.Endian.{little_bytes}
 use Rattle.metadata_tables.specs.Stream.{width, column_of}
-use Rattle.metadata_tables.specs.Encoding.{rows_of, rows_in}
+use Rattle.metadata_tables.specs.Encoding.{rows_of}
 
 -- the pieces 0, 1 and on, up to n of them
 unfoldable pub joined : (ℕ → List ℕ) → ℕ → List ℕ

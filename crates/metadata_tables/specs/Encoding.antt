@@ -1,11 +1,11 @@
 -- Rows to be written, and the stream that holds them.
-use Rattle.std.specs.Prelude.{◌≡◌, ◌≢◌, ℕ, suc, ◌+◌, ◌-◌, ◌*◌, ◌^◌, ◌<◌, ◌≤◌, ◌↔◌, List, [], ◌∷◌, ◌++◌, length, take, drop, map, slice_index, slice_index_or}
+use Rattle.std.specs.Prelude.{◌≡◌, ◌≢◌, ℕ, suc, ◌*◌, ◌^◌, ◌<◌, ◌↔◌, List, [], ◌∷◌, ◌++◌, length, take, drop, map, slice_index, slice_index_or}
 use Rattle.std.specs.List.{range_with_len}
 use Rattle.metadata_tables.specs.Schema.{columns_of}
-use Rattle.metadata_tables.specs.Stream.{heap_sizes, row_count, width, column_of, cell, table_start}
+use Rattle.metadata_tables.specs.Stream.{row_count, width, column_of, cell, table_start}
 use Rattle.metadata_tables.specs.Faults.{IsPresent, IsWhole}
 use Rattle.metadata_tables.specs.declared.schema.Column.{Column}
-use Rattle.metadata_tables.specs.declared.schema.Column.TheVariants.{Number, Strings, Guids, Blobs, Row, Run, Tagged}
+use Rattle.metadata_tables.specs.declared.schema.Column.TheVariants.{Number}
 
 -- the rows of a table, each a list of its cells, in all rows by table
 abbrev pub rows_of : List (List (List ℕ)) → ℕ → List (List ℕ)

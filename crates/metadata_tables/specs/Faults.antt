@@ -1,5 +1,5 @@
 -- What makes bytes a stream of tables, and the first fault where they are none.
-use Rattle.std.specs.Prelude.{◌≡◌, ◌≢◌, ℕ, suc, ◌+◌, ◌<◌, ◌≤◌, ◌⊎◌, List, [], length}
+use Rattle.std.specs.Prelude.{◌≡◌, ℕ, ◌<◌, ◌≤◌, ◌⊎◌, List, [], length}
 use Rattle.std.specs.Int.{bit_at}
 use Rattle.metadata_tables.specs.Schema.{columns_of}
 use Rattle.metadata_tables.specs.Stream.{present, header_size, row_end, IsRow}

@@ -1,8 +1,8 @@
 -- What the reading side keeps beside a stream, so that a cell's place takes no sum.
 use Rattle.std.specs.Prelude.{◌≡◌, ℕ, ◌<◌, List, length, take, slice_index, slice_index_or}
 use Rattle.metadata_tables.specs.Schema.{columns_of}
-use Rattle.metadata_tables.specs.Stream.{width, columns_size, heap_sizes, header_size, present, row_count, table_start}
-use Rattle.metadata_tables.specs.Faults.{IsWhole, IsForeign}
+use Rattle.metadata_tables.specs.Stream.{width, columns_size, heap_sizes, row_count, table_start}
+use Rattle.metadata_tables.specs.Faults.{IsWhole}
 use Rattle.metadata_tables.specs.declared.schema.Column.{Column}
 use Rattle.metadata_tables.specs.declared.schema.Column.TheVariants.{Number}
 use Rattle.metadata_tables.specs.declared.layout.RowLayout.{RowLayout}

@@ -1,6 +1,6 @@
 -- The stream `#~` of ECMA-335 II.24.2.6: its header, its tables, and the cells of their rows. Tables are
 -- named by their numbers, rows are counted from 1 and columns from 0. A list of bytes is a whole stream.
-use Rattle.std.specs.Prelude.{◌≡◌, ℕ, zero, suc, ◌+◌, ◌*◌, ◌-◌, ◌/◌, ◌%◌, ◌^◌, ◌<◌, ◌≤◌, ◌==◌, nat_lt, List, [], ◌∷◌, length, drop, take, slice_index, slice_index_or, sum_by, if◌then◌else◌}
+use Rattle.std.specs.Prelude.{ℕ, zero, suc, ◌+◌, ◌*◌, ◌-◌, ◌%◌, ◌^◌, ◌<◌, ◌≤◌, ◌==◌, nat_lt, List, drop, take, slice_index, slice_index_or, sum_by, if◌then◌else◌}
 use Rattle.std.specs.Int.{bit_at}
 use Rattle.std.specs.Int.RustNames.{count_ones}
 use Rattle.std.specs.List.{list_all}

@@ -36,7 +36,7 @@ fn opens_or_names_the_fault(rt: HostRuntime) -> Result<(), Fail> {
         (1 << 0x2D | 1 << 0x1A, &[0, 0], 0, (6, 0x1A, 0)),
         // row counts whose rows' sizes pass 2 ^ 32 together
         (5, &[1, u32::MAX], 1000, (7, 2, 62)),
-        (1 << 0x2C | 1, &[0, u32::MAX], 7, (7, 0x2C, 1)),
+        (1 << 0x2C | 1, &[0, u32::MAX], 7, (7, 0x2C, 2)),
         // a row that is cut in its first byte
         (5, &[1, 2], 10 + 14, (7, 2, 2)),
     ];
@@ -53,27 +53,27 @@ fn opens_or_names_the_fault(rt: HostRuntime) -> Result<(), Fail> {
     Ok(())
 }
 
-/// Rows of three tables are read back from their stream.
+/// One row of Module opens with one row; rows of three tables have the standard's bytes.
 #[test]
 fn encodes_rows(rt: HostRuntime) -> Result<(), Fail> {
     let mut rows = Rows::new(rt.alloc());
-    assert_eq!(rt; rows.push(0x00, &[0, 1, 1, 0, 0])?, 1);
+    rows.push(0x00, &[0, 1, 1, 0, 0])?;
     let one = encode(rt.alloc(), &rows, 0)?;
     assert_eq!(rt; TableView::open(one.as_slice())?.rows(0x00), 1);
     rows.push(0x2A, &[1, 0, 2, 7])?;
     rows.push(0x2A, &[0, 0, 2, 7])?;
-    rows.push(0x0B, &[8, 0, 4, 0x1_0000])?;
+    rows.push(0x0B, &[8, 0, 4, 9])?;
     let bytes = encode(rt.alloc(), &rows, 4)?;
     let want = [
         0, 0, 0, 0, 2, 0, 4, 1, 1, 8, 0, 0, 0, 4, 0, 0, 0, 0x9A, 1, 0x23, 0, 0x16, 0, 0, 1, 0, 0,
-        0, 1, 0, 0, 0, 2, 0, 0, 0, 0, 0, 1, 0, 1, 0, 0, 0, 0, 0, 8, 0, 4, 0, 0, 0, 1, 0, 1, 0, 0,
+        0, 1, 0, 0, 0, 2, 0, 0, 0, 0, 0, 1, 0, 1, 0, 0, 0, 0, 0, 8, 0, 4, 0, 9, 0, 0, 0, 1, 0, 0,
         0, 2, 0, 7, 0, 0, 0, 0, 0, 2, 0, 7, 0,
     ];
     assert_eq!(rt; bytes.as_slice(), want.as_slice());
     let view = TableView::open(bytes.as_slice())?;
-    assert_eq!(rt; view.rows(0x2A), 2);
-    assert_eq!(rt; view.cell(0x0B, 1, 3), 0x1_0000);
     assert!(rt; !view.sorted(0x2A) && view.sorted(0x0B));
+    assert_eq!(rt; view.rows(0x0B), 1);
+    assert_eq!(rt; view.cell(0x0B, 1, 3), 9);
     Ok(())
 }
 

@@ -1,10 +1,9 @@
-use Rattle.std.proofs.Common.{◌≡◌, ◌+◌, ◌<◌, ◌≤◌, ◌++◌, ℕ, List, [], length, refl, sym, ap, ◌∙◌, arith}
-use Rattle.std.specs.Prelude.{slice_index, slice_index_or}
+use Rattle.std.proofs.Common.{◌≡◌, ◌<◌, ◌++◌, ℕ, List, length, ap, ◌∙◌, arith}
+use Rattle.std.specs.Prelude.{slice_index}
 use Rattle.metadata_tables.specs.Schema.{columns_of}
-use Rattle.metadata_tables.specs.Stream.{width, column_of}
 use Rattle.metadata_tables.specs.Layout.{IsLayoutOf}
-use Rattle.metadata_tables.specs.Encoding.{rows_of, rows_in, Holds}
-use Rattle.metadata_tables.specs.Bytes.{header_bytes, body_bytes, table_bytes, widths_of, FitsRow}
+use Rattle.metadata_tables.specs.Encoding.{rows_of, rows_in}
+use Rattle.metadata_tables.specs.Bytes.{header_bytes, body_bytes, table_bytes, widths_of}
 use Rattle.metadata_tables.specs.declared.schema.Column.{Column}
 use Rattle.metadata_tables.specs.declared.layout.RowLayout.{RowLayout}
 use Rattle.metadata_tables.proofs.Joins.{joined_start, joined_push}

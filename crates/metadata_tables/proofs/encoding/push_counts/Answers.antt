@@ -1,4 +1,4 @@
-use Rattle.std.proofs.Common.{◌≡◌, ◌++◌, ◌<◌, ◌≤◌, ℕ, List, [], length, sym, ap, ◌∙◌, arith}
+use Rattle.std.proofs.Common.{◌≡◌, ◌++◌, ℕ, List, ◌∙◌}
 use Rattle.std.specs.Prelude.{slice_index}
 use Rattle.metadata_tables.specs.Bytes.{count_bytes}
 use Rattle.metadata_tables.proofs.Joins.{joined_start, joined_push, count_some, count_skip}

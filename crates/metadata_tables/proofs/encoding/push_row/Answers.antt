@@ -1,4 +1,4 @@
-use Rattle.std.proofs.Common.{◌≡◌, ℕ, List, length, arith}
+use Rattle.std.proofs.Common.{ℕ, List, length, arith}
 use Rattle.std.specs.Prelude.{slice_index}
 use Rattle.metadata_tables.specs.Bytes.{number_bytes}
 use Rattle.metadata_tables.proofs.Joins.{joined_start, joined_push, joined_end}

@@ -1,4 +1,4 @@
-use Rattle.std.proofs.Common.{◌≡◌, ◌<◌, ℕ, List, [], length, ap, arith}
+use Rattle.std.proofs.Common.{◌≡◌, ◌<◌, ℕ, List, [], length, arith}
 use Rattle.std.specs.Prelude.{slice_index, slice_index_or}
 use Rattle.metadata_tables.specs.Bytes.{row_bytes, FitsRow}
 use Rattle.metadata_tables.proofs.Joins.{joined_start, joined_push}

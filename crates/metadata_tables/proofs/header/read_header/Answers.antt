@@ -1,13 +1,9 @@
-use Rattle.std.proofs.Common.{◌≡◌, ℕ, ◌+◌, ◌*◌, ◌^◌, ◌<◌, ◌≤◌, List, [], length, sym, ap, ◌∙◌, arith, inl, inr, ⊎_elim, refl}
-use Rattle.std.specs.Prelude.{slice_index}
-use Rattle.std.specs.Int.{bit_at, w64}
+use Rattle.std.proofs.Common.{ℕ, ◌+◌, ◌*◌, ◌<◌, ◌≤◌, length, sym, ap, ◌∙◌, arith, inl, inr, ⊎_elim, refl}
 use Rattle.std.specs.Int.RustNames.{count_ones}
 use Rattle.std.proofs.lemmas.Bool.{cases_lt}
 use Rattle.std.proofs.lemmas.List.{get_or_past}
-use Rattle.metadata_tables.specs.Schema.{columns_of}
-use Rattle.metadata_tables.specs.Stream.{present, header_size, row_count}
-use Rattle.metadata_tables.specs.Faults.{IsForeign, IsHeaderFault, IsProfileFault}
-use Rattle.metadata_tables.specs.Header.{IsHeaderOf, IsKnown}
+use Rattle.metadata_tables.specs.Stream.{header_size}
+use Rattle.metadata_tables.specs.Faults.{IsForeign}
 use Rattle.metadata_tables.proofs.Bits.{header_size_is, row_count_none}
 use Rattle.metadata_tables.proofs.Profile.{no_foreign, first_foreign}
 use Rattle.metadata_tables.proofs.Table.{columns_past}

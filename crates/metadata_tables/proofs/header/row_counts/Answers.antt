@@ -1,8 +1,8 @@
-use Rattle.std.proofs.Common.{◌≡◌, ◌<◌, ◌≤◌, ℕ, ◌+◌, length, drop, sym, ap, ◌∙◌, arith, refl}
+use Rattle.std.proofs.Common.{◌≡◌, ◌≤◌, ℕ, ◌+◌, length, drop, sym, ap, ◌∙◌, arith, refl}
 use Rattle.std.specs.Int.{bit_at}
 use Rattle.byteorder.specs.Endian.{little_number}
 use Rattle.std.proofs.lemmas.List.{length-set}
-use Rattle.metadata_tables.specs.Stream.{present, count_place, row_count}
+use Rattle.metadata_tables.specs.Stream.{present, row_count}
 use Rattle.metadata_tables.proofs.Bits.{count_place_none, count_place_more, count_fits, row_count_there, row_count_none, bit_none, set_more}
 use Rattle.metadata_tables.proofs.header.row_counts.Goals as goal
 use Rattle.metadata_tables.proofs.header.row_counts.Goals.{then-mask-table-eq1, else-mask-table-eq1, Then-mask-table-eq1}

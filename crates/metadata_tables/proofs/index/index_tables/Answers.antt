@@ -1,10 +1,9 @@
-use Rattle.std.proofs.Common.{◌≡◌, ℕ, ◌+◌, ◌-◌, ◌*◌, ◌^◌, ◌<◌, ◌≤◌, List, [], length, sym, ap, ◌∙◌, arith, inl, inr, ⊎_elim, refl}
+use Rattle.std.proofs.Common.{◌≡◌, ◌-◌, ◌*◌, ◌≤◌, length, sym, ap, ◌∙◌, arith, refl}
 use Rattle.std.specs.Prelude.{slice_index}
-use Rattle.metadata_tables.specs.Stream.{header_size, row_count, row_size, table_start, heap_sizes}
+use Rattle.metadata_tables.specs.Stream.{row_count, heap_sizes}
 use Rattle.metadata_tables.specs.Schema.{columns_of}
 use Rattle.metadata_tables.specs.Layout.{IsLayoutOf, IsIndexOf}
 use Rattle.metadata_tables.specs.declared.index.TableIndex.{TableIndex}
-use Rattle.metadata_tables.specs.Header.{IsKnown}
 use Rattle.metadata_tables.proofs.Places.{table_start_none, indexed_more, row_fault, whole, layout_of, size_of}
 use Rattle.metadata_tables.proofs.index.index_tables.Goals as goal
 use Rattle.metadata_tables.proofs.index.index_tables.Goals.{After-from-size}

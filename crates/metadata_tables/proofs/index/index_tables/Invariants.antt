@@ -1,4 +1,3 @@
-use Rattle.std.proofs.Common.{◌≡◌, ◌<◌, ◌≤◌, ℕ, length}
 use Rattle.metadata_tables.proofs.Places.{IsIndexedUpto}
 use Rattle.metadata_tables.proofs.index.index_tables.Given as goal
 

@@ -1,7 +1,4 @@
-use Rattle.std.proofs.Common.{◌≡◌, ◌<◌, ◌≤◌, ◌*◌, ℕ, length, slice_index, take}
-use Rattle.std.specs.Prelude.{slice_index_or}
-use Rattle.metadata_tables.specs.Stream.{width, columns_size}
-use Rattle.metadata_tables.specs.declared.schema.Column.TheVariants.{Number}
+use Rattle.std.proofs.Common.{slice_index}
 use Rattle.metadata_tables.proofs.Layouts.{IsLaidUpto}
 use Rattle.metadata_tables.proofs.layout.row_layout.Given as goal
 

@@ -1,4 +1,4 @@
-use Rattle.std.proofs.Common.{◌≡◌, ◌≤◌, ◌∙◌, length, sym, ap, arith}
+use Rattle.std.proofs.Common.{◌≡◌, sym, arith}
 use Rattle.metadata_tables.specs.Schema.{columns_of}
 use Rattle.metadata_tables.proofs.Table.{part_is, starts_rise, columns_past, columns_few}
 use Rattle.metadata_tables.proofs.schema.columns.Goals as goal

@@ -1,4 +1,4 @@
-use Rattle.std.proofs.Common.{◌≡◌, ◌<◌, ℕ, [], length, get_or, rules}
+use Rattle.std.proofs.Common.{◌≡◌, ◌<◌, ℕ, [], get_or, rules}
 use Rattle.metadata_tables.proofs.AddedRows.{none, are_none}
 use Rattle.metadata_tables.proofs.rows.Rows.new.Goals as goal
 use Rattle.metadata_tables.proofs.rows.Rows.new.Goals.{After-from_fn}

@@ -1,7 +1,6 @@
-use Rattle.std.proofs.Common.{◌≡◌, ◌<◌, ◌+◌, ◌-◌, ◌^◌, ◌++◌, ◌∷◌, [], ℕ, List, length, get_or, set, sym, ap, ◌∙◌, arith}
-use Rattle.std.specs.List.{All}
-use Rattle.std.proofs.lemmas.List.{get_or_default, length-set, length_push}
-use Rattle.metadata_tables.specs.Encoding.{rows_of, rows_in, IsRowOf, AddsRow}
+use Rattle.std.proofs.Common.{◌≡◌, length, get_or, set, sym, ap, ◌∙◌, arith}
+use Rattle.std.proofs.lemmas.List.{length-set, length_push}
+use Rattle.metadata_tables.specs.Encoding.{rows_of, AddsRow}
 use Rattle.metadata_tables.proofs.AddedRows.{table_known, table_there, added_at, rows_at, rows_of-set, are_rows, alike}
 use Rattle.metadata_tables.proofs.rows.Rows.push.Goals as goal
 use Rattle.metadata_tables.proofs.rows.Rows.push.Goals.{In_ok-push, After-index-self-from}

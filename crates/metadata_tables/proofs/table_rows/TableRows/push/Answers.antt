@@ -1,4 +1,4 @@
-use Rattle.std.proofs.Common.{◌≡◌, ◌<◌, ◌≤◌, ◌+◌, ◌*◌, ◌++◌, ◌∷◌, [], ℕ, List, length, sym, ap, ◌∙◌, arith, refl, length-append}
+use Rattle.std.proofs.Common.{◌≡◌, ◌+◌, ◌*◌, ◌++◌, ◌∷◌, [], ℕ, List, length, ap, arith, refl, length-append}
 use Rattle.std.specs.List.{All}
 use Rattle.metadata_tables.specs.Encoding.{pieces}
 use Rattle.metadata_tables.proofs.Pieces.{length-pieces, resized, pieces_more}
