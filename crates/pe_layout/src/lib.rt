@@ -15,7 +15,6 @@ mod writer;
 
 pub use fault::PeFault;
 pub use parts::{Kind, ManifestNumbers, Parts};
-pub use section::Section;
 pub use view::{PeView, open};
 pub use writer::{code_rva, write};
 

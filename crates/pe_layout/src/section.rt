@@ -8,17 +8,15 @@ ghost use Rattle.pe_layout.specs.Faults.{has_cli_header};
 
 use crate::field::u32_at;
 
-/// What a section's header says of memory and file (ECMA-335 II.25.3).
-#[derive(Debug, Clone, Copy, PartialEq, Eq)]
-pub struct Section {
-    /// How many bytes it takes in memory; where this is 0, as many as in the file.
-    pub virtual_size: u32,
-    /// The RVA at which it begins.
-    pub virtual_address: u32,
-    /// How many bytes of the file belong to it.
-    pub raw_size: u32,
-    /// The place in the file of the first of them.
-    pub raw_place: u32,
+// What a section's header says of memory and file (II.25.3): how many bytes it takes in memory, where
+// this is 0 as many as in the file; the RVA at which it begins; how many bytes of the file belong to it,
+// and the place of the first of them.
+#[derive(Clone, Copy)]
+pub(crate) struct Section {
+    virtual_size: u32,
+    virtual_address: u32,
+    raw_size: u32,
+    raw_place: u32,
 }
 
 impl Section {
