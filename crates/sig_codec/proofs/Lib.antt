@@ -1,0 +1,10 @@
+pub mod Loop
+pub mod Methods
+pub mod Again
+pub mod Budget
+pub mod Layers
+pub mod Numbers
+pub mod Parts
+pub mod Steps
+pub mod Takes
+pub mod Whole

@@ -1,0 +1,5 @@
+pub mod Tokens
+pub mod Spelling
+pub mod Signature
+pub mod Spellable
+pub mod Reading
