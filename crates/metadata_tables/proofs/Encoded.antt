@@ -11,9 +11,10 @@ use Rattle.byteorder.specs.Numbers.{little_number-reads_back, length-bytes_low_f
 use Rattle.metadata_tables.specs.Schema.{columns_of}
 use Rattle.metadata_tables.specs.Stream.{present, header_size, count_place, row_count, heap_sizes, width, columns_size, column_of, column_width, column_place, row_size, table_start, cell_place, cell}
 use Rattle.metadata_tables.specs.Header.{IsKnown}
-use Rattle.metadata_tables.specs.Encoding.{rows_of, rows_in, cell_of, AreRows, FitsWidths, Holds}
+use Rattle.metadata_tables.specs.Encoding.{rows_of, rows_in, cell_of, AreRows, FitsWidths, FitsIndex, FitsNumber, Holds}
 use Rattle.metadata_tables.specs.Bytes.{FitsRow, joined, number_bytes, row_bytes, table_bytes, mask_upto, count_bytes, sorted_tables, header_bytes, widths_of}
-use Rattle.metadata_tables.specs.declared.schema.Column.TheVariants.{Number}
+use Rattle.metadata_tables.specs.declared.schema.Column.{Column}
+use Rattle.metadata_tables.specs.declared.schema.Column.TheVariants.{Number, Strings, Guids, Blobs, Row, Run, Tagged}
 use Rattle.metadata_tables.proofs.Bits.{count_place_none, count_place_more, row_count_there, row_count_none, count_place_all}
 use Rattle.metadata_tables.proofs.Joins.{joined_none, joined_more, joined_agree, joined_split}
 use Rattle.metadata_tables.proofs.Masks.{has, has_some, has_none, mask_lt, bit_at-mask, bit_at-mask_past}
@@ -131,6 +132,24 @@ module _ (f : ℕ → ℕ) (heaps : ℕ) (body : List ℕ) (few : (t : ℕ) → 
   header_ends =
       let low : present stream % 2 ^ 45 ≡ present stream = rw present_there (mod-eq_of_lt (mask_lt f 45)) in
       ap length header_is ∙ count_at 45 ∙ count_place_all stream 45 low
+
+-- ---- widths
+
+-- a cell whose index fits and whose number fits can be written in its width
+fits_width : (f : ℕ → ℕ) (heaps : ℕ) (column : Column) (value : ℕ) → FitsNumber column value → FitsIndex f heaps column value → value < 256 ^ width f heaps column
+fits_width f heaps (Number bytes) value number index = number
+fits_width f heaps (Strings nil) value number index = index
+fits_width f heaps (Guids nil) value number index = index
+fits_width f heaps (Blobs nil) value number index = index
+fits_width f heaps (Row t) value number index = index
+fits_width f heaps (Run t) value number index = index
+fits_width f heaps (Tagged kind nil) value number index = index
+
+all_fit : (tables : List (List (List ℕ))) (heaps : ℕ) → AreRows tables → FitsWidths tables heaps → (t r c : ℕ) → r < rows_in tables t → c < length (columns_of t) → cell_of tables t r c < 256 ^ width (rows_in tables) heaps (column_of t c)
+all_fit tables heaps are fits t r c row column =
+    let is = are.rows t r row in
+    let count = is.cells_count in
+    fits_width (rows_in tables) heaps (column_of t c) (cell_of tables t r c) (is.numbers c (omega (arith, column, count))) (fits t r c row column)
 
 -- ---- rows
 
@@ -267,7 +286,7 @@ module _ (tables : List (List (List ℕ))) (heaps : ℕ) (are : AreRows tables) 
       cell_is whole_stream t (suc r) c
       ∙ ap (λ (w : ℕ). little_number w (drop (cell_place whole_stream t (suc r) c) whole_stream)) (column_width_is whole_stream f heaps same sizes t c)
       ∙ ap (λ (z : List ℕ). little_number (widths_of f heaps t c) (drop (cell_place whole_stream t (suc r) c) z)) parts
-      ∙ number_read before after (widths_of f heaps t c) (slice_index cells c) (cell_place whole_stream t (suc r) c) at (fits t r c row column)
+      ∙ number_read before after (widths_of f heaps t c) (slice_index cells c) (cell_place whole_stream t (suc r) c) at (all_fit tables heaps are fits t r c row column)
 
   ends : length whole_stream ≡ table_start whole_stream 45
   ends = start_at 45
@@ -311,4 +330,4 @@ row_fits tables heaps widths t r are fits same row k h =
     let count = (are.rows t r row).cells_count in
     let column : k < length (columns_of t) = omega (arith, h, count) in
     let e = same k column in
-    rw e (column_kind (rows_in tables) heaps t k column, fits t r k row column)
+    rw e (column_kind (rows_in tables) heaps t k column, all_fit tables heaps are fits t r k row column)

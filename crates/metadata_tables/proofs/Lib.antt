@@ -1,6 +1,7 @@
 pub mod AddedRows
 pub mod Bits
 pub mod Encoded
+pub mod IndexFits
 pub mod Joins
 pub mod Layouts
 pub mod Longer

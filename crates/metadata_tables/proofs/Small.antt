@@ -4,7 +4,9 @@ use Rattle.std.specs.Prelude.{slice_index}
 use Rattle.std.specs.List.{list_all}
 use Rattle.std.proofs.lemmas.Bool.{and_parts, ltb-true, cases_eq, cases_lt}
 use Rattle.std.proofs.lemmas.List.{get_or_append_left, get_or_at, length_push}
-use Rattle.metadata_tables.specs.Encoding.{rows_of, rows_in, cell_of, AddsRow, FitsWidths}
+use Rattle.metadata_tables.specs.Encoding.{rows_of, rows_in, cell_of, AddsRow, FitsWidths, FitsIndex}
+use Rattle.metadata_tables.specs.declared.schema.Column.{Column}
+use Rattle.metadata_tables.specs.declared.schema.Column.TheVariants.{Number, Strings, Guids, Blobs, Row, Run, Tagged}
 use Rattle.metadata_tables.proofs.Widths.{IsCellWidth, column_kind}
 
 pub record Small (tables : List (List (List ℕ))) : Type 0 where
@@ -33,9 +35,18 @@ wide w x kind h = ⊎_elim
     (λ more. ⊎_elim (λ two. rw two (omega (arith, h))) (λ four. rw four (omega (arith, h))) more)
     kind
 
+fits_index : (counts : ℕ → ℕ) (heaps : ℕ) (column : Column) (value : ℕ) → value < 256 ^ width counts heaps column → FitsIndex counts heaps column value
+fits_index counts heaps (Number bytes) value h = tt
+fits_index counts heaps (Strings nil) value h = h
+fits_index counts heaps (Guids nil) value h = h
+fits_index counts heaps (Blobs nil) value h = h
+fits_index counts heaps (Row t) value h = h
+fits_index counts heaps (Run t) value h = h
+fits_index counts heaps (Tagged kind nil) value h = h
+
 pub fits_small : (tables : List (List (List ℕ))) (heaps : ℕ) → Small tables → FitsWidths tables heaps
 fits_small tables heaps small t r c row column =
-    wide _ _ (column_kind (rows_in tables) heaps t c column) (small.cells t r c row)
+    fits_index (rows_in tables) heaps (column_of t c) (cell_of tables t r c) (wide _ _ (column_kind (rows_in tables) heaps t c column) (small.cells t r c row))
 
 -- small numbers, by a test that computes
 pub small_list : (xs : List ℕ) → list_all (λ x. ltb x 256) xs ≡ true → (k : ℕ) → slice_index xs k < 256

@@ -44,11 +44,17 @@ pub record AreRows (tables : List (List (List ℕ))) : Type 0 where
 unfoldable pub pieces : ℕ → ℕ → List ℕ → List (List ℕ)
 pieces size count cells = map (λ k. take size (drop (size * k) cells)) (range_with_len 0 count)
 
--- each cell fits the width that follows from the row counts and the heap sizes
+-- an index fits the width that follows from the row counts and the heap sizes; a column of stated width
+-- asks nothing here
+abbrev pub FitsIndex : (ℕ → ℕ) → ℕ → Column → ℕ → Type 0
+FitsIndex counts heaps (Number bytes) value = Unit {0}
+FitsIndex counts heaps column value = value < 256 ^ width counts heaps column
+
+-- each index of each row does
 abbrev pub FitsWidths : List (List (List ℕ)) → ℕ → Type 0
 FitsWidths tables heaps =
     (table row column : ℕ) → row < rows_in tables table → column < length (columns_of table)
-    → cell_of tables table row column < 256 ^ width (rows_in tables) heaps (column_of table column)
+    → FitsIndex (rows_in tables) heaps (column_of table column) (cell_of tables table row column)
 
 -- A stream holds these rows and no others: it can be opened, it ends with its last row, and each cell is
 -- the row's. Its header is the standard's.

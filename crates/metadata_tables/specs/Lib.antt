@@ -4,6 +4,7 @@ pub mod Schema
 pub mod Stream
 pub mod Faults
 pub mod Header
+pub mod Indexes
 pub mod Laws
 pub mod Layout
 pub mod Order

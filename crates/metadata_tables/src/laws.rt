@@ -1,4 +1,5 @@
 //! Laws of the definitions that the contracts are made of, for the proofs of crates above.
+ghost use Rattle.metadata_tables.specs.Indexes.{IndexesFit};
 ghost use Rattle.metadata_tables.specs.Laws.{LongerStream, OneFault, RowOfColumns};
 
 /// Bytes behind the last row of a stream change nothing of its tables.
@@ -15,3 +16,10 @@ pub fn one_fault()
 pub fn row_of_columns()
     ensures { RowOfColumns }
 {}
+
+/// Row numbers fit the widths that follow from the row counts: simple indexes, the starts of runs, and
+/// coded indexes.
+pub fn indexes_fit()
+    ensures { IndexesFit }
+{
+}

@@ -20,7 +20,7 @@ mod view;
 pub use coded::{Coded, pack_coded, unpack_coded};
 pub use encoding::encode;
 pub use fault::TableFault;
-pub use laws::{longer_stream, one_fault, row_of_columns};
+pub use laws::{indexes_fit, longer_stream, one_fault, row_of_columns};
 pub use order::sort_columns;
 pub use rows::Rows;
 pub use schema::{Column, PROFILE, TABLES, columns};
