@@ -1,5 +1,5 @@
 -- Row numbers fit the widths that follow from the row counts.
-use Rattle.std.proofs.Common.{◌≡◌, ℕ, ◌+◌, ◌-◌, ◌*◌, ◌^◌, ◌<◌, ◌≤◌, List, [], ◌∷◌, Some, refl, sym, ap, ◌∙◌, arith, Bool, true, false, cond, eqb, ltb, ◌&&◌, ⊎_elim, pow_mono}
+use Rattle.std.proofs.Common.{◌≡◌, ℕ, ◌+◌, ◌-◌, ◌*◌, ◌^◌, ◌<◌, ◌≤◌, List, [], ◌∷◌, Some, refl, sym, arith, Bool, true, eqb, ltb, ⊎_elim, pow_mono}
 use Rattle.std.specs.List.{list_all, find}
 use Rattle.std.specs.Option.{option_map}
 use Rattle.std.proofs.lemmas.Bool.{and_parts, cases_Bool, cases_eq, cases_lt, eqb-true, eq-eqb, ne_eqb, lt-ltb, le-ltb, ltb-true}
@@ -35,13 +35,13 @@ run_plain count row apart = ⊎_elim
 run : (counts : ℕ → ℕ) (table row : ℕ) → row ≤ counts table + 1 → counts table < 2 ^ 24 → run_cell (counts table) row < 256 ^ simple_width counts table
 run counts table row h few = ⊎_elim
     (λ last. ⊎_elim
-      (λ full. let e = run_is (counts table) row last full in
-        rw e (narrow counts table 0 (λ below. omega arith) (omega arith)))
-      (λ other. let e = run_plain (counts table) row (λ a b. other b) in
-        rw e (narrow counts table row (λ below. absurd (omega (arith, h, last, other, below))) (omega (arith, h, few))))
-      (cases_eq (counts table) 65535))
+    (λ full. let e = run_is (counts table) row last full in
+    rw e (narrow counts table 0 (λ below. omega arith) (omega arith)))
+    (λ other. let e = run_plain (counts table) row (λ a b. other b) in
+    rw e (narrow counts table row (λ below. absurd (omega (arith, h, last, other, below))) (omega (arith, h, few))))
+    (cases_eq (counts table) 65535))
     (λ before. let e = run_plain (counts table) row (λ a b. before a) in
-      rw e (narrow counts table row (λ below. omega (arith, h, below, before)) (omega (arith, h, few))))
+    rw e (narrow counts table row (λ below. omega (arith, h, below, before)) (omega (arith, h, few))))
     (cases_eq row 65536)
 
 row_plain : (count cell : ℕ) → (cell ≡ 0 → ⊥) → run_row count cell ≡ cell
@@ -53,9 +53,9 @@ row_plain count cell some = ⊎_elim
 run_back : (count row : ℕ) → 0 < row → run_row count (run_cell count row) ≡ row
 run_back count row some = ⊎_elim
     (λ last. ⊎_elim
-      (λ full. let e = run_is count row last full in let a = eq-eqb count 65535 full in rw e (rw a (sym last)))
-      (λ other. let e = run_plain count row (λ a b. other b) in rw e (row_plain count row (λ z. omega (arith, z, some))))
-      (cases_eq count 65535))
+    (λ full. let e = run_is count row last full in let a = eq-eqb count 65535 full in rw e (rw a (sym last)))
+    (λ other. let e = run_plain count row (λ a b. other b) in rw e (row_plain count row (λ z. omega (arith, z, some))))
+    (cases_eq count 65535))
     (λ before. let e = run_plain count row (λ a b. before a) in rw e (row_plain count row (λ z. omega (arith, z, some))))
     (cases_eq row 65536)
 
@@ -92,13 +92,13 @@ coded counts kind table row tag e h few =
     let fits = tag_fits kind table tag e in
     ⊎_elim
     (λ all. let below : counts table < 2 ^ (16 - b) = ltb-true _ _ (of_table (λ t. ltb (counts t) (2 ^ (16 - b))) (tags kind) table tag all e) in
-      let sum : b + (16 - b) ≡ 16 = omega (arith, small) in
-      let place : row * 2 ^ b + tag < 2 ^ 16 = rw sum at (placed row tag b (16 - b) (omega (arith, h, below)) fits) in
-      rw all place)
+    let sum : b + (16 - b) ≡ 16 = omega (arith, small) in
+    let place : row * 2 ^ b + tag < 2 ^ 16 = rw sum at (placed row tag b (16 - b) (omega (arith, h, below)) fits) in
+    rw all place)
     (λ some. let place = placed row tag b 24 (omega (arith, h, few)) fits in
-      let bits : b + 24 ≤ 29 = omega (arith, small) in
-      let more : 2 ^ (b + 24) ≤ 2 ^ 29 = pow_mono bits in
-      rw some (omega (arith, place, more)))
+    let bits : b + 24 ≤ 29 = omega (arith, small) in
+    let more : 2 ^ (b + 24) ≤ 2 ^ 29 = pow_mono bits in
+    rw some (omega (arith, place, more)))
     (cases_Bool (list_all (λ pair. ltb (counts pair.0) (2 ^ (16 - tag_bits kind))) (tags kind)))
 
 pub fit : IndexesFit

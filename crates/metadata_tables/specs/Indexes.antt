@@ -16,10 +16,10 @@ run_row count cell = if count == 65535 && cell == 0 then 65536 else cell
 -- Row numbers of tables with fewer than 2 ^ 24 rows fit the widths that follow from the row counts.
 pub record IndexesFit : Type 0 where
   pub simple : (counts : ℕ → ℕ) (table row : ℕ) → row ≤ counts table → counts table < 2 ^ 24
-    → row < 256 ^ simple_width counts table
+      → row < 256 ^ simple_width counts table
   pub run : (counts : ℕ → ℕ) (table row : ℕ) → row ≤ counts table + 1 → counts table < 2 ^ 24
-    → run_cell (counts table) row < 256 ^ simple_width counts table
+      → run_cell (counts table) row < 256 ^ simple_width counts table
   pub run_back : (count row : ℕ) → 0 < row → run_row count (run_cell count row) ≡ row
   pub coded : (counts : ℕ → ℕ) (kind : Coded) (table row tag : ℕ) → tag_of kind table ≡ Some tag
-    → row ≤ counts table → counts table < 2 ^ 24
-    → row * 2 ^ tag_bits kind + tag < 256 ^ coded_width counts (tag_bits kind) (tags kind)
+      → row ≤ counts table → counts table < 2 ^ 24
+      → row * 2 ^ tag_bits kind + tag < 256 ^ coded_width counts (tag_bits kind) (tags kind)

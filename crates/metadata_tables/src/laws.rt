@@ -21,5 +21,4 @@ pub fn row_of_columns()
 /// coded indexes.
 pub fn indexes_fit()
     ensures { IndexesFit }
-{
-}
+{}
