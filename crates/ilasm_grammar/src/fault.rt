@@ -78,11 +78,8 @@ pub(crate) fn fault_at(tokens: &[Token], end: Pos, at: usize) -> SyntaxFault
 fn rule_of(token: &Token) -> u8
     ensures { result ≡ rule_at (Some token.now) }
 {
-    if is_left_out(terminal_of(token.kind)) {
-        2
-    } else {
-        1
-    }
+    let terminal = terminal_of(token.kind);
+    if is_left_out(terminal) { 2 } else { 1 }
 }
 
 /// Whether the terminal is a word for a construct that is left out of the language.

@@ -16,6 +16,8 @@ mod stack;
 mod symbol;
 mod table;
 pub mod terminals;
+#[cfg(test)]
+mod tests;
 mod tree;
 
 pub use fault::{LEFT_OUT, SyntaxFault};
