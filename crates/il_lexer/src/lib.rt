@@ -14,6 +14,9 @@ pub mod types;
 pub mod word;
 mod words;
 
-pub use scan::tokens;
+pub use scan::{end_place, tokens};
 pub use types::{LexFault, Lexeme, Token, TokenKind};
 pub use words::{WORDS, word_number, word_text};
+
+#[cfg(test)]
+mod tests;

@@ -172,6 +172,14 @@ fn broken_at(source: &[u8]) -> Option<Pos>
     }
 }
 
+/// The place where `source` ends, behind its last byte. It asks at most 2^27 bytes.
+pub fn end_place(source: &[u8]) -> Pos
+    requires { length source.now ≤ 2 ^ 27 }
+    ensures { result ≡ place_of source.now (length source.now) }
+{
+    place_at(source, first_place(source), 0, source.len())
+}
+
 /// The tokens of `source`, which has at most 2^27 bytes, or its lexical fault: rule L1 at the first byte of no whole
 /// UTF-8 character; else the first place where no token begins, by rule L2 to L5, or the token numbered 2^24 + 1, L6, or
 /// the bracket that makes the depth 401, L7, whichever stands first (II.5).
