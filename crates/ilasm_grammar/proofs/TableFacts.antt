@@ -174,10 +174,11 @@ module _ (t : Tables) (checked : IsChecked t) (g : Grammar) (picked : ℕ → �
   by_first {p = p} {n = n} {kind = kind} e s =
       let a = and_parts _ _ (at_rule (first_ok t) checked.first e) in
       let b = subset-bit _ _ a.1 kind (starting_mask e s) in
-      let b1 = subst (λ (x : ℕ). bit_at (pick_mask t x p (t.owners x) (t.picks x)) kind ≡ 1) (head-is e) b in
-      let c = pick-bit t n p (t.owners n) (t.picks n) kind b1 in
-      let long : length (t.owners n) ≡ suc t.end = eqb-true _ _ (and_parts _ _ (at_head (row_ok t) checked.row e)).0 in
-      of.own n kind (omega (arith, c.0)) c.1 ∙ c.2
+      let c = pick-bit t n p (t.owners n) (t.picks n) kind (subst (λ (x : ℕ). bit_at (pick_mask t x p (t.owners x) (t.picks x)) kind ≡ 1) (head-is e) b) in
+      of.own n kind (up_to (eqb-true _ _ (and_parts _ _ (at_head (row_ok t) checked.row e)).0) c.0) c.1 ∙ c.2
+    where
+      up_to : {k w m : ℕ} → w ≡ suc m → k < w → k ≤ m
+      up_to h lt = omega arith
 
   by_follow : {p n kind : ℕ} {body : List Symbol} → g p ≡ Some (rule_of n body) → Vanishes (sets_of t) body → has_bit (t.follow n) kind ≡ true → picked n kind ≡ p
   by_follow {n = n} {kind = kind} e v f =
