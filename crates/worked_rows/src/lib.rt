@@ -1,0 +1,6 @@
+//! Tests alone: cases that cross crates, with answers that were taken from the language's rules and not from
+//! the program.
+#![tactic(auto)]
+
+#[cfg(test)]
+mod reading;
