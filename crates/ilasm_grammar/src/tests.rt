@@ -1,173 +1,149 @@
 use crate::productions::SOURCE;
 use crate::{SyntaxFault, Tree, TreeNode, parse};
-use il_base::{NoMemory, Pos};
-use il_lexer::WORDS;
-use il_lexer::types::{Token, TokenKind, Tokens};
-use std::alloc::Global;
+use il_base::NoMemory;
+use il_lexer::{end_place, tokens};
+use std::alloc::{AllocError, Global};
 use std::test::Fail;
 
-/// Kinds of tokens, a case a line. The token at fault has the mark `~`, and `~~` where it stands for a
-/// construct that is left out; a mark alone stands for the end.
+/// Sources, one a line. The token at fault has the mark `~` before it, and `~~` where it stands for a
+/// construct that is left out.
 const CASES: &str = "\
-    .assembly extern NAME { .ver INT : INT : INT : INT .publickeytoken EQBYTES .culture QSTRING \
-    + QSTRING .hash EQBYTES } .assembly extern retargetable flags ( INT ) NAME as NAME { \
-    .locale QSTRING .publickey EQBYTES } .assembly NAME { .hash algorithm INT .custom instance \
-    void SCOPE NAME :: .ctor ( ) EQBYTES } .module NAME .imagebase INT .file alignment INT \
-    .stackreserve INT .subsystem INT .corflags INT\n\
-    .class public auto nested famorassem flags ( INT ) NAME < + - class valuetype .ctor flags ( \
-    INT ) ( NAME , int32 ) NAME > extends SCOPE NAME / NAME implements NAME , class NAME < ! \
-    INT , !! NAME > { .pack INT .size INT .param type [ INT ] .param type NAME .custom void \
-    NAME :: NAME ( ) .class NAME { } .data cil NAME = { int8 ( INT ) [ INT ] , BYTEARRAY , \
-    float64 } .field [ INT ] privatescope static valuetype NAME NAME = int32 ( INT ) at NAME \
-    .property specialname flags ( INT ) instance int32 NAME ( int32 ) = bool ( true ) { .get \
-    instance int32 NAME :: NAME ( ) .set void NAME :: NAME ( int32 ) .other void NAME :: NAME ( \
-    ) } .event rtspecialname SCOPE NAME NAME { .addon void NAME :: NAME ( ) .removeon void NAME \
-    :: NAME ( ) .fire void NAME :: NAME ( ) .custom void NAME :: NAME ( ) } }\n\
-    .method public hidebysig instance explicit vararg native unsigned int modreq ( NAME ) NAME \
-    < NAME > ( [in] [out] [opt] int32 [ INT ... , INT , ... ] & NAME , string pinned NAME ) cil \
-    managed flags ( INT ) { .entrypoint .maxstack INT .locals init ( [ INT ] int32 * NAME , \
-    char ) .override method instance void NAME :: NAME < [ INT ] > ( ) .override NAME :: NAME \
-    .param [ INT ] flags ( INT ) = nullref .param type NAME .custom void NAME :: NAME ( ) { } }\n\
-    .method void NAME ( ) { NAME : nop ldarg NAME ldc.i4 INT ldc.r8 float64 ( INT ) ldc.r4 \
-    REALBYTES br NAME call void SCOPE NAME :: NAME < int32 > ( ... , int32 ) ldfld int32 NAME / \
-    NAME :: NAME stfld int32 NAME box int32 switch ( NAME , NAME ) switch ( ) ldstr QSTRING + \
-    QSTRING ldstr BYTEARRAY ldtoken method void NAME ( ) ldtoken field int32 SCOPE NAME :: NAME \
-    ldtoken NAME .try { nop } catch NAME { } filter NAME { } filter { } handler NAME to NAME \
-    .try NAME to NAME finally { } fault handler NAME to NAME }\n\
-    .assembly NAME { .ver INT : INT : INT : INT }\n\
-    .assembly NAME { }\n\
-    .assembly extern NAME as NAME { }\n\
-    .class public NAME < NAME , - NAME , ( int32 ) NAME > extends class NAME < ! INT > \
-    implements NAME , int32 [ ] { }\n\
-    .class NAME { .field [ INT ] int32 [ INT ... , INT , ] NAME = int8 ( INT ) at NAME }\n\
-    .data NAME = { int8 ( INT ) [ INT ] , BYTEARRAY , float64 }\n\
-    .method vararg int32 NAME ( [in] int32 NAME , !! NAME ) cil managed { .try NAME to NAME \
-    filter NAME handler NAME to NAME NAME : NAME : NAME : }\n\
-    .method void NAME ( ) { switch ( ) ldtoken method void NAME :: NAME < [ INT ] > ( ... , \
-    int32 ) .param type NAME .param [ INT ] flags ( INT ) = nullref }\n\
-    .custom instance void SCOPE NAME / NAME :: .ctor ( )\n\
-    .field int32 NAME\n\
+    .assembly extern mscorlib { .ver 4:0:0:0 .publickeytoken = (B7 7A) .culture \"a\" + \"b\" \
+    .hash = (01) } .assembly extern retargetable flags(1) L as M { .locale \"x\" .publickey = \
+    (00) } .assembly A { .hash algorithm 0x8004 .custom instance void [m]A::.ctor() = (01) } \
+    .module a.dll .imagebase 1 .file alignment 512 .stackreserve 1 .subsystem 3 .corflags 1\n\
+    .class public auto nested famorassem flags(1) C<+ - class valuetype .ctor flags(2) (T, \
+    int32) U> extends [m]A/B implements I, class J<!0, !!T> { .pack 1 .size 3 .param type [1] \
+    .param type T .custom void X::Y() .class D { } .data cil Q = { int8(1)[2], bytearray \
+    (01), float64 } .field [8] privatescope static valuetype S X = int32(5) at Q .property \
+    specialname flags(1) instance int32 P(int32) = bool(true) { .get instance int32 C::g() \
+    .set void C::s(int32) .other void C::o() } .event rtspecialname [m]H E { .addon void \
+    C::a() .removeon void C::r() .fire void C::f() .custom void X::Y() } }\n\
+    .method public hidebysig instance explicit vararg native unsigned int modreq(A) M<T>([in] \
+    [out] [opt] int32[0...,3,...]& a, string pinned b) cil managed flags(8) { .entrypoint \
+    .maxstack 8 .locals init ([0] int32* x, char) .override method instance void A::M<[1]>() \
+    .override A::M .param [1] flags(1) = nullref .param type T .custom void A::M() { } }\n\
+    .method void M() { L: nop ldarg a ldc.i4 5 ldc.r8 float64(0x1) ldc.r4 (00 00 00 00) br L \
+    call void [m]A::M<int32>(..., int32) ldfld int32 A/B::F stfld int32 F box int32 switch \
+    (L, M) switch () ldstr \"a\" + \"b\" ldstr bytearray (00) ldtoken method void M() ldtoken \
+    field int32 [m]A::F ldtoken A .try { nop } catch A { } filter L { } filter { } handler L \
+    to M .try L to M finally { } fault handler L to M }\n\
+    .assembly A{.ver 1:0:0:0}\n\
+    .assembly extern A as B { }\n\
+    .class public C<T, - U, (int32) V> extends class X<!0> implements Y, int32[] { }\n\
+    .class C { .field [4] int32[0...,3,] F = int8(1) at D }\n\
+    .data D = { int8(1)[2], bytearray (01), float64 }\n\
+    .method vararg int32 M([in] int32 a, !!T) cil managed { .try L to M filter L handler M to \
+    N L: M: N: }\n\
+    .method void M() { switch () ldtoken method void X::Y<[1]>(..., int32) .param type T \
+    .param [1] flags(1) = nullref }\n\
+    .custom instance void [a.b]X/Y::.ctor()\n\
+    .field int32 in\n\
+    .field int32 [1] x\n\
     ~\n\
-    ~.unused\n\
+    ~.foo\n\
     .assembly ~{ }\n\
-    .class NAME extends ~}\n\
-    ~NAME NAME\n\
-    ~.property int32 NAME ( ) { .get int32 NAME :: NAME ( ) }\n\
-    ~.event NAME NAME { .addon void NAME :: NAME ( ) .custom void NAME :: .ctor ( ) EQBYTES }\n\
+    .class C extends ~}\n\
+    ~.property int32 P() { .get int32 X::G() }\n\
+    ~.event X E { .addon void X::A() .custom void X::.ctor() = (00) }\n\
     .field int32 ~at\n\
-    .class NAME extends ~\n\
-    .class NAME { .field ~}\n\
+    .class C extends~\n\
+    .class C { .field ~}\n\
     .assembly extern ~{ }\n\
-    .method void NAME ~{ }\n\
-    .method void NAME ( ) { ldc.i4 ~}\n\
-    .method void NAME ( ) { br ~}\n\
-    .method void NAME ( ) { .try { } ~}\n\
-    .method void NAME ( ) { .locals ( [ INT ] ~) }\n\
-    ~.property int32 NAME { }\n\
-    .data NAME = ~\n\
-    .subsystem ~\n\
-    .class NAME ~}\n\
-    .module NAME .module ~\n\
-    .module NAME ~.unused\n\
-    .method void NAME ( ) ~\n\
-    .class NAME { ~\n\
-    .assembly NAME { } ~at\n\
-    .field int32 [ INT ] [ INT ] NAME = QSTRING ~=\n\
+    .method void M ~{ }\n\
+    .method void M() { ldc.i4 ~}\n\
+    .method void M() { br ~}\n\
+    .method void M() { .try { } ~}\n\
+    .method void M() { .locals ([0]~) }\n\
+    ~.property int32 P { }\n\
+    .data D =~\n\
+    .subsystem~\n\
+    .class C ~}\n\
+    .module A.B .module~\n\
     ~~calli\n\
-    .assembly NAME { } ~~calli\n\
     ~~.line\n\
-    .method static void NAME ( ) cil managed { ~~jmp\n\
-    .method static void NAME ( ) ~~unmanaged { }\n\
-    .module NAME ~~.permissionset\n\
-    .module NAME ~~.permission\n\
-    .module NAME ~~.mresource\n\
-    .module NAME ~~.vtfixup\n\
-    .module NAME ~~.vtentry\n\
-    .module NAME ~~.export\n\
-    .module NAME ~~.emitbyte\n\
-    .module NAME ~~.zeroinit\n\
-    .module NAME ~~.pdirect\n\
-    .module NAME ~~.line\n\
-    .module NAME ~~.language\n\
-    .module NAME ~~.namespace\n\
-    .module NAME ~~.typedef\n\
-    .module NAME ~~.interfaceimpl\n\
-    .method void NAME ( ) { nop ~~calli\n\
-    .method void NAME ( ) { nop ~~jmp\n\
-    .method void NAME ( ) { nop ~~no.\n\
+    .method static void M() cil managed { ~~jmp\n\
+    .method static void M() ~~unmanaged { }\n\
+    .module A ~~.permissionset\n\
+    .module A ~~.permission\n\
+    .module A ~~.mresource\n\
+    .module A ~~.vtfixup\n\
+    .module A ~~.vtentry\n\
+    .module A ~~.export\n\
+    .module A ~~.emitbyte\n\
+    .module A ~~.zeroinit\n\
+    .module A ~~.pdirect\n\
+    .module A ~~.line\n\
+    .module A ~~.language\n\
+    .module A ~~.namespace\n\
+    .module A ~~.typedef\n\
+    .module A ~~.interfaceimpl\n\
+    .method void M() { nop ~~calli\n\
+    .method void M() { nop ~~jmp\n\
+    .method void M() { nop ~~no.\n\
     .method ~~pinvokeimpl\n\
-    .method void NAME ( ) { nop ~~marshal\n\
+    .method void M() { nop ~~marshal\n\
     .method ~~unmanaged\n\
     .method ~~unmanagedexp\n\
-    .module NAME ~~HASH";
+    .module A ~~#line\n\
+    .module A ~.unused\n\
+    .method void M()~\n\
+    .class C { .field int32 [1] [2] F~\n\
+    .assembly A { } ~at\n\
+    .assembly A { .ver 1:0:0:~}";
 
-/// The number of the word at fault, and the rule; 0 and 0 where there is no fault.
+/// The place of a fault, and its rule; all 0 where there is none.
 #[derive(Clone, Copy, Debug, PartialEq, Eq)]
 struct Fault {
-    word: u32,
+    line: u32,
+    col: u32,
     rule: u8,
 }
 
-/// The kind that a word of a case stands for.
-fn kind_of(word: &str) -> TokenKind {
-    match word {
-        "NAME" => TokenKind::Name,
-        "SCOPE" => TokenKind::Scope,
-        "INT" => TokenKind::Int,
-        "QSTRING" => TokenKind::QString,
-        "EQBYTES" => TokenKind::EqBytes,
-        "BYTEARRAY" => TokenKind::ByteArray,
-        "REALBYTES" => TokenKind::RealBytes,
-        "HASH" => TokenKind::Hash,
-        _ => word_kind(word),
-    }
+const NONE: Fault = Fault {
+    line: 0,
+    col: 0,
+    rule: 0,
+};
+
+/// The source of a case, and the fault that is marked in it.
+fn read(alloc: Global, case: &str) -> Result<(String, Fault), AllocError> {
+    let Some((before, after)) = case.split_once('~') else {
+        let source = String::from_str(alloc, case)?;
+        return Ok((source, NONE));
+    };
+    let rest = after.trim_start_matches('~');
+    let mut source = String::from_str(alloc, before)?;
+    source.push_str(rest)?;
+    let fault = Fault {
+        line: 1,
+        col: u32::try_from(before.len()).unwrap_or(0).saturating_add(1),
+        rule: if rest.len() < after.len() { 2 } else { 1 },
+    };
+    Ok((source, fault))
 }
 
-/// The kind of a word of the language, or of one that isn't.
-fn word_kind(word: &str) -> TokenKind {
-    match WORDS.iter().position(|other| *other == word) {
-        Some(number) if number < 65536 => TokenKind::Word(number as u16),
-        _ => TokenKind::Unused,
+/// The fault that the parser finds in a source that lexes.
+fn found(alloc: Global, source: &str) -> Result<Fault, NoMemory> {
+    let bytes = source.as_bytes();
+    if bytes.len() > 1000 {
+        return Err(NoMemory);
     }
-}
-
-/// The tokens of a case, each in a line of its own, and the fault that is marked.
-fn read(alloc: Global, case: &str) -> Result<(Tokens, Fault), NoMemory> {
-    let mut tokens = Tokens::new(alloc);
-    let mut fault = Fault { word: 0, rule: 0 };
-    let mut line: u32 = 0;
-    for word in case.split(' ') {
-        line = line.saturating_add(1);
-        let bare = word.trim_start_matches('~');
-        if bare.len() < word.len() {
-            fault.word = line;
-            fault.rule = if word.starts_with("~~") { 2 } else { 1 };
-        }
-        if !bare.is_empty() {
-            let pos = Pos { line, col: 1 };
-            tokens.push(Token {
-                kind: kind_of(bare),
-                start: 0,
-                end: 0,
-                pos,
-            })?;
-        }
-    }
-    Ok((tokens, fault))
-}
-
-/// The fault that the parser finds.
-fn found(alloc: Global, tokens: &Tokens, end: u32) -> Result<Fault, NoMemory> {
+    let Ok(tokens) = tokens(alloc, bytes) else {
+        return Err(NoMemory);
+    };
     if tokens.len() > 1000 {
         return Err(NoMemory);
     }
-    match parse(alloc, tokens, Pos { line: end, col: 1 }) {
-        Ok(tree) => Ok(Fault {
-            word: 0,
-            rule: if is_whole(&tree) { 0 } else { 9 },
+    match parse(alloc, &tokens, end_place(bytes)) {
+        Ok(tree) => Ok(if is_whole(&tree) {
+            NONE
+        } else {
+            Fault { rule: 9, ..NONE }
         }),
         Err(SyntaxFault::Bad { pos, rule }) => Ok(Fault {
-            word: pos.line,
+            line: pos.line,
+            col: pos.col,
             rule,
         }),
         Err(SyntaxFault::NoMemory) => Err(NoMemory),
@@ -187,9 +163,25 @@ fn is_whole(tree: &Tree) -> bool {
 #[test]
 fn cases(rt: HostRuntime) -> Result<(), Fail> {
     for case in CASES.lines() {
-        let (tokens, fault) = read(rt.alloc(), case)?;
-        let end = u32::try_from(tokens.len())?.saturating_add(1);
-        assert_eq!(rt; found(rt.alloc(), &tokens, end)?, fault, "{case}");
+        let (source, fault) = read(rt.alloc(), case)?;
+        assert_eq!(rt; found(rt.alloc(), source.as_str())?, fault, "{case}");
     }
+    Ok(())
+}
+
+#[test]
+fn lines(rt: HostRuntime) -> Result<(), Fail> {
+    let empty = Fault {
+        line: 1,
+        col: 1,
+        rule: 1,
+    };
+    assert_eq!(rt; found(rt.alloc(), "")?, empty);
+    let left_out = Fault {
+        line: 3,
+        col: 2,
+        rule: 2,
+    };
+    assert_eq!(rt; found(rt.alloc(), ".assembly A { }\n\n calli")?, left_out);
     Ok(())
 }
