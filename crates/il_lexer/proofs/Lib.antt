@@ -1,6 +1,7 @@
 mod BlockLemmas
 mod FrontLemmas
 mod LexLemmas
+mod Outcomes
 mod PlaceLemmas
 mod RunLemmas
 mod WordNumbers

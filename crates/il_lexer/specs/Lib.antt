@@ -6,3 +6,4 @@ pub mod Spellings
 pub mod WordList
 pub mod Tokens
 pub mod Lexing
+pub mod Laws

@@ -4,6 +4,7 @@
 mod bytes;
 mod classes;
 mod gaps;
+mod laws;
 mod lexeme;
 mod pairs;
 mod quotes;
@@ -14,6 +15,7 @@ pub mod types;
 pub mod word;
 mod words;
 
+pub use laws::lexes_in_one_way;
 pub use scan::{end_place, tokens};
 pub use types::{LexFault, Lexeme, Token, TokenKind};
 pub use words::{WORDS, word_number, word_text};
