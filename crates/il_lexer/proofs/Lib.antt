@@ -5,3 +5,4 @@ mod Outcomes
 mod PlaceLemmas
 mod RunLemmas
 mod WordNumbers
+mod WordTokens

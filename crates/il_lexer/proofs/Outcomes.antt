@@ -1,12 +1,11 @@
 -- A source lexes in one way.
-use Rattle.std.proofs.Common.{◌≡◌, ℕ, zero, suc, ◌+◌, ◌<◌, ◌≤◌, ◌^◌, ◌⊎◌, inl, inr, max, List, [], ◌∷◌, ◌++◌, length, drop, Result, Ok, Err, refl, ap, sym, subst, ◌∙◌, arith, length-append, append-nil}
+use Rattle.std.proofs.Common.{◌≡◌, ℕ, ◌+◌, ◌<◌, ◌≤◌, ◌^◌, ◌⊎◌, inl, inr, List, [], ◌∷◌, ◌++◌, length, drop, Result, Ok, Err, refl, ap, sym, subst, ◌∙◌, arith, length-append, append-nil}
 use Rattle.std.proofs.Math.ListN.{drop_of_length-le}
-use Rattle.std.specs.Str.{IsUtf8}
 use Rattle.il_base.specs.declared.pos.Pos.{Pos}
 use Rattle.il_lexer.specs.declared.types.Lexeme.{Lexeme}
 use Rattle.il_lexer.specs.declared.types.Token.{Token}
 use Rattle.il_lexer.specs.Tokens.{token_at}
-use Rattle.il_lexer.specs.Lexing.{LexesFrom, done, more, LexesTo, Lexes, after_gap, token_of, place_of, depth_after, depth_from, deepest_from, WithinLimits, BreaksNext, BreaksAt, HasFault, IsAccepted}
+use Rattle.il_lexer.specs.Lexing.{LexesFrom, done, more, Lexes, after_gap, token_of, place_of, depth_after, depth_from, deepest_from, WithinLimits, BreaksNext, BreaksAt, HasFault, IsAccepted}
 use Rattle.il_lexer.specs.Laws.{OneOutcome}
 
 -- of two readings from one place, one goes on where the other ends

@@ -1,7 +1,10 @@
 -- What follows of the definitions.
-use Rattle.std.specs.Prelude.{ℕ, ◌≡◌, List}
+use Rattle.std.specs.Prelude.{ℕ, ◌≡◌, ◌<◌, List, [], length, slice_index_or, Ok}
 use Rattle.il_base.specs.declared.pos.Pos.{Pos}
 use Rattle.il_lexer.specs.declared.types.Token.{Token}
+use Rattle.il_lexer.specs.declared.types.TokenKind.TheVariants.{Word}
+use Rattle.il_lexer.specs.WordList.{words}
+use Rattle.il_lexer.specs.Tokens.{lexeme, token_at}
 use Rattle.il_lexer.specs.Lexing.{Lexes, HasFault, IsAccepted}
 
 -- A source lexes into one list of tokens at most. Where it lexes within the limits it has no lexical fault, and else it has
@@ -11,3 +14,9 @@ pub record OneOutcome : Type 0 where
   pub apart : (source : List ℕ) (tokens : List Token) (pos : Pos) (rule : ℕ) →
       IsAccepted source tokens → HasFault source pos rule → ⊥
   pub fault : (source : List ℕ) (p q : Pos) (r s : ℕ) → HasFault source p r → HasFault source q s → (p ≡ q) × (r ≡ s)
+
+-- each word of the table, alone, is a token whole: that word
+abbrev pub WordsAreTokens : Type 0
+WordsAreTokens =
+    (k : ℕ) → k < 401 →
+    token_at (slice_index_or words k []) ≡ Ok (lexeme (Word k) (length (slice_index_or words k [])))

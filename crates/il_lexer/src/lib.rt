@@ -15,7 +15,7 @@ pub mod types;
 pub mod word;
 mod words;
 
-pub use laws::lexes_in_one_way;
+pub use laws::{lexes_in_one_way, words_are_tokens};
 pub use scan::{end_place, tokens};
 pub use types::{LexFault, Lexeme, Token, TokenKind};
 pub use words::{WORDS, word_number, word_text};
