@@ -1,10 +1,12 @@
-pub mod Loop
-pub mod Methods
 pub mod Again
 pub mod Budget
 pub mod Layers
+pub mod Loop
+pub mod Methods
 pub mod Numbers
 pub mod Parts
 pub mod Steps
 pub mod Takes
+pub mod Unique
 pub mod Whole
+pub mod Written

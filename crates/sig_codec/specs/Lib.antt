@@ -3,3 +3,4 @@ pub mod Spelling
 pub mod Signature
 pub mod Spellable
 pub mod Reading
+pub mod Writing

@@ -39,12 +39,16 @@ pub record SpellsMethod (w : Notation) (s : MethodSig) (bytes : List ℕ) : Type
 abbrev pub SpellsField : Notation → SigType → List ℕ → Type 0
 SpellsField w t bytes = (a : List ℕ) × (bytes ≡ 0x06 ∷ a) × SpellsType w t a
 
+-- the first byte of a property
+abbrev pub property_byte : Bool → ℕ
+property_byte has_this = if has_this then 0x28 else 0x08
+
 -- a property (II.23.2.5)
 pub record SpellsProperty (w : Notation) (s : MethodSig) (bytes : List ℕ) : Type 0 where
   pub a : List ℕ
   pub b : List ℕ
   pub c : List ℕ
-  pub whole : bytes ≡ (if s.has_this then 0x28 else 0x08) ∷ (a ++ (b ++ c))
+  pub whole : bytes ≡ property_byte s.has_this ∷ (a ++ (b ++ c))
   pub no_explicit : s.explicit_this ≡ false
   pub no_vararg : s.vararg ≡ false
   pub no_generic : s.generic ≡ 0

@@ -12,6 +12,10 @@ use Rattle.type_terms.specs.declared.term.SigType.{SigType, out-SigType}
 use Rattle.sig_codec.specs.Tokens.{IsDeclared, IsTypeToken}
 use Rattle.sig_codec.specs.Spelling.{Layer}
 
+-- a numberer's map numbers each owner by a token that a namer's map names it by
+abbrev pub Renumbers : (ℕ → Option Owner) → (Owner → Option ℕ) → Type 0
+Renumbers owners tokens = (token : ℕ) (o : Owner) → owners token ≡ Some o → tokens o ≡ Some token
+
 -- an owner with a token of the tables TypeDef, TypeRef and TypeSpec
 abbrev pub HasToken : (Owner → Option ℕ) → Owner → Type 0
 HasToken tokens owner = (token : ℕ) × (tokens owner ≡ Some token) × IsTypeToken token

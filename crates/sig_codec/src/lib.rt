@@ -1,9 +1,12 @@
-//! The signatures of ECMA-335 II.23.2 as bytes.
+//! Signatures as bytes, both ways (ECMA-335 II.23.2): what a type, a method, a field, a property, locals and an
+//! instantiation are spelled as, with the tokens of a numberer and the names of a namer.
 #![tactic(auto)]
 
 mod decode;
 mod decoder;
 mod element;
+mod encode;
+mod laws;
 mod measure;
 mod names;
 mod number;
@@ -11,9 +14,18 @@ mod signature;
 mod stop;
 mod token;
 mod types;
+mod write;
+mod write_type;
 
 pub use decode::{
     decode_field, decode_instantiation, decode_locals, decode_method, decode_property, decode_type,
+};
+pub use encode::{
+    encode_field, encode_instantiation, encode_locals, encode_method, encode_property, encode_type,
+};
+pub use laws::{
+    bytes_spell_one_signature, no_type_begins_another, shortest_is_read,
+    what_is_read_has_a_spelling, written_is_read,
 };
 pub use names::{Namer, Numberer};
 
