@@ -8,8 +8,6 @@ mod node;
 mod pool;
 mod shape;
 mod substitution;
-#[cfg(test)]
-mod tests;
 
 pub use id::{SigId, SigIds};
 pub use node::{Node, NodeOwner};
