@@ -11,5 +11,4 @@ pub fn lexes_in_one_way()
 /// Each word of `WORDS`, alone, is a token whole: the word with its number.
 pub fn words_are_tokens()
     ensures { WordsAreTokens }
-{
-}
+{}
