@@ -1,0 +1,3 @@
+pub mod DataSize
+pub mod Room
+pub mod Weight

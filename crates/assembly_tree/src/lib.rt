@@ -4,8 +4,11 @@
 
 mod assembly;
 mod body;
+mod inner;
 mod members;
+mod sizes;
 mod typedef;
+mod weighing;
 
 pub use assembly::{Assembly, ExternAssembly, Externs, Manifest};
 pub use body::{Body, Clause, ClauseKind, Clauses, Code, Ins, Operand};
@@ -13,4 +16,6 @@ pub use members::{
     Accessor, Accessors, Attribute, Attributes, Constant, Event, Events, Field, Fields, Generic,
     Generics, Method, Methods, Param, Params, Properties, Property,
 };
+pub use sizes::data_size;
 pub use typedef::{Layout, MethodPath, TypeDef, TypeDefs};
+pub use weighing::{MAX_WEIGHT, weight};
