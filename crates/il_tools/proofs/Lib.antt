@@ -1,2 +1,4 @@
 pub mod FormLemmas
 pub mod FrontLemmas
+pub mod PlainRows
+pub mod PlainTexts

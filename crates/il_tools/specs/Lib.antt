@@ -1,3 +1,5 @@
+pub mod Denoted
 pub mod Form
 pub mod Output
+pub mod Plain
 pub mod Words

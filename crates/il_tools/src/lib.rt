@@ -4,5 +4,6 @@
 mod form;
 mod input;
 mod output;
+mod plain;
 mod words;
 

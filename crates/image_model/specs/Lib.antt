@@ -1,2 +1,3 @@
+pub mod FirstReading
 pub mod Root
 pub mod Written
