@@ -1,4 +1,5 @@
 pub mod FormLemmas
 pub mod FrontLemmas
+pub mod PlainReads
 pub mod PlainRows
 pub mod PlainTexts

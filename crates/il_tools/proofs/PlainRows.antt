@@ -1,10 +1,13 @@
 -- The rows of a plain image: they fit the columns, and the stream that holds them has their cells.
-use Rattle.std.proofs.Common.{◌≡◌, ℕ, zero, suc, ◌+◌, ◌-◌, ◌*◌, ◌^◌, ◌<◌, ◌≤◌, ◌⊎◌, inl, inr, Bool, true, false, cond, List, [], ◌∷◌, ◌++◌, length, sym, ◌∙◌, ap, subst, refl, arith}
+use Rattle.std.proofs.Common.{◌≡◌, ℕ, zero, suc, ◌+◌, ◌-◌, ◌*◌, ◌^◌, ◌<◌, ◌≤◌, ◌⊎◌, inl, inr, Bool, true, false, cond, List, [], ◌∷◌, ◌++◌, length, drop, sym, ◌∙◌, ap, subst, refl, arith}
 use Rattle.std.specs.Prelude.{◌≢◌, ◌==◌, slice_index, slice_index_or}
 use Rattle.std.proofs.lemmas.Bool.{cases_eq, cases_Bool, eqb-true, eq-eqb}
-use Rattle.std.proofs.lemmas.List.{get_or-take}
+use Rattle.std.proofs.lemmas.List.{get_or-take, get_or-drop}
+use borrow.Author.Numbers.{ones_of_64}
+use Rattle.byteorder.specs.Endian.{little_number}
+use Rattle.byteorder.specs.Numbers.{little_from-lt}
 use Rattle.metadata_tables.specs.Schema.{schema, columns_of}
-use Rattle.metadata_tables.specs.Stream.{heap_sizes, row_count, cell, column_of, width}
+use Rattle.metadata_tables.specs.Stream.{heap_sizes, row_count, cell, column_of, width, columns_size, table_start, row_size, header_size, present}
 use Rattle.metadata_tables.specs.Faults.{IsWhole}
 use Rattle.metadata_tables.specs.Encoding.{rows_of, rows_in, cell_of, AddsRow, FitsWidths, Holds}
 use Rattle.il_tools.specs.Plain.{Indexes, three_rows, module_cells, type_cells, assembly_cells, plain_rows, HoldsRows}
@@ -117,13 +120,52 @@ module _ (version : List ℕ) (at : Indexes) (v0 : slice_index version 0 < 2 ^ 1
                 inl e ↦ fits_table table row column 0x20 a e (rows_third m t a table e) in_row (fits_assembly column (subst (λ n. column < length (columns_of n)) e in_column))
               | inr n20 ↦ let none : rows_in r table ≡ 0 = ap length (are table ∙ rows_none m t a table n0 n2 n20) in absurd (omega arith) ] ] ]
 
-    pub holds_rows : (stream : List ℕ) → Holds r 0 stream → HoldsRows version at stream
+    pub holds_rows : (stream : List ℕ) → length version ≡ 4 → Holds r 0 stream → HoldsRows version at stream
     unfolding plain_rows
-    holds_rows stream h = record {
+    holds_rows stream parts h = record {
+      parts = parts;
       whole = h.whole;
+      ends = h.ends;
       narrow = sym (get_or-take 8 stream 6 0 (omega arith)) ∙ ap (λ xs. slice_index xs 6) h.front;
       counts = λ table. h.counts table ∙ ap length (are table);
       cells = λ table column one in_column.
           let len : rows_in r table ≡ 1 = ap length (are table) ∙ one in
           h.cells table 0 column (omega arith) in_column ∙ ap (λ rs. slice_index (slice_index_or rs 0 []) column) (are table);
     }
+
+-- ---- how long the stream is
+
+-- where the tables begin, by their row counts
+start_by : (ℕ → ℕ) → ℕ → ℕ → ℕ → ℕ
+start_by f heaps first zero = first
+start_by f heaps first (suc table) = start_by f heaps first table + f table * columns_size f heaps (columns_of table)
+
+start_is : (stream : List ℕ) (table : ℕ) → table_start stream table ≡ start_by (row_count stream) (heap_sizes stream) (header_size stream) table
+unfolding table_start row_size start_by
+start_is stream zero = refl
+start_is stream (suc table) = ap (λ n. n + row_count stream table * columns_size (row_count stream) (heap_sizes stream) (columns_of table)) (start_is stream table)
+
+plain_counts : List ℕ → Indexes → ℕ → ℕ
+plain_counts version at k = length (plain_rows version at k)
+
+rows_size : (version : List ℕ) (at : Indexes) (first : ℕ) → start_by (plain_counts version at) 0 first 0x2D ≤ first + 46
+unfolding start_by schema plain_counts plain_rows
+rows_size version at first = omega arith
+
+header_short : (stream : List ℕ) → ((i : ℕ) → slice_index stream i < 256) → header_size stream ≤ 280
+unfolding header_size present
+header_short stream bytes =
+    let small : little_number 8 (drop 8 stream) < 2 ^ 64 = little_from-lt 0 8 (drop 8 stream) (λ i. rw get_or-drop (bytes (8 + i))) in
+    let ones = ones_of_64 (little_number 8 (drop 8 stream)) small in
+    omega arith
+
+pub stream_short : (version : List ℕ) (at : Indexes) (stream : List ℕ) → ((i : ℕ) → slice_index stream i < 256) → HoldsRows version at stream → length stream ≤ 326
+unfolding plain_counts
+stream_short version at stream bytes h =
+    let same : row_count stream ≡ plain_counts version at = λ i k. h.counts k i in
+    let sizes : start_by (row_count stream) (heap_sizes stream) (header_size stream) 0x2D ≡ start_by (plain_counts version at) 0 (header_size stream) 0x2D
+          = ap (λ f. start_by f (heap_sizes stream) (header_size stream) 0x2D) same ∙ ap (λ n. start_by (plain_counts version at) n (header_size stream) 0x2D) h.narrow in
+    let rows = rows_size version at (header_size stream) in
+    let head = header_short stream bytes in
+    let is = h.ends ∙ start_is stream 0x2D ∙ sizes in
+    omega arith

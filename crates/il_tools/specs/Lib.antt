@@ -1,3 +1,4 @@
+pub mod Assembled
 pub mod Denoted
 pub mod Form
 pub mod Output

@@ -2,8 +2,9 @@
 use Rattle.std.specs.Prelude.{◌≡◌, ℕ, ◌<◌, ◌^◌, ◌==◌, if◌then◌else◌, List, [], ◌∷◌, ◌++◌, length, codes, slice_index, slice_index_or}
 use Rattle.heaps.specs.Content.{HasText}
 use Rattle.metadata_tables.specs.Schema.{columns_of}
-use Rattle.metadata_tables.specs.Stream.{heap_sizes, row_count, cell}
+use Rattle.metadata_tables.specs.Stream.{heap_sizes, row_count, cell, table_start}
 use Rattle.metadata_tables.specs.Faults.{IsWhole}
+use Rattle.image_model.specs.Root.{IsRoot, HasStream, filled}
 
 -- the indexes of the texts and of the identifier
 pub record Indexes : Type 0 where
@@ -39,8 +40,18 @@ plain_rows version at = three_rows (module_cells at) (type_cells at) (assembly_c
 
 -- the stream of tables has these rows and no others, and all its indexes have 2 bytes
 pub record HoldsRows (version : List ℕ) (at : Indexes) (stream : List ℕ) : Type 0 where
+  pub parts : length version ≡ 4
   pub whole : IsWhole stream
+  pub ends : length stream ≡ table_start stream 0x2D
   pub narrow : heap_sizes stream ≡ 0
   pub counts : (table : ℕ) → row_count stream table ≡ length (plain_rows version at table)
   pub cells : (table column : ℕ) → length (plain_rows version at table) ≡ 1 → column < length (columns_of table)
       → cell stream table 1 column ≡ slice_index (slice_index_or (plain_rows version at table) 0 []) column
+
+-- the metadata has these streams, and heaps of blobs and of user strings with their empty entry alone
+pub record HoldsAll (tables strings guids metadata : List ℕ) : Type 0 where
+  pub root : IsRoot metadata
+  pub has_tables : HasStream metadata (codes "#~") (filled tables)
+  pub has_strings : HasStream metadata (codes "#Strings") (filled strings)
+  pub has_guids : HasStream metadata (codes "#GUID") (filled guids)
+  pub has_blobs : HasStream metadata (codes "#Blob") (filled (0 ∷ []))

@@ -1,9 +1,10 @@
 //! What the program does: `run` takes the words of a command line, a shelf of files and a console.
 #![tactic(auto)]
 
+mod assemble;
+mod fault;
 mod form;
 mod input;
 mod output;
 mod plain;
 mod words;
-

@@ -4,7 +4,7 @@ ghost use Rattle.heaps.specs.Content.{HasText, HasGuid};
 ghost use Rattle.image_model.specs.FirstReading.{ReadsFirst};
 ghost use Rattle.il_tools.specs.Form.{is_name};
 ghost use Rattle.il_tools.specs.Denoted.{denoted};
-ghost use Rattle.il_tools.specs.Plain.{HoldsTexts, HoldsRows};
+ghost use Rattle.il_tools.specs.Plain.{HoldsTexts, HoldsRows, HoldsAll};
 
 use crate::form::Form;
 use heaps::{GuidHeap, StringHeap};
@@ -42,16 +42,33 @@ pub(crate) fn write_plain(alloc: Global, form: &Form<'_>, id: &[u8]) -> Result<B
     let mut guids = GuidHeap::new(alloc)?;
     let mvid = guids.add(id)?;
     let tables = encode_rows(alloc, &form.version, &texts, mvid)?;
-    let streams = Streams {
-        tables: tables.as_slice(),
-        strings: texts.heap.bytes(),
-        user: &[0],
-        guids: guids.bytes(),
-        blobs: &[0],
-    };
-    let metadata = put_together(alloc, &streams)?;
+    let stream = tables.as_slice();
+    let metadata = make_metadata(alloc, stream, texts.heap.bytes(), guids.bytes())?;
     let parts = Parts::new(alloc, &[], metadata.as_slice(), 0, &NUMBERS, Kind::Dll)?;
     pe_layout::write(alloc, &parts)
+}
+
+// The metadata with these streams, and with heaps that have nothing but their empty entry.
+fn make_metadata(
+    alloc: Global,
+    tables: &[u8],
+    strings: &[u8],
+    guids: &[u8],
+) -> Result<Bytes, NoMemory>
+    requires tables { length tables.now < 2 ^ 12 }
+    requires strings { length strings.now < 2 ^ 12 }
+    requires guids { length guids.now < 2 ^ 12 }
+    ensures holds { IfOk result (HoldsAll tables.now strings.now guids.now) }
+    ensures len { IfOk result (λ metadata. length metadata < 2 ^ 16) }
+{
+    let streams = Streams {
+        tables,
+        strings,
+        user: &[0],
+        guids,
+        blobs: &[0],
+    };
+    put_together(alloc, &streams)
 }
 
 // The heap of texts, with the indexes of three.

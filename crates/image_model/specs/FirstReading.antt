@@ -1,8 +1,7 @@
 -- How an image with nothing but a manifest reads as an assembly: through the file map to the metadata, its root and its streams,
 -- to the one row in each of the tables Module, TypeDef and Assembly (II.22.30, II.22.37, II.22.2), where all indexes have 2 bytes.
-use Rattle.std.specs.Prelude.{◌≡◌, ◌≢◌, ℕ, List, [], ◌∷◌, None, length, take, codes}
-use Rattle.pe_layout.specs.FileMap.{readable}
-use Rattle.pe_layout.specs.CliHeader.{metadata_rva_of, metadata_size_of, entry_token_of}
+use Rattle.std.specs.Prelude.{◌≡◌, ◌≢◌, ℕ, List, [], ◌∷◌, None, length, codes}
+use Rattle.pe_layout.specs.CliHeader.{metadata_of, metadata_size_of, entry_token_of}
 use Rattle.pe_layout.specs.Faults.{pe_fault}
 use Rattle.pe_layout.specs.Numbers.{numbers_of}
 use Rattle.pe_layout.specs.declared.ManifestNumbers.{ManifestNumbers}
@@ -13,10 +12,6 @@ use Rattle.assembly_tree.specs.declared.Assembly.{Assembly}
 use Rattle.assembly_tree.specs.declared.Manifest.{Manifest}
 use Rattle.image_model.specs.Root.{IsRoot, HasStream}
 
--- the metadata to which the CLI header leads
-unfoldable pub metadata_in : List ℕ → List ℕ
-metadata_in image = take (metadata_size_of image) (readable image (metadata_rva_of image))
-
 -- the streams of an image
 pub record Opened (image : List ℕ) : Type 0 where
   pub tables : List ℕ
@@ -24,12 +19,12 @@ pub record Opened (image : List ℕ) : Type 0 where
   pub guids : List ℕ
   pub blobs : List ℕ
   pub faultless : pe_fault image ≡ None
-  pub there : length (metadata_in image) ≡ metadata_size_of image
-  pub root : IsRoot (metadata_in image)
-  pub has_tables : HasStream (metadata_in image) (codes "#~") tables
-  pub has_strings : HasStream (metadata_in image) (codes "#Strings") strings
-  pub has_guids : HasStream (metadata_in image) (codes "#GUID") guids
-  pub has_blobs : HasStream (metadata_in image) (codes "#Blob") blobs
+  pub there : length (metadata_of image) ≡ metadata_size_of image
+  pub root : IsRoot (metadata_of image)
+  pub has_tables : HasStream (metadata_of image) (codes "#~") tables
+  pub has_strings : HasStream (metadata_of image) (codes "#Strings") strings
+  pub has_guids : HasStream (metadata_of image) (codes "#GUID") guids
+  pub has_blobs : HasStream (metadata_of image) (codes "#Blob") blobs
   pub whole : IsWhole tables
 
 -- one row in each of the three tables and none in others

@@ -57,5 +57,5 @@ returns c =
     let all = c.type_inv.version in
     if_ok c.encode.result _ _
       (λ stream holds. holds_rows v (indexes (goal.at.returns c).In_ok-push-3) (below v all 0) (below v all 1) (below v all 2) (below v all 3)
-        c.requires.module_name c.requires.type_name c.requires.name c.requires.mvid c.push-3.new.self (are (goal.at.returns c).In_ok-push-3) stream holds)
+        c.requires.module_name c.requires.type_name c.requires.name c.requires.mvid c.push-3.new.self (are (goal.at.returns c).In_ok-push-3) stream c.requires.version holds)
       c.encode.ensures
