@@ -1,5 +1,6 @@
 pub mod FormLemmas
 pub mod FrontLemmas
+pub mod OutcomeLemmas
 pub mod PlainReads
 pub mod PlainRows
 pub mod PlainTexts

@@ -33,7 +33,7 @@ pub(crate) fn assemble<S: Shelf>(
     ensures too_long { IsTrue (S.tells shelf.old) → result ≡ Err Fault.TooLong → (source : List ℕ) × (S.files shelf.old (file_of words.now) ≡ Some source) × (2 ^ 27 < length source) }
     ensures form { IsTrue (S.tells shelf.old) → result ≡ Err Fault.Form → (source : List ℕ) × (S.files shelf.old (file_of words.now) ≡ Some source) × (length source ≤ 2 ^ 27) × (form_of source ≡ None) }
     ensures unwritten { result ≡ Err Fault.Unwritten → Rose (S.failed_writes shelf.old) (S.failed_writes shelf.new) }
-    ensures done { IsTrue (S.tells shelf.old) → IsOk result → (source : List ℕ) × (image : List ℕ) × (S.files shelf.old (file_of words.now) ≡ Some source) × IsImageOf source image × (S.files shelf.new (output_of (file_of words.now)) ≡ Some image) }
+    ensures done { IsTrue (S.tells shelf.old) → IsOk result → (source : List ℕ) × (image : List ℕ) × (S.files shelf.old (file_of words.now) ≡ Some source) × (length source ≤ 2 ^ 27) × IsImageOf source image × (S.files shelf.new (output_of (file_of words.now)) ≡ Some image) }
     ensures begun { IsTrue (S.tells shelf.old) → result ≡ Err Fault.Unwritten → (source : List ℕ) × (image : List ℕ) × (S.files shelf.old (file_of words.now) ≡ Some source) × IsImageOf source image × ((S.files shelf.new ≡ S.files shelf.old) ⊎ HoldsFront (S.files shelf.new) (output_of (file_of words.now)) image) }
 
     // What stays.

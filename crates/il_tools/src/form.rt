@@ -15,7 +15,8 @@ pub(crate) struct Form<'a> {
 /// What a source says, or None where it isn't of the form.
 #[tactic(auto, unfolding(crate::specs::Form::form_of))]
 pub(crate) fn form_of(source: &[u8]) -> Option<Form<'_>>
-    ensures { MatchOption result (form_of source.now ≡ None) (λ form. form_of source.now ≡ Some (record { name = form.name.now; version = form.version })) }
+    ensures form { MatchOption result (form_of source.now ≡ None) (λ form. form_of source.now ≡ Some (record { name = form.name.now; version = form.version })) }
+    ensures name { IfSome result (λ form. is_name form.name.now ≡ true) }
 {
     let words = six_words(source)?;
     if words.assembly != b".assembly".as_slice()

@@ -7,4 +7,8 @@ mod form;
 mod input;
 mod output;
 mod plain;
+mod report;
+mod top;
 mod words;
+
+pub use top::{Status, run};

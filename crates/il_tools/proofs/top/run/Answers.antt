@@ -1,0 +1,16 @@
+use Rattle.std.proofs.Common.{◌≡◌, ap, sym, ◌∙◌, refl, Ok, Err}
+use Rattle.il_tools.proofs.OutcomeLemmas.{Answers-done, Answers-fault, brief, same_Err, not_Ok}
+use Rattle.il_tools.proofs.top.run.Goals as goal
+
+pub returns-in-Ok-clause-answers : goal.returns-in-Ok-clause-answers
+returns-in-Ok-clause-answers g c =
+    let a = c.in-Ok.ensures in
+    Answers-done c.args.words.now _ _ _ _ _ _ _ _ _ (λ t. a.done t refl) (λ word is. not_Ok _ _ (a.misfit word is)) a.others
+
+pub returns-in-Err-clause-answers : goal.returns-in-Err-clause-answers
+returns-in-Err-clause-answers g c =
+    let a = c.in-Err.ensures in
+    let fault = c.in-Err.fault in
+    Answers-fault c.args.words.now _ _ _ _ _ _ _ _ _ c.report.result fault (brief _ _ _ _ _ _ _ _ c.report.ensures.reported)
+      (λ word e. a.usage word (ap Err e)) (λ word is. same_Err fault _ (a.misfit word is)) (λ e. a.unread (ap Err e)) (λ t e. a.too_long t (ap Err e))
+      (λ t e. a.form t (ap Err e)) (λ e. a.unwritten (ap Err e)) (λ t e. a.begun t (ap Err e)) a.same_files a.others

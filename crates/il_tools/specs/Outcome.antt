@@ -1,0 +1,78 @@
+-- How the program ends: its status, and what it says on standard error.
+use Rattle.std.specs.Prelude.{◌≡◌, ◌≢◌, ℕ, ◌+◌, ◌≤◌, ◌<◌, ◌^◌, ◌⊎◌, Bool, IsTrue, List, [], ◌∷◌, ◌++◌, Option, Some, None, length, take, codes}
+use Rattle.std.specs.Fmt.{decimal}
+use Rattle.il_base.specs.Outside.{Files, Rose, ChangesOnly}
+use Rattle.il_tools.specs.Assembled.{IsImageOf}
+use Rattle.il_tools.specs.Form.{Form, form_of}
+use Rattle.il_tools.specs.Output.{HoldsFront}
+use Rattle.il_tools.specs.Words.{usage_fault, file_of, output_of}
+use Rattle.il_tools.specs.declared.fault.Fault.{Fault}
+use Rattle.il_tools.specs.declared.fault.Fault.TheVariants.{Usage, Form as NoForm, Unread, TooLong, Unwritten, NoMemory}
+
+-- the status of a fault
+abbrev pub number_of : Fault → ℕ
+number_of NoForm = 1
+number_of (Usage word) = 2
+number_of Unread = 3
+number_of Unwritten = 4
+number_of TooLong = 5
+number_of NoMemory = 6
+
+-- what is said of it, where FILE has this name
+abbrev pub text_of : List ℕ → Fault → List ℕ
+text_of file NoForm = file ++ codes ": error P1: this form isn't read yet\n"
+text_of file (Usage word) = codes "usage fault at word " ++ (decimal word ++ codes "\n")
+text_of file Unread = file ++ codes ": cannot be read\n"
+text_of file Unwritten = []
+text_of file TooLong = file ++ codes ": longer than 134217728 bytes\n"
+text_of file NoMemory = []
+
+-- A fault was reported: its text stands on standard error and its status is answered; or there was no memory for a text, and
+-- nothing was said; or the console failed, and took a front of the text.
+abbrev pub Reported : Bool → ℕ → Fault → List ℕ → ℕ → ℕ → List ℕ → List ℕ → Type 0
+Reported tells number fault text failed_before failed_now before now =
+    ((number ≡ number_of fault) × (IsTrue tells → now ≡ before ++ text))
+    ⊎ (((number ≡ 6) × (fault ≢ Unwritten) × (IsTrue tells → now ≡ before))
+    ⊎ ((number ≡ 4) × Rose failed_before failed_now × (IsTrue tells → (count : ℕ) × (now ≡ before ++ take count text))))
+
+-- what a status says of the words and of the told files, before and after
+pub record Answers (words : List (List ℕ)) (number : ℕ) (tells : Bool) (before now : Files) (reads reads_now writes writes_now failed failed_now : ℕ) : Type 0 where
+  pub range : number ≤ 6
+
+  -- 2: exactly where the words don't fit
+  pub usage : number ≡ 2 → (word : ℕ) × (usage_fault words ≡ Some word)
+  pub misfit : (word : ℕ) → usage_fault words ≡ Some word → (number ≡ 2) ⊎ ((number ≡ 4) ⊎ (number ≡ 6))
+
+  -- 3 and 4: only by a failure that is counted, or where the told file is absent
+  pub read_cause : number ≡ 3 → Rose reads reads_now ⊎ (IsTrue tells × (before (file_of words) ≡ None))
+  pub write_cause : number ≡ 4 → Rose writes writes_now ⊎ Rose failed failed_now
+  pub absent : IsTrue tells → usage_fault words ≡ None → before (file_of words) ≡ None → (number ≡ 3) ⊎ ((number ≡ 4) ⊎ (number ≡ 6))
+
+  -- 5: exactly where the told file has more than 2 ^ 27 bytes
+  pub too_long : IsTrue tells → number ≡ 5 → (source : List ℕ) × (before (file_of words) ≡ Some source) × (2 ^ 27 < length source)
+  pub long : IsTrue tells → usage_fault words ≡ None → (source : List ℕ) → before (file_of words) ≡ Some source → 2 ^ 27 < length source
+      → (number ≡ 5) ⊎ ((number ≡ 3) ⊎ ((number ≡ 4) ⊎ (number ≡ 6)))
+
+  -- 1: exactly where the told source isn't of the form
+  pub no_form : IsTrue tells → number ≡ 1 → (source : List ℕ) × (before (file_of words) ≡ Some source) × (length source ≤ 2 ^ 27) × (form_of source ≡ None)
+  pub other_form : IsTrue tells → usage_fault words ≡ None → (source : List ℕ) → before (file_of words) ≡ Some source → length source ≤ 2 ^ 27
+      → form_of source ≡ None → (number ≡ 1) ⊎ ((number ≡ 3) ⊎ ((number ≡ 4) ⊎ (number ≡ 6)))
+
+  -- 0: the output is an image that reads as the assembly that the source denotes
+  pub done : IsTrue tells → number ≡ 0 → (source : List ℕ) × (image : List ℕ) × (before (file_of words) ≡ Some source) × IsImageOf source image
+      × (now (output_of (file_of words)) ≡ Some image)
+  pub complete : IsTrue tells → usage_fault words ≡ None → (source : List ℕ) (form : Form) → before (file_of words) ≡ Some source → length source ≤ 2 ^ 27
+      → form_of source ≡ Some form → (Rose reads reads_now → ⊥) → (Rose writes writes_now → ⊥) → (Rose failed failed_now → ⊥) → (number ≡ 0) ⊎ (number ≡ 6)
+
+  -- what stands afterwards
+  pub untouched : IsTrue tells → number ≢ 0 → number ≢ 4 → now ≡ before
+  pub front : IsTrue tells → number ≡ 4 → (now ≡ before) ⊎ ((source : List ℕ) × (image : List ℕ) × (before (file_of words) ≡ Some source)
+      × IsImageOf source image × HoldsFront now (output_of (file_of words)) image)
+  pub others : IsTrue tells → ChangesOnly (output_of (file_of words)) before now
+
+-- what a console that tells has taken on standard error
+pub record Says (words : List (List ℕ)) (number : ℕ) (tells : Bool) (before now : List ℕ) : Type 0 where
+  pub quiet : IsTrue tells → (number ≡ 0) ⊎ (number ≡ 6) → now ≡ before
+  pub text : IsTrue tells → number ≢ 0 → number ≢ 4 → number ≢ 6 → (fault : Fault) × (number ≡ number_of fault)
+      × (now ≡ before ++ text_of (file_of words) fault) × ((word : ℕ) → fault ≡ Usage word → usage_fault words ≡ Some word)
+  pub front : IsTrue tells → number ≡ 4 → (fault : Fault) × (count : ℕ) × (now ≡ before ++ take count (text_of (file_of words) fault))
