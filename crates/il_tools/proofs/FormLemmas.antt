@@ -56,7 +56,7 @@ words_of-word xs i some less before here =
     ap (filter is_filled) (split_at_place is_blank xs i less before here)
     ∙ filled_first (take i xs) (slice_split is_blank rest) (rw length-take (omega arith))
     ∙ ap (λ ys. take i xs ∷ ys) (sym (ap (λ ys. filter is_filled (slice_split is_blank ys)) (drop-cons xs i 0 less)
-        ∙ ap (filter is_filled) (slice_split-cons_yes is_blank (get_or xs i 0) rest here)))
+    ∙ ap (filter is_filled) (slice_split-cons_yes is_blank (get_or xs i 0) rest here)))
 
 pub words_of-last : (xs : List ℕ) → 0 < length xs → ((k : ℕ) → k < length xs → is_blank (get_or xs k 0) ≡ false) → words_of xs ≡ xs ∷ words_of []
 unfolding words_of

@@ -74,7 +74,7 @@ some_none o x some none = absurd cc
 module _ (words : List (List ℕ)) (tells : Bool) (before now : Files) (reads reads_now writes writes_now failed failed_now : ℕ) where
   -- nothing failed
   pub Answers-done : (IsTrue tells → (source : List ℕ) × (image : List ℕ) × (before (file_of words) ≡ Some source) × (length source ≤ 2 ^ 27) × IsImageOf source image
-        × (now (output_of (file_of words)) ≡ Some image))
+      × (now (output_of (file_of words)) ≡ Some image))
       → ((word : ℕ) → usage_fault words ≡ Some word → ⊥) → (IsTrue tells → ChangesOnly (output_of (file_of words)) before now)
       → Answers words 0 tells before now reads reads_now writes writes_now failed failed_now
   Answers-done done no_misfit others = record {
@@ -108,122 +108,156 @@ module _ (words : List (List ℕ)) (tells : Bool) (before now : Files) (reads re
       (no_form : IsTrue tells → fault ≡ NoForm → (source : List ℕ) × (before (file_of words) ≡ Some source) × (length source ≤ 2 ^ 27) × (form_of source ≡ None))
       (unwritten : fault ≡ Unwritten → Rose writes writes_now)
       (begun : IsTrue tells → fault ≡ Unwritten → (source : List ℕ) × (image : List ℕ) × (before (file_of words) ≡ Some source) × IsImageOf source image
-        × ((now ≡ before) ⊎ HoldsFront now (output_of (file_of words)) image))
+      × ((now ≡ before) ⊎ HoldsFront now (output_of (file_of words)) image))
       (same_files : IsTrue tells → fault ≢ Unwritten → now ≡ before)
       (others : IsTrue tells → ChangesOnly (output_of (file_of words)) before now) where
     named : (k : ℕ) → number ≡ k → k ≢ 6 → k ≢ 4 → number_of fault ≡ k
     named k e n6 n4 = elim reported [
-        inl n ↦ sym n ∙ e
-      | inr r ↦ elim r [ inl s ↦ absurd (n6 (sym e ∙ s.0)) | inr f ↦ absurd (n4 (sym e ∙ f.0)) ] ]
+      | inl n ↦ sym n ∙ e
+      | inr r ↦ elim r [ inl s ↦ absurd (n6 (sym e ∙ s.0)) | inr f ↦ absurd (n4 (sym e ∙ f.0)) ]
+    ]
 
     no_usage : usage_fault words ≡ None → (word : ℕ) → fault ≡ Usage word → ⊥
     no_usage fits word e = some_none (usage_fault words) word (usage word e) fits
 
     in_range : number ≤ 6
     in_range = let r = number_range fault in elim reported [
-        inl n ↦ omega arith
-      | inr r ↦ elim r [ inl s ↦ omega (arith, s.0) | inr f ↦ omega (arith, f.0) ] ]
+      | inl n ↦ omega arith
+      | inr r ↦ elim r [ inl s ↦ omega (arith, s.0) | inr f ↦ omega (arith, f.0) ]
+    ]
 
     by_write : number ≡ 4 → Rose writes writes_now ⊎ Rose failed failed_now
     by_write e = elim reported [
-        inl n ↦ inl (unwritten (is_unwritten fault (sym n ∙ e)))
-      | inr r ↦ elim r [ inl s ↦ absurd (omega (arith, s.0)) | inr f ↦ inr f.1 ] ]
+      | inl n ↦ inl (unwritten (is_unwritten fault (sym n ∙ e)))
+      | inr r ↦ elim r [ inl s ↦ absurd (omega (arith, s.0)) | inr f ↦ inr f.1 ]
+    ]
 
     by_misfit : (word : ℕ) → usage_fault words ≡ Some word → (number ≡ 2) ⊎ ((number ≡ 4) ⊎ (number ≡ 6))
     by_misfit word is = elim reported [
-        inl n ↦ inl (n ∙ ap number_of (misfit word is))
-      | inr r ↦ elim r [ inl s ↦ inr (inr s.0) | inr f ↦ inr (inl f.0) ] ]
+      | inl n ↦ inl (n ∙ ap number_of (misfit word is))
+      | inr r ↦ elim r [ inl s ↦ inr (inr s.0) | inr f ↦ inr (inl f.0) ]
+    ]
 
     by_absent : IsTrue tells → usage_fault words ≡ None → before (file_of words) ≡ None → (number ≡ 3) ⊎ ((number ≡ 4) ⊎ (number ≡ 6))
     by_absent t fits none = elim reported [
-        inr r ↦ elim r [ inl s ↦ inr (inr s.0) | inr f ↦ inr (inl f.0) ]
+      | inr r ↦ elim r [ inl s ↦ inr (inr s.0) | inr f ↦ inr (inl f.0) ]
       | inl n ↦ elim (which fault) [
-            inl u ↦ absurd (no_usage fits u.0 u.1)
-          | inr a ↦ elim a [
-                inl e ↦ let s = no_form t e in absurd (some_none (before (file_of words)) s.0 s.1 none)
-              | inr b ↦ elim b [
-                    inl e ↦ inl (n ∙ ap number_of e)
-                  | inr c ↦ elim c [
-                        inl e ↦ let s = too_long t e in absurd (some_none (before (file_of words)) s.0 s.1 none)
-                      | inr d ↦ elim d [ inl e ↦ inr (inl (n ∙ ap number_of e)) | inr e ↦ inr (inr (n ∙ ap number_of e)) ] ] ] ] ] ]
+        | inl u ↦ absurd (no_usage fits u.0 u.1)
+        | inr a ↦ elim a [
+          | inl e ↦ let s = no_form t e in absurd (some_none (before (file_of words)) s.0 s.1 none)
+          | inr b ↦ elim b [
+            | inl e ↦ inl (n ∙ ap number_of e)
+            | inr c ↦ elim c [
+              | inl e ↦ let s = too_long t e in absurd (some_none (before (file_of words)) s.0 s.1 none)
+              | inr d ↦ elim d [ inl e ↦ inr (inl (n ∙ ap number_of e)) | inr e ↦ inr (inr (n ∙ ap number_of e)) ]
+            ]
+          ]
+        ]
+      ]
+    ]
 
     by_long : IsTrue tells → usage_fault words ≡ None → (source : List ℕ) → before (file_of words) ≡ Some source → 2 ^ 27 < length source
         → (number ≡ 5) ⊎ ((number ≡ 3) ⊎ ((number ≡ 4) ⊎ (number ≡ 6)))
     by_long t fits source is more = elim reported [
-        inr r ↦ elim r [ inl s ↦ inr (inr (inr s.0)) | inr f ↦ inr (inr (inl f.0)) ]
+      | inr r ↦ elim r [ inl s ↦ inr (inr (inr s.0)) | inr f ↦ inr (inr (inl f.0)) ]
       | inl n ↦ elim (which fault) [
-            inl u ↦ absurd (no_usage fits u.0 u.1)
-          | inr a ↦ elim a [
-                inl e ↦ let s = no_form t e in
-                    let same : s.0 ≡ source = same_Some s.0 source (sym s.1 ∙ is) in
-                    let short : length source ≤ 2 ^ 27 = rw same at s.2 in absurd (omega arith)
-              | inr b ↦ elim b [
-                    inl e ↦ inr (inl (n ∙ ap number_of e))
-                  | inr c ↦ elim c [
-                        inl e ↦ inl (n ∙ ap number_of e)
-                      | inr d ↦ elim d [ inl e ↦ inr (inr (inl (n ∙ ap number_of e))) | inr e ↦ inr (inr (inr (n ∙ ap number_of e))) ] ] ] ] ] ]
+        | inl u ↦ absurd (no_usage fits u.0 u.1)
+        | inr a ↦ elim a [
+          | inl e ↦ let s = no_form t e in
+              let same : s.0 ≡ source = same_Some s.0 source (sym s.1 ∙ is) in
+              let short : length source ≤ 2 ^ 27 = rw same at s.2 in absurd (omega arith)
+          | inr b ↦ elim b [
+            | inl e ↦ inr (inl (n ∙ ap number_of e))
+            | inr c ↦ elim c [
+              | inl e ↦ inl (n ∙ ap number_of e)
+              | inr d ↦ elim d [ inl e ↦ inr (inr (inl (n ∙ ap number_of e))) | inr e ↦ inr (inr (inr (n ∙ ap number_of e))) ]
+            ]
+          ]
+        ]
+      ]
+    ]
 
     by_other_form : IsTrue tells → usage_fault words ≡ None → (source : List ℕ) → before (file_of words) ≡ Some source → length source ≤ 2 ^ 27
         → form_of source ≡ None → (number ≡ 1) ⊎ ((number ≡ 3) ⊎ ((number ≡ 4) ⊎ (number ≡ 6)))
     by_other_form t fits source is within none = elim reported [
-        inr r ↦ elim r [ inl s ↦ inr (inr (inr s.0)) | inr f ↦ inr (inr (inl f.0)) ]
+      | inr r ↦ elim r [ inl s ↦ inr (inr (inr s.0)) | inr f ↦ inr (inr (inl f.0)) ]
       | inl n ↦ elim (which fault) [
-            inl u ↦ absurd (no_usage fits u.0 u.1)
-          | inr a ↦ elim a [
-                inl e ↦ inl (n ∙ ap number_of e)
-              | inr b ↦ elim b [
-                    inl e ↦ inr (inl (n ∙ ap number_of e))
-                  | inr c ↦ elim c [
-                        inl e ↦ let s = too_long t e in
-                            let same : s.0 ≡ source = same_Some s.0 source (sym s.1 ∙ is) in
-                            let long : 2 ^ 27 < length source = rw same at s.2 in absurd (omega arith)
-                      | inr d ↦ elim d [ inl e ↦ inr (inr (inl (n ∙ ap number_of e))) | inr e ↦ inr (inr (inr (n ∙ ap number_of e))) ] ] ] ] ] ]
+        | inl u ↦ absurd (no_usage fits u.0 u.1)
+        | inr a ↦ elim a [
+          | inl e ↦ inl (n ∙ ap number_of e)
+          | inr b ↦ elim b [
+            | inl e ↦ inr (inl (n ∙ ap number_of e))
+            | inr c ↦ elim c [
+              | inl e ↦ let s = too_long t e in
+                  let same : s.0 ≡ source = same_Some s.0 source (sym s.1 ∙ is) in
+                  let long : 2 ^ 27 < length source = rw same at s.2 in absurd (omega arith)
+              | inr d ↦ elim d [ inl e ↦ inr (inr (inl (n ∙ ap number_of e))) | inr e ↦ inr (inr (inr (n ∙ ap number_of e))) ]
+            ]
+          ]
+        ]
+      ]
+    ]
 
     by_form : IsTrue tells → usage_fault words ≡ None → (source : List ℕ) (form : Form) → before (file_of words) ≡ Some source → length source ≤ 2 ^ 27
         → form_of source ≡ Some form → (Rose reads reads_now → ⊥) → (Rose writes writes_now → ⊥) → (Rose failed failed_now → ⊥) → (number ≡ 0) ⊎ (number ≡ 6)
     by_form t fits source form is within has nr nw nf = elim reported [
-        inr r ↦ elim r [ inl s ↦ inr s.0 | inr f ↦ absurd (nf f.1) ]
+      | inr r ↦ elim r [ inl s ↦ inr s.0 | inr f ↦ absurd (nf f.1) ]
       | inl n ↦ elim (which fault) [
-            inl u ↦ absurd (no_usage fits u.0 u.1)
-          | inr a ↦ elim a [
-                inl e ↦ let s = no_form t e in
-                    let same : s.0 ≡ source = same_Some s.0 source (sym s.1 ∙ is) in
-                    absurd (some_none (form_of source) form has (ap form_of (sym same) ∙ s.3))
-              | inr b ↦ elim b [
-                    inl e ↦ elim (unread e) [ inl rose ↦ absurd (nr rose) | inr gone ↦ absurd (some_none (before (file_of words)) source is gone.1) ]
-                  | inr c ↦ elim c [
-                        inl e ↦ let s = too_long t e in
-                            let same : s.0 ≡ source = same_Some s.0 source (sym s.1 ∙ is) in
-                            let long : 2 ^ 27 < length source = rw same at s.2 in absurd (omega arith)
-                      | inr d ↦ elim d [ inl e ↦ absurd (nw (unwritten e)) | inr e ↦ inr (n ∙ ap number_of e) ] ] ] ] ] ]
+        | inl u ↦ absurd (no_usage fits u.0 u.1)
+        | inr a ↦ elim a [
+          | inl e ↦ let s = no_form t e in
+              let same : s.0 ≡ source = same_Some s.0 source (sym s.1 ∙ is) in
+              absurd (some_none (form_of source) form has (ap form_of (sym same) ∙ s.3))
+          | inr b ↦ elim b [
+            | inl e ↦ elim (unread e) [ inl rose ↦ absurd (nr rose) | inr gone ↦ absurd (some_none (before (file_of words)) source is gone.1) ]
+            | inr c ↦ elim c [
+              | inl e ↦ let s = too_long t e in
+                  let same : s.0 ≡ source = same_Some s.0 source (sym s.1 ∙ is) in
+                  let long : 2 ^ 27 < length source = rw same at s.2 in absurd (omega arith)
+              | inr d ↦ elim d [ inl e ↦ absurd (nw (unwritten e)) | inr e ↦ inr (n ∙ ap number_of e) ]
+            ]
+          ]
+        ]
+      ]
+    ]
 
     stays : IsTrue tells → number ≢ 4 → now ≡ before
     stays t n4 = same_files t (λ e. elim reported [
-        inl n ↦ n4 (n ∙ ap number_of e)
-      | inr r ↦ elim r [ inl s ↦ s.1 e | inr f ↦ n4 f.0 ] ])
+      | inl n ↦ n4 (n ∙ ap number_of e)
+      | inr r ↦ elim r [ inl s ↦ s.1 e | inr f ↦ n4 f.0 ]
+    ])
 
     by_front : IsTrue tells → number ≡ 4 → (now ≡ before) ⊎ ((source : List ℕ) × (image : List ℕ) × (before (file_of words) ≡ Some source)
         × IsImageOf source image × HoldsFront now (output_of (file_of words)) image)
     by_front t e = elim (which fault) [
-        inl u ↦ inl (same_files t (λ q. absurd (two_faults u.0 (sym u.1 ∙ q))))
+      | inl u ↦ inl (same_files t (λ q. absurd (two_faults u.0 (sym u.1 ∙ q))))
       | inr a ↦ elim a [
-            inl q ↦ inl (same_files t (λ p. absurd (one_fault (sym q ∙ p))))
-          | inr b ↦ elim b [
-                inl q ↦ inl (same_files t (λ p. absurd (three_fault (sym q ∙ p))))
-              | inr c ↦ elim c [
-                    inl q ↦ inl (same_files t (λ p. absurd (five_fault (sym q ∙ p))))
-                  | inr d ↦ elim d [
-                        inl q ↦ let g = begun t q in elim g.4 [ inl same ↦ inl same | inr front ↦ inr (g.0, g.1, g.2, g.3, front) ]
-                      | inr q ↦ inl (same_files t (λ p. absurd (six_fault (sym q ∙ p)))) ] ] ] ] ]
+        | inl q ↦ inl (same_files t (λ p. absurd (one_fault (sym q ∙ p))))
+        | inr b ↦ elim b [
+          | inl q ↦ inl (same_files t (λ p. absurd (three_fault (sym q ∙ p))))
+          | inr c ↦ elim c [
+            | inl q ↦ inl (same_files t (λ p. absurd (five_fault (sym q ∙ p))))
+            | inr d ↦ elim d [
+              | inl q ↦ let g = begun t q in elim g.4 [ inl same ↦ inl same | inr front ↦ inr (g.0, g.1, g.2, g.3, front) ]
+              | inr q ↦ inl (same_files t (λ p. absurd (six_fault (sym q ∙ p))))
+            ]
+          ]
+        ]
+      ]
+    ]
       where
         two_faults : (word : ℕ) → Usage word ≡ Unwritten → ⊥
         two_faults word p = absurd cc
+
         one_fault : NoForm ≡ Unwritten → ⊥
         one_fault p = absurd cc
+
         three_fault : Unread ≡ Unwritten → ⊥
         three_fault p = absurd cc
+
         five_fault : TooLong ≡ Unwritten → ⊥
         five_fault p = absurd cc
+
         six_fault : NoMemory ≡ Unwritten → ⊥
         six_fault p = absurd cc
 

@@ -9,7 +9,9 @@ use Rattle.byteorder.specs.Numbers.{little_from-lt}
 use Rattle.metadata_tables.specs.Schema.{schema, columns_of}
 use Rattle.metadata_tables.specs.Stream.{heap_sizes, row_count, cell, column_of, width, columns_size, table_start, row_size, header_size, present}
 use Rattle.metadata_tables.specs.Faults.{IsWhole}
-use Rattle.metadata_tables.specs.Encoding.{rows_of, rows_in, cell_of, AddsRow, FitsWidths, Holds}
+use Rattle.metadata_tables.specs.Encoding.{rows_of, rows_in, cell_of, AddsRow, FitsIndex, FitsWidths, Holds}
+use Rattle.metadata_tables.specs.declared.schema.Column.{Column}
+use Rattle.metadata_tables.specs.declared.schema.Column.TheVariants.{Number, Strings, Guids, Blobs, Row, Run, Tagged}
 use Rattle.il_tools.specs.Plain.{Indexes, three_rows, module_cells, type_cells, assembly_cells, plain_rows, HoldsRows}
 
 not_equal : (a b : ℕ) → (a ≡ b → ⊥) → (a == b) ≡ false
@@ -35,14 +37,26 @@ module _ (m t a : List ℕ) where
   module _ (r0 r1 r2 r3 : List (List (List ℕ))) (none : (k : ℕ) → rows_of r0 k ≡ []) (one : AddsRow r0 r1 0x00 m) (two : AddsRow r1 r2 0x02 t) (three : AddsRow r2 r3 0x20 a) where
     pub rows_are : (k : ℕ) → rows_of r3 k ≡ three_rows m t a k
     rows_are k = elim (cases_eq k 0x20) [
-        inl e ↦ subst (λ n. rows_of r3 n ≡ three_rows m t a n) (sym e)
-            (three.added ∙ ap (λ rs. rs ++ a ∷ []) (two.others 0x20 (λ q. absurd (omega arith)) ∙ one.others 0x20 (λ q. absurd (omega arith)) ∙ none 0x20))
+      | inl e ↦ subst (λ n. rows_of r3 n ≡ three_rows m t a n) (sym e)
+          (three.added ∙ ap (λ rs. rs ++ a ∷ []) (two.others 0x20 (λ q. absurd (omega arith)) ∙ one.others 0x20 (λ q. absurd (omega arith)) ∙ none 0x20))
       | inr n20 ↦ three.others k n20 ∙ elim (cases_eq k 0x02) as (λ _. rows_of r2 k ≡ three_rows m t a k) [
-            inl e ↦ subst (λ n. rows_of r2 n ≡ three_rows m t a n) (sym e)
-                (two.added ∙ ap (λ rs. rs ++ t ∷ []) (one.others 0x02 (λ q. absurd (omega arith)) ∙ none 0x02))
-          | inr n2 ↦ two.others k n2 ∙ elim (cases_eq k 0x00) as (λ _. rows_of r1 k ≡ three_rows m t a k) [
-                inl e ↦ subst (λ n. rows_of r1 n ≡ three_rows m t a n) (sym e) (one.added ∙ ap (λ rs. rs ++ m ∷ []) (none 0x00))
-              | inr n0 ↦ one.others k n0 ∙ none k ∙ sym (rows_none k n0 n2 n20) ] ] ]
+        | inl e ↦ subst (λ n. rows_of r2 n ≡ three_rows m t a n) (sym e)
+            (two.added ∙ ap (λ rs. rs ++ t ∷ []) (one.others 0x02 (λ q. absurd (omega arith)) ∙ none 0x02))
+        | inr n2 ↦ two.others k n2 ∙ elim (cases_eq k 0x00) as (λ _. rows_of r1 k ≡ three_rows m t a k) [
+          | inl e ↦ subst (λ n. rows_of r1 n ≡ three_rows m t a n) (sym e) (one.added ∙ ap (λ rs. rs ++ m ∷ []) (none 0x00))
+          | inr n0 ↦ one.others k n0 ∙ none k ∙ sym (rows_none k n0 n2 n20)
+        ]
+      ]
+    ]
+
+fits_index : (counts : ℕ → ℕ) (heaps : ℕ) (column : Column) (value : ℕ) → value < 256 ^ width counts heaps column → FitsIndex counts heaps column value
+fits_index counts heaps (Number bytes) value h = tt
+fits_index counts heaps (Strings nil) value h = h
+fits_index counts heaps (Guids nil) value h = h
+fits_index counts heaps (Blobs nil) value h = h
+fits_index counts heaps (Row table) value h = h
+fits_index counts heaps (Run table) value h = h
+fits_index counts heaps (Tagged kind nil) value h = h
 
 -- the row counts of the three tables
 abbrev counts : List ℕ → List ℕ → List ℕ → ℕ → ℕ
@@ -107,18 +121,26 @@ module _ (version : List ℕ) (at : Indexes) (v0 : slice_index version 0 < 2 ^ 1
     fits_table table row column number x e is in_row small =
         let cell_is = one_row (rows_of r table) x row column (are table ∙ is) in_row in
         subst (λ f. cell_of r table row column < 256 ^ width f 0 (column_of table column)) (sym same_counts)
-          (subst (λ n. cell_of r table row column < 256 ^ width (counts m t a) 0 (column_of n column)) (sym e)
-            (subst (λ v. v < 256 ^ width (counts m t a) 0 (column_of number column)) (sym cell_is) small))
+        (subst (λ n. cell_of r table row column < 256 ^ width (counts m t a) 0 (column_of n column)) (sym e)
+        (subst (λ v. v < 256 ^ width (counts m t a) 0 (column_of number column)) (sym cell_is) small))
+
+    all_fit : (table row column : ℕ) → row < rows_in r table → column < length (columns_of table)
+        → cell_of r table row column < 256 ^ width (rows_in r) 0 (column_of table column)
+    unfolding schema
+    all_fit table row column in_row in_column = elim (cases_eq table 0x00) [
+      | inl e ↦ fits_table table row column 0x00 m e (rows_first m t a table e) in_row (fits_module column (subst (λ n. column < length (columns_of n)) e in_column))
+      | inr n0 ↦ elim (cases_eq table 0x02) [
+        | inl e ↦ fits_table table row column 0x02 t e (rows_second m t a table e) in_row (fits_type column (subst (λ n. column < length (columns_of n)) e in_column))
+        | inr n2 ↦ elim (cases_eq table 0x20) [
+          | inl e ↦ fits_table table row column 0x20 a e (rows_third m t a table e) in_row (fits_assembly column (subst (λ n. column < length (columns_of n)) e in_column))
+          | inr n20 ↦ let none : rows_in r table ≡ 0 = ap length (are table ∙ rows_none m t a table n0 n2 n20) in absurd (omega arith)
+        ]
+      ]
+    ]
 
     pub fits : FitsWidths r 0
-    unfolding schema
-    fits table row column in_row in_column = elim (cases_eq table 0x00) [
-        inl e ↦ fits_table table row column 0x00 m e (rows_first m t a table e) in_row (fits_module column (subst (λ n. column < length (columns_of n)) e in_column))
-      | inr n0 ↦ elim (cases_eq table 0x02) [
-            inl e ↦ fits_table table row column 0x02 t e (rows_second m t a table e) in_row (fits_type column (subst (λ n. column < length (columns_of n)) e in_column))
-          | inr n2 ↦ elim (cases_eq table 0x20) [
-                inl e ↦ fits_table table row column 0x20 a e (rows_third m t a table e) in_row (fits_assembly column (subst (λ n. column < length (columns_of n)) e in_column))
-              | inr n20 ↦ let none : rows_in r table ≡ 0 = ap length (are table ∙ rows_none m t a table n0 n2 n20) in absurd (omega arith) ] ] ]
+    fits table row column in_row in_column =
+        fits_index (rows_in r) 0 (column_of table column) (cell_of r table row column) (all_fit table row column in_row in_column)
 
     pub holds_rows : (stream : List ℕ) → length version ≡ 4 → Holds r 0 stream → HoldsRows version at stream
     unfolding plain_rows
@@ -164,7 +186,7 @@ unfolding plain_counts
 stream_short version at stream bytes h =
     let same : row_count stream ≡ plain_counts version at = λ i k. h.counts k i in
     let sizes : start_by (row_count stream) (heap_sizes stream) (header_size stream) 0x2D ≡ start_by (plain_counts version at) 0 (header_size stream) 0x2D
-          = ap (λ f. start_by f (heap_sizes stream) (header_size stream) 0x2D) same ∙ ap (λ n. start_by (plain_counts version at) n (header_size stream) 0x2D) h.narrow in
+    = ap (λ f. start_by f (heap_sizes stream) (header_size stream) 0x2D) same ∙ ap (λ n. start_by (plain_counts version at) n (header_size stream) 0x2D) h.narrow in
     let rows = rows_size version at (header_size stream) in
     let head = header_short stream bytes in
     let is = h.ends ∙ start_is stream 0x2D ∙ sizes in

@@ -27,18 +27,21 @@ within low high b h = let both = and_both (nat_le low b) (nat_le b high) h in (l
 plain_byte : (b : ℕ) → is_letter_or_digit b ≡ true → (0 < b) × (b < 128)
 unfolding is_letter_or_digit is_upper is_digit
 plain_byte b h = elim (or_either ((nat_le 0x41 b && nat_le b 0x5A) || (nat_le 0x61 b && nat_le b 0x7A)) (nat_le 0x30 b && nat_le b 0x39) h) [
-    inl letter ↦ elim (or_either (nat_le 0x41 b && nat_le b 0x5A) (nat_le 0x61 b && nat_le b 0x7A) letter) [
-        inl upper ↦ let w = within 0x41 0x5A b upper in (omega arith, omega arith)
-      | inr lower ↦ let w = within 0x61 0x7A b lower in (omega arith, omega arith) ]
-  | inr digit ↦ let w = within 0x30 0x39 b digit in (omega arith, omega arith) ]
+  | inl letter ↦ elim (or_either (nat_le 0x41 b && nat_le b 0x5A) (nat_le 0x61 b && nat_le b 0x7A) letter) [
+    | inl upper ↦ let w = within 0x41 0x5A b upper in (omega arith, omega arith)
+    | inr lower ↦ let w = within 0x61 0x7A b lower in (omega arith, omega arith)
+  ]
+  | inr digit ↦ let w = within 0x30 0x39 b digit in (omega arith, omega arith)
+]
 
 pub record IsPlain (text : List ℕ) : Type 0 where
   pub ascii : (k : ℕ) → k < length text → (0 < get_or text k 0) × (get_or text k 0 < 128)
 
 pub IsPlain-utf8 : (text : List ℕ) → IsPlain text → IsUtf8 text
 IsPlain-utf8 text plain = IsUtf8-from_ascii text (λ k. elim (cases_lt k (length text)) [
-    inl less ↦ (plain.ascii k less).1
-  | inr past ↦ rw (get_or_past text k 0 past) (omega arith) ])
+  | inl less ↦ (plain.ascii k less).1
+  | inr past ↦ rw (get_or_past text k 0 past) (omega arith)
+])
 
 pub IsPlain-no_zero : (text : List ℕ) → IsPlain text → All (λ b. b ≢ 0) text
 IsPlain-no_zero text plain k d less z =

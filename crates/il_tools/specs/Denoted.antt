@@ -8,6 +8,23 @@ use Rattle.il_tools.specs.Form.{Form}
 abbrev pub denoted : Form → Assembly
 denoted form = record {
   manifest = record {
-    name = form.name; version = form.version; flags = 0; key = []; culture = []; hash = 0x8004; «module» = form.name ++ codes ".dll";
-    image_base = 0x400000; file_alignment = 0x200; stack_reserve = 0x100000; subsystem = 3; cor_flags = 1; attributes = []; module_attributes = [] };
-  externs = []; fields = []; methods = []; types = [] }
+    name = form.name;
+    version = form.version;
+    flags = 0;
+    key = [];
+    culture = [];
+    hash = 0x8004;
+    «module» = form.name ++ codes ".dll";
+    image_base = 0x400000;
+    file_alignment = 0x200;
+    stack_reserve = 0x100000;
+    subsystem = 3;
+    cor_flags = 1;
+    attributes = [];
+    module_attributes = [];
+  };
+  externs = [];
+  fields = [];
+  methods = [];
+  types = [];
+}

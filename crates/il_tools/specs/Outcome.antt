@@ -38,32 +38,26 @@ Reported tells number fault text failed_before failed_now before now =
 -- what a status says of the words and of the told files, before and after
 pub record Answers (words : List (List ℕ)) (number : ℕ) (tells : Bool) (before now : Files) (reads reads_now writes writes_now failed failed_now : ℕ) : Type 0 where
   pub range : number ≤ 6
-
   -- 2: exactly where the words don't fit
   pub usage : number ≡ 2 → (word : ℕ) × (usage_fault words ≡ Some word)
   pub misfit : (word : ℕ) → usage_fault words ≡ Some word → (number ≡ 2) ⊎ ((number ≡ 4) ⊎ (number ≡ 6))
-
   -- 3 and 4: only by a failure that is counted, or where the told file is absent
   pub read_cause : number ≡ 3 → Rose reads reads_now ⊎ (IsTrue tells × (before (file_of words) ≡ None))
   pub write_cause : number ≡ 4 → Rose writes writes_now ⊎ Rose failed failed_now
   pub absent : IsTrue tells → usage_fault words ≡ None → before (file_of words) ≡ None → (number ≡ 3) ⊎ ((number ≡ 4) ⊎ (number ≡ 6))
-
   -- 5: exactly where the told file has more than 2 ^ 27 bytes
   pub too_long : IsTrue tells → number ≡ 5 → (source : List ℕ) × (before (file_of words) ≡ Some source) × (2 ^ 27 < length source)
   pub long : IsTrue tells → usage_fault words ≡ None → (source : List ℕ) → before (file_of words) ≡ Some source → 2 ^ 27 < length source
       → (number ≡ 5) ⊎ ((number ≡ 3) ⊎ ((number ≡ 4) ⊎ (number ≡ 6)))
-
   -- 1: exactly where the told source isn't of the form
   pub no_form : IsTrue tells → number ≡ 1 → (source : List ℕ) × (before (file_of words) ≡ Some source) × (length source ≤ 2 ^ 27) × (form_of source ≡ None)
   pub other_form : IsTrue tells → usage_fault words ≡ None → (source : List ℕ) → before (file_of words) ≡ Some source → length source ≤ 2 ^ 27
       → form_of source ≡ None → (number ≡ 1) ⊎ ((number ≡ 3) ⊎ ((number ≡ 4) ⊎ (number ≡ 6)))
-
   -- 0: the output is an image that reads as the assembly that the source denotes
   pub done : IsTrue tells → number ≡ 0 → (source : List ℕ) × (image : List ℕ) × (before (file_of words) ≡ Some source) × IsImageOf source image
       × (now (output_of (file_of words)) ≡ Some image)
   pub complete : IsTrue tells → usage_fault words ≡ None → (source : List ℕ) (form : Form) → before (file_of words) ≡ Some source → length source ≤ 2 ^ 27
       → form_of source ≡ Some form → (Rose reads reads_now → ⊥) → (Rose writes writes_now → ⊥) → (Rose failed failed_now → ⊥) → (number ≡ 0) ⊎ (number ≡ 6)
-
   -- what stands afterwards
   pub untouched : IsTrue tells → number ≢ 0 → number ≢ 4 → now ≡ before
   pub front : IsTrue tells → number ≡ 4 → (now ≡ before) ⊎ ((source : List ℕ) × (image : List ℕ) × (before (file_of words) ≡ Some source)

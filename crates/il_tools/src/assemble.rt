@@ -22,11 +22,7 @@ use std::alloc::Global;
 const LIMIT: usize = 0x0800_0000;
 
 /// Assembles FILE of the words `ilasm FILE -dll`. The whole output is built before it is started.
-pub(crate) fn assemble<S: Shelf>(
-    alloc: Global,
-    words: &Words,
-    shelf: &mut S,
-) -> Result<(), Fault>
+pub(crate) fn assemble<S: Shelf>(alloc: Global, words: &Words, shelf: &mut S) -> Result<(), Fault>
     ensures usage { (word : ℕ) → result ≡ Err (Fault.Usage word) → usage_fault words.now ≡ Some word }
     ensures misfit { (word : ℕ) → usage_fault words.now ≡ Some word → result ≡ Err (Fault.Usage word) }
     ensures unread { result ≡ Err Fault.Unread → Rose (S.failed_reads shelf.old) (S.failed_reads shelf.new) ⊎ (IsTrue (S.tells shelf.old) × (S.files shelf.old (file_of words.now) ≡ None)) }

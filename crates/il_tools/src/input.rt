@@ -22,6 +22,7 @@ pub(crate) enum InputFault {
 
 impl From<NoMemory> for InputFault {
     ghost use Rattle.il_tools.specs.declared.input.InputFault.TheVariants.{NoMemory as Lacking};
+
     ghost from_gives = { λ _ fault. fault ≡ Lacking };
 
     fn from(_fault: NoMemory) -> InputFault {

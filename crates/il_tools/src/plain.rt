@@ -16,7 +16,9 @@ use std::alloc::Global;
 
 // The tables that have a row.
 const MODULE: u8 = 0x00;
+
 const TYPE_DEF: u8 = 0x02;
+
 const ASSEMBLY: u8 = 0x20;
 
 // The identifier of SHA-1 as the hash algorithm (ECMA-335 II.23.1.1).
@@ -100,12 +102,7 @@ fn make_texts(alloc: Global, name: &[u8]) -> Result<Texts, NoMemory>
 }
 
 // The stream of tables.
-fn encode_rows(
-    alloc: Global,
-    version: &[u16],
-    texts: &Texts,
-    mvid: u32,
-) -> Result<Bytes, NoMemory>
+fn encode_rows(alloc: Global, version: &[u16], texts: &Texts, mvid: u32) -> Result<Bytes, NoMemory>
     requires version { length version.now ≡ 4 }
     requires module_name { texts.now.module_name < 2 ^ 12 }
     requires type_name { texts.now.type_name < 2 ^ 12 }

@@ -9,12 +9,7 @@ use std::alloc::Global;
 
 /// Says on standard error what the fault is, and answers its status: 4 where the console fails, 6
 /// where there is no memory for the text.
-pub(crate) fn report<C: Console>(
-    alloc: Global,
-    file: &str,
-    fault: Fault,
-    console: &mut C,
-) -> u8
+pub(crate) fn report<C: Console>(alloc: Global, file: &str, fault: Fault, console: &mut C) -> u8
     ensures reported { Reported (C.tells console.old) result fault (text_of file.now fault) (C.failed console.old) (C.failed console.new) (C.err_taken console.old) (C.err_taken console.new) }
 
     // What stays.

@@ -73,7 +73,7 @@ module _ (a b c d e : List ℕ) (small : length a + length b + length c + length
 
   headers_are : headers_of all_bytes
       ≡ five 108 (length a) (108 + length a) (length b) (108 + length a + length b) (length c) (108 + length a + length b + length c) (length d)
-          (108 + length a + length b + length c + length d) (length e)
+      (108 + length a + length b + length c + length d) (length e)
   unfolding all_bytes sizes_root
   headers_are =
       let e1 : read 108 ≡ 108 = read_is 108 (omega arith) in
@@ -110,7 +110,7 @@ module _ (a b c d e : List ℕ) (small : length a + length b + length c + length
   stream name offset size bytes found inside is = record { header = header offset size name; found = found; inside = inside; bytes_are = is }
 
   named : (name : List ℕ) → header_of all_bytes name ≡ find (λ h. bytes_eq h.name name) (five 108 (length a) (108 + length a) (length b) (108 + length a + length b) (length c) (108 + length a + length b + length c) (length d)
-          (108 + length a + length b + length c + length d) (length e))
+      (108 + length a + length b + length c + length d) (length e))
   unfolding header_of
   named name = ap (find (λ h. bytes_eq h.name name)) headers_are
 
@@ -123,21 +123,21 @@ module _ (a b c d e : List ℕ) (small : length a + length b + length c + length
   unfolding all_bytes five header
   has_strings = stream (codes "#Strings") (108 + length a) (length b) b (named (codes "#Strings")) (let len = length-all in omega arith)
       (ap (λ xs. take (length b) (drop (108 + length a) xs)) (sym (append_assoc sizes_root a (b ++ (c ++ (d ++ e)))))
-        ∙ piece_at (sizes_root ++ a) b (c ++ (d ++ e)) (108 + length a) (let len = length-sizes_root in rw length-append (omega arith)))
+      ∙ piece_at (sizes_root ++ a) b (c ++ (d ++ e)) (108 + length a) (let len = length-sizes_root in rw length-append (omega arith)))
 
   has_user : HasStream all_bytes (codes "#US") c
   unfolding all_bytes five header
   has_user = stream (codes "#US") (108 + length a + length b) (length c) c (named (codes "#US")) (let len = length-all in omega arith)
       (ap (λ xs. take (length c) (drop (108 + length a + length b) xs))
-        (sym (append_assoc sizes_root a (b ++ (c ++ (d ++ e)))) ∙ sym (append_assoc (sizes_root ++ a) b (c ++ (d ++ e))))
-        ∙ piece_at ((sizes_root ++ a) ++ b) c (d ++ e) (108 + length a + length b) (let len = length-sizes_root in rw (length-append, length-append) (omega arith)))
+      (sym (append_assoc sizes_root a (b ++ (c ++ (d ++ e)))) ∙ sym (append_assoc (sizes_root ++ a) b (c ++ (d ++ e))))
+      ∙ piece_at ((sizes_root ++ a) ++ b) c (d ++ e) (108 + length a + length b) (let len = length-sizes_root in rw (length-append, length-append) (omega arith)))
 
   has_guids : HasStream all_bytes (codes "#GUID") d
   unfolding all_bytes five header
   has_guids = stream (codes "#GUID") (108 + length a + length b + length c) (length d) d (named (codes "#GUID")) (let len = length-all in omega arith)
       (ap (λ xs. take (length d) (drop (108 + length a + length b + length c) xs))
-        (sym (append_assoc sizes_root a (b ++ (c ++ (d ++ e)))) ∙ sym (append_assoc (sizes_root ++ a) b (c ++ (d ++ e))) ∙ sym (append_assoc ((sizes_root ++ a) ++ b) c (d ++ e)))
-        ∙ piece_at (((sizes_root ++ a) ++ b) ++ c) d e (108 + length a + length b + length c) (let len = length-sizes_root in rw (length-append, length-append, length-append) (omega arith)))
+      (sym (append_assoc sizes_root a (b ++ (c ++ (d ++ e)))) ∙ sym (append_assoc (sizes_root ++ a) b (c ++ (d ++ e))) ∙ sym (append_assoc ((sizes_root ++ a) ++ b) c (d ++ e)))
+      ∙ piece_at (((sizes_root ++ a) ++ b) ++ c) d e (108 + length a + length b + length c) (let len = length-sizes_root in rw (length-append, length-append, length-append) (omega arith)))
 
   last_piece : (front x : List ℕ) (n : ℕ) → n ≡ length front → take (length x) (drop n (front ++ x)) ≡ x
   last_piece front x n is = rw (is, drop-append_seam front x) (take_whole x)
@@ -150,10 +150,10 @@ module _ (a b c d e : List ℕ) (small : length a + length b + length c + length
   unfolding all_bytes five header
   has_blobs = stream (codes "#Blob") (108 + length a + length b + length c + length d) (length e) e (named (codes "#Blob")) (let len = length-all in omega arith)
       (ap (λ xs. take (length e) (drop (108 + length a + length b + length c + length d) xs))
-        (sym (append_assoc sizes_root a (b ++ (c ++ (d ++ e)))) ∙ sym (append_assoc (sizes_root ++ a) b (c ++ (d ++ e))) ∙ sym (append_assoc ((sizes_root ++ a) ++ b) c (d ++ e))
-          ∙ sym (append_assoc (((sizes_root ++ a) ++ b) ++ c) d e))
-        ∙ last_piece ((((sizes_root ++ a) ++ b) ++ c) ++ d) e (108 + length a + length b + length c + length d)
-            (let len = length-sizes_root in rw (length-append, length-append, length-append, length-append) (omega arith)))
+      (sym (append_assoc sizes_root a (b ++ (c ++ (d ++ e)))) ∙ sym (append_assoc (sizes_root ++ a) b (c ++ (d ++ e))) ∙ sym (append_assoc ((sizes_root ++ a) ++ b) c (d ++ e))
+      ∙ sym (append_assoc (((sizes_root ++ a) ++ b) ++ c) d e))
+      ∙ last_piece ((((sizes_root ++ a) ++ b) ++ c) ++ d) e (108 + length a + length b + length c + length d)
+      (let len = length-sizes_root in rw (length-append, length-append, length-append, length-append) (omega arith)))
 
 pub metadata_holds : (s : Streams) → total_of s < 2 ^ 26 → HoldsStreams s (metadata_of s)
 unfolding metadata_of all_bytes sizes_root

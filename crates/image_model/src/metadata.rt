@@ -74,7 +74,12 @@ fn push_root(out: &mut Bytes, streams: &Streams<'_>) -> Result<(), NoMemory>
     push_header(out, ROOT_SIZE, tables, b"#~\0\0")?;
     push_header(out, ROOT_SIZE + tables, strings, b"#Strings\0\0\0\0")?;
     push_header(out, ROOT_SIZE + tables + strings, user, b"#US\0")?;
-    push_header(out, ROOT_SIZE + tables + strings + user, guids, b"#GUID\0\0\0")?;
+    push_header(
+        out,
+        ROOT_SIZE + tables + strings + user,
+        guids,
+        b"#GUID\0\0\0",
+    )?;
     push_header(
         out,
         ROOT_SIZE + tables + strings + user + guids,

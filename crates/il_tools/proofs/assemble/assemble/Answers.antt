@@ -10,9 +10,10 @@ front_of a b now name name' bytes bytes' e n s (inr front) = inr (rw (← n, ←
 
 pub returns-clause-begun : goal.returns-clause-begun
 returns-clause-begun g c tells _ =
-    let now : IsTrue (g.S.Shelf.tells c.read_file.new.shelf) = rw c.in-Ok-read_file.ensures.same_tells tells in
-    ( c.in-Ok-read_file.source
-    , c.in-Ok-image_of.image
-    , search rules
-    , rw c.as_slice-2.ensures at c.in-Ok-image_of.ensures.image
-    , front_of _ _ _ _ _ _ _ (c.in-Ok-read_file.ensures.same_files tells) (search rules) c.as_slice-3.ensures (c.in-Err-write_file.ensures.front now) )
+    let now : IsTrue (g.S.Shelf.tells c.read_file.new.shelf) = rw c.in-Ok-read_file.ensures.same_tells tells in (
+      c.in-Ok-read_file.source,
+      c.in-Ok-image_of.image,
+      search rules,
+      rw c.as_slice-2.ensures at c.in-Ok-image_of.ensures.image,
+      front_of _ _ _ _ _ _ _ (c.in-Ok-read_file.ensures.same_files tells) (search rules) c.as_slice-3.ensures (c.in-Err-write_file.ensures.front now),
+    )

@@ -15,11 +15,11 @@ returns-then-byte-eq58-clause-found c =
     let i = c.loop-i.i in
     let here = eq-eqb (get_or text i 0) 0x3A c.if-byte-eq58.true in
     let after : c.split_at-then-byte-eq58.result.1.now ≡ drop (suc i) text
-          = c.split_at-then-byte-eq58.ensures.back ∙ ap (drop 1) c.split_at.ensures.back ∙ drop-drop 1 i text ∙ ap (λ n. drop n text) {y = suc i} (omega arith) in
+    = c.split_at-then-byte-eq58.ensures.back ∙ ap (drop 1) c.split_at.ensures.back ∙ drop-drop 1 i text ∙ ap (λ n. drop n text) {y = suc i} (omega arith) in
     rw (c.split_at.ensures.front, after)
-      (split_at_place (λ b. b == 0x3A) text i c.loop-i-test.true (λ k less. not_colon (get_or text k 0) (c.loop-i.invariant k less)) here)
+    (split_at_place (λ b. b == 0x3A) text i c.loop-i-test.true (λ k less. not_colon (get_or text k 0) (c.loop-i.invariant k less)) here)
 
 pub returns-clause-none : goal.returns-clause-none
 returns-clause-none c =
     slice_split_none (λ b. b == 0x3A) c.args.text.now
-      (all_none (λ b. b == 0x3A) c.args.text.now (λ k less. not_colon (get_or c.args.text.now k 0) (c.loop-i.invariant k (omega arith))))
+    (all_none (λ b. b == 0x3A) c.args.text.now (λ k less. not_colon (get_or c.args.text.now k 0) (c.loop-i.invariant k (omega arith))))

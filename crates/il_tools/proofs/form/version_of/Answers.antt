@@ -15,5 +15,5 @@ returns-in-Some c =
     let e = c.in-Some.field-0.0.now in
     let rest = c.in-Some.field-0.1.now in
     let parts : cut c.args.text.now ≡ a ∷ b ∷ d ∷ e ∷ cut rest
-          = c.in_ok-a.ensures.found ∙ ap (λ ps. a ∷ ps) (c.in_ok-b.ensures.found ∙ ap (λ ps. b ∷ ps) (c.in_ok-c.ensures.found ∙ ap (λ ps. d ∷ ps) c.in-Some.ensures.found)) in
+    = c.in_ok-a.ensures.found ∙ ap (λ ps. a ∷ ps) (c.in_ok-b.ensures.found ∙ ap (λ ps. b ∷ ps) (c.in_ok-c.ensures.found ∙ ap (λ ps. d ∷ ps) c.in-Some.ensures.found)) in
     ap version_of_parts parts ∙ five_parts a b d e (cut rest) (some_part (λ byte. byte == 0x3A) rest)

@@ -18,7 +18,7 @@ loop-count-preserved g c =
           let same : read.0 ≡ file = same_Some read.0 file (sym read.1 ∙ ap (λ files. files c.args.name.now) (was.same_files tells) ∙ is) in
           let so_far = was.told tells file is in
           read_grows c.loop-count.file c.read.new.into _ file c.len-in-loop-count.result c.in-Ok.count so_far.0 so_far.1
-            c.len-in-loop-count.ensures (rw same at read.2) call.within c.extend.new.self c.in_ok-extend.ensures.ok;
+          c.len-in-loop-count.ensures (rw same at read.2) call.within c.extend.new.self c.in_ok-extend.ensures.ok;
       same_files = λ tells. let now : IsTrue (g.S.Shelf.tells c.loop-count.shelf) = rw was.same_tells tells in
           call.same_files now ∙ was.same_files tells;
       same_tells = call.same_tells ∙ was.same_tells;

@@ -14,9 +14,9 @@ loop-done-preserved g c =
       within = omega (arith, call.within, c.split_at.ensures.back_len, was.within);
       told = λ tells. let now : IsTrue (g.C.Console.tells c.loop-done.console) = rw was.same_tells tells in
           call.told now ∙ ap (λ taken. taken ++ take count c.split_at.result.1.now) (was.told tells)
-            ∙ append_assoc before (take done text) (take count c.split_at.result.1.now)
-            ∙ ap (λ rest. before ++ (take done text ++ take count rest)) c.split_at.ensures.back
-            ∙ ap (λ front. before ++ front) (sym (take-add done count text));
+          ∙ append_assoc before (take done text) (take count c.split_at.result.1.now)
+          ∙ ap (λ rest. before ++ (take done text ++ take count rest)) c.split_at.ensures.back
+          ∙ ap (λ front. before ++ front) (sym (take-add done count text));
       same_out = λ tells. let now : IsTrue (g.C.Console.tells c.loop-done.console) = rw was.same_tells tells in
           call.same_out now ∙ was.same_out tells;
       same_tells = call.same_tells ∙ was.same_tells;

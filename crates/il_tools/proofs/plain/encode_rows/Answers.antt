@@ -28,9 +28,16 @@ push-requires-2-clause-cells c = c.row_of_columns.ensures 0x02 (0 ∷ c.args.tex
 pub push-requires-3-clause-cells : goal.push-requires-3-clause-cells
 unfolding schema
 push-requires-3-clause-cells c =
-    c.row_of_columns.ensures 0x20 (0x8004 ∷ c.from.result ∷ c.from-2.result ∷ c.from-3.result ∷ c.from-4.result ∷ 0 ∷ 0 ∷ c.args.texts.now.name ∷ 0 ∷ []) (omega arith)
-      (omega arith, (rw c.from.ensures (below c.args.version.now c.type_inv.version 0), (rw c.from-2.ensures (below c.args.version.now c.type_inv.version 1),
-        (rw c.from-3.ensures (below c.args.version.now c.type_inv.version 2), (rw c.from-4.ensures (below c.args.version.now c.type_inv.version 3), (omega arith, (tt, (tt, (tt, tt)))))))))
+    c.row_of_columns.ensures 0x20 (0x8004 ∷ c.from.result ∷ c.from-2.result ∷ c.from-3.result ∷ c.from-4.result ∷ 0 ∷ 0 ∷ c.args.texts.now.name ∷ 0 ∷ []) (omega arith) (
+      omega arith,
+      (
+        rw c.from.ensures (below c.args.version.now c.type_inv.version 0),
+        (
+          rw c.from-2.ensures (below c.args.version.now c.type_inv.version 1),
+          (rw c.from-3.ensures (below c.args.version.now c.type_inv.version 2), (rw c.from-4.ensures (below c.args.version.now c.type_inv.version 3), (omega arith, (tt, (tt, (tt, tt)))))),
+        ),
+      ),
+    )
 
 -- the cells of the last row
 last_is : (c : In_ok-push-3) → 0x8004 ∷ c.from.result ∷ c.from-2.result ∷ c.from-3.result ∷ c.from-4.result ∷ 0 ∷ 0 ∷ c.args.texts.now.name ∷ 0 ∷ [] ≡ assembly_cells c.args.version.now (indexes c)
@@ -48,7 +55,7 @@ encode-requires c =
     let v = c.args.version.now in
     let all = c.type_inv.version in
     fits v (indexes (goal.at.encode-requires c).In_ok-push-3) (below v all 0) (below v all 1) (below v all 2) (below v all 3)
-      c.requires.module_name c.requires.type_name c.requires.name c.requires.mvid c.push-3.new.self (are (goal.at.encode-requires c).In_ok-push-3)
+    c.requires.module_name c.requires.type_name c.requires.name c.requires.mvid c.push-3.new.self (are (goal.at.encode-requires c).In_ok-push-3)
 
 pub returns : goal.returns
 unfolding indexes
@@ -56,6 +63,6 @@ returns c =
     let v = c.args.version.now in
     let all = c.type_inv.version in
     if_ok c.encode.result _ _
-      (λ stream holds. holds_rows v (indexes (goal.at.returns c).In_ok-push-3) (below v all 0) (below v all 1) (below v all 2) (below v all 3)
-        c.requires.module_name c.requires.type_name c.requires.name c.requires.mvid c.push-3.new.self (are (goal.at.returns c).In_ok-push-3) stream c.requires.version holds)
-      c.encode.ensures
+    (λ stream holds. holds_rows v (indexes (goal.at.returns c).In_ok-push-3) (below v all 0) (below v all 1) (below v all 2) (below v all 3)
+    c.requires.module_name c.requires.type_name c.requires.name c.requires.mvid c.push-3.new.self (are (goal.at.returns c).In_ok-push-3) stream c.requires.version holds)
+    c.encode.ensures

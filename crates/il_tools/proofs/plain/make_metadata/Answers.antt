@@ -9,7 +9,7 @@ if_ok (Err e) P Q f h = tt
 pub returns-clause-holds : goal.returns-clause-holds
 returns-clause-holds c =
     if_ok c.put_together.result _ _
-      (λ m h. record { root = h.root; has_tables = h.tables; has_strings = h.strings; has_guids = h.guids; has_blobs = h.blobs }) c.put_together.ensures.holds
+    (λ m h. record { root = h.root; has_tables = h.tables; has_strings = h.strings; has_guids = h.guids; has_blobs = h.blobs }) c.put_together.ensures.holds
 
 pub returns-clause-len : goal.returns-clause-len
 returns-clause-len c =

@@ -38,7 +38,7 @@ module_length name content h e = let n = (IsName-from name h).short in rw (e, le
 pub add-requires-2-clause-room : goal.add-requires-2-clause-room
 add-requires-2-clause-room c =
     let content : c.as_slice.result.now ≡ c.args.name.now ++ codes ".dll"
-          = c.as_slice.ensures ∙ c.in_ok-extend.ensures.ok ∙ ap (λ xs. xs ++ codes ".dll") c.in_ok-module.ensures in
+    = c.as_slice.ensures ∙ c.in_ok-extend.ensures.ok ∙ ap (λ xs. xs ++ codes ".dll") c.in_ok-module.ensures in
     let n = module_length c.args.name.now c.as_slice.result.now c.requires content in
     let b : length c.in_ok-heap.heap.bytes ≡ 1 = ap (λ (h : Heap). length h.bytes) c.in_ok-heap.ensures in
     let one = length-grown c.in_ok-heap.heap c.add.new.self c.as_slice.result.now c.in_ok-module_name.module_name c.in_ok-module_name.ensures.grows in
@@ -53,7 +53,7 @@ add-requires-3-clause-no_zero c = IsPlain-no_zero c.args.name.now (IsName-from c
 pub add-requires-3-clause-room : goal.add-requires-3-clause-room
 add-requires-3-clause-room c =
     let content : c.as_slice.result.now ≡ c.args.name.now ++ codes ".dll"
-          = c.as_slice.ensures ∙ c.in_ok-extend.ensures.ok ∙ ap (λ xs. xs ++ codes ".dll") c.in_ok-module.ensures in
+    = c.as_slice.ensures ∙ c.in_ok-extend.ensures.ok ∙ ap (λ xs. xs ++ codes ".dll") c.in_ok-module.ensures in
     let n = module_length c.args.name.now c.as_slice.result.now c.requires content in
     let m = (IsName-from c.args.name.now c.requires).short in
     let b : length c.in_ok-heap.heap.bytes ≡ 1 = ap (λ (h : Heap). length h.bytes) c.in_ok-heap.ensures in
@@ -64,7 +64,7 @@ add-requires-3-clause-room c =
 pub returns : goal.returns
 returns c =
     let content : c.as_slice.result.now ≡ c.args.name.now ++ codes ".dll"
-          = c.as_slice.ensures ∙ c.in_ok-extend.ensures.ok ∙ ap (λ xs. xs ++ codes ".dll") c.in_ok-module.ensures in
+    = c.as_slice.ensures ∙ c.in_ok-extend.ensures.ok ∙ ap (λ xs. xs ++ codes ".dll") c.in_ok-module.ensures in
     let n = module_length c.args.name.now c.as_slice.result.now c.requires content in
     let m = (IsName-from c.args.name.now c.requires).short in
     let b : length c.in_ok-heap.heap.bytes ≡ 1 = ap (λ (h : Heap). length h.bytes) c.in_ok-heap.ensures in

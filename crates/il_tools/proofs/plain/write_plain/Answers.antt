@@ -61,13 +61,13 @@ returns c =
     let at : Indexes = record { module_name = c.in_ok-texts.texts.module_name; type_name = c.in_ok-texts.texts.type_name; own_name = c.in_ok-texts.texts.name; identifier = c.in_ok-mvid.mvid } in
     let holds = c.in_ok-metadata.ensures.holds in
     let parts_metadata : c.in_ok-parts.parts.metadata ≡ c.in_ok-metadata.metadata
-          = ap (λ (p : Parts). p.metadata) c.in_ok-parts.ensures ∙ c.as_slice.ensures in
+    = ap (λ (p : Parts). p.metadata) c.in_ok-parts.ensures ∙ c.as_slice.ensures in
     let parts_numbers = ap (λ (p : Parts). p.numbers) c.in_ok-parts.ensures in
     let parts_entry = ap (λ (p : Parts). p.entry) c.in_ok-parts.ensures in
     all_ok c.write.result _ _ _ _ _ _
-      (λ image opens bytes size numbers entry.
-        reads_first form c.bytes.result.now c.bytes-2.result.now c.as_slice-stream.result.now c.in_ok-metadata.metadata image c.args.id.now at c.longer_stream.ensures
-          (rw c.bytes.ensures.bytes c.in_ok-texts.ensures) (rw c.bytes-2.ensures.bytes c.in_ok-mvid.ensures.has.0) (rw c.as_slice-stream.ensures c.in_ok-tables.ensures)
-          holds.root holds.has_tables holds.has_strings holds.has_guids holds.has_blobs
-          opens (bytes ∙ parts_metadata) (size ∙ ap length parts_metadata) (numbers ∙ parts_numbers) (entry ∙ parts_entry))
-      c.write.ensures.opens c.write.ensures.metadata_bytes c.write.ensures.metadata_size c.write.ensures.numbers c.write.ensures.entry
+    (λ image opens bytes size numbers entry.
+    reads_first form c.bytes.result.now c.bytes-2.result.now c.as_slice-stream.result.now c.in_ok-metadata.metadata image c.args.id.now at c.longer_stream.ensures
+    (rw c.bytes.ensures.bytes c.in_ok-texts.ensures) (rw c.bytes-2.ensures.bytes c.in_ok-mvid.ensures.has.0) (rw c.as_slice-stream.ensures c.in_ok-tables.ensures)
+    holds.root holds.has_tables holds.has_strings holds.has_guids holds.has_blobs
+    opens (bytes ∙ parts_metadata) (size ∙ ap length parts_metadata) (numbers ∙ parts_numbers) (entry ∙ parts_entry))
+    c.write.ensures.opens c.write.ensures.metadata_bytes c.write.ensures.metadata_size c.write.ensures.numbers c.write.ensures.entry

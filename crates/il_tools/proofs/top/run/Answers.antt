@@ -12,5 +12,5 @@ returns-in-Err-clause-answers g c =
     let a = c.in-Err.ensures in
     let fault = c.in-Err.fault in
     Answers-fault c.args.words.now _ _ _ _ _ _ _ _ _ c.report.result fault (brief _ _ _ _ _ _ _ _ c.report.ensures.reported)
-      (λ word e. a.usage word (ap Err e)) (λ word is. same_Err fault _ (a.misfit word is)) (λ e. a.unread (ap Err e)) (λ t e. a.too_long t (ap Err e))
-      (λ t e. a.form t (ap Err e)) (λ e. a.unwritten (ap Err e)) (λ t e. a.begun t (ap Err e)) a.same_files a.others
+    (λ word e. a.usage word (ap Err e)) (λ word is. same_Err fault _ (a.misfit word is)) (λ e. a.unread (ap Err e)) (λ t e. a.too_long t (ap Err e))
+    (λ t e. a.form t (ap Err e)) (λ e. a.unwritten (ap Err e)) (λ t e. a.begun t (ap Err e)) a.same_files a.others

@@ -11,9 +11,10 @@ kept : (name : List ℕ) → ((front : List ℕ) → name ≡ front ++ codes ".i
 kept name other =
     let end = drop (length name - 3) name in
     elim (cases_Bool (bytes_eq end (codes ".il"))) [
-        inl e ↦ absurd (other (take (length name - 3) name)
-            (sym (take-append-drop (length name - 3) name) ∙ ap (λ xs. take (length name - 3) name ++ xs) ((bytes_eq-Decides end (codes ".il")).0 e)))
-      | inr e ↦ ap (λ b. cond b (take (length name - 3) name) name) (sym e) ]
+      | inl e ↦ absurd (other (take (length name - 3) name)
+          (sym (take-append-drop (length name - 3) name) ∙ ap (λ xs. take (length name - 3) name ++ xs) ((bytes_eq-Decides end (codes ".il")).0 e)))
+      | inr e ↦ ap (λ b. cond b (take (length name - 3) name) name) (sym e)
+    ]
 
 pub returns-in-None : goal.returns-in-None
 returns-in-None c = kept c.args.name.now c.in-None.ensures.cases

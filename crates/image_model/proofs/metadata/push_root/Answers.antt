@@ -11,8 +11,8 @@ returns c =
     let g = c.filled_size-guids.result in
     let b = c.filled_size-blobs.result in
     let built : c.push_header-5.new.out ≡ c.args.out.now ++ root_of t s u g b
-          = six_pieces c.args.out.now root_front (header_bytes 108 t tables_name) (header_bytes (108 + t) s strings_name) (header_bytes (108 + t + s) u user_name)
-              (header_bytes (108 + t + s + u) g guids_name) (header_bytes (108 + t + s + u + g) b blobs_name) c.extend.new.self _ _ _ _ _
-              c.in_ok-extend.ensures.ok c.in_ok-push_header.ensures c.in_ok-push_header-2.ensures c.in_ok-push_header-3.ensures c.in_ok-push_header-4.ensures c.in_ok-push_header-5.ensures in
+    = six_pieces c.args.out.now root_front (header_bytes 108 t tables_name) (header_bytes (108 + t) s strings_name) (header_bytes (108 + t + s) u user_name)
+    (header_bytes (108 + t + s + u) g guids_name) (header_bytes (108 + t + s + u + g) b blobs_name) c.extend.new.self _ _ _ _ _
+    c.in_ok-extend.ensures.ok c.in_ok-push_header.ensures c.in_ok-push_header-2.ensures c.in_ok-push_header-3.ensures c.in_ok-push_header-4.ensures c.in_ok-push_header-5.ensures in
     built ∙ root_of-same t s u g b _ _ _ _ _ c.args.out.now c.filled_size-tables.ensures.size c.filled_size-strings.ensures.size c.filled_size-user.ensures.size
-      c.filled_size-guids.ensures.size c.filled_size-blobs.ensures.size
+    c.filled_size-guids.ensures.size c.filled_size-blobs.ensures.size

@@ -16,8 +16,8 @@ built c =
     let e : List ℕ = filled s.blobs.now in
     let root : List ℕ = root_of (length a) (length b) (length u) (length g) (length e) in
     six_pieces [] root a b u g e c.push_root.new.out c.push_filled.new.out c.push_filled-2.new.out c.push_filled-3.new.out c.push_filled-4.new.out c.push_filled-5.new.out
-      (c.in_ok-push_root.ensures ∙ ap (λ (xs : List ℕ). xs ++ root) c.in_ok-out.ensures)
-      c.in_ok-push_filled.ensures c.in_ok-push_filled-2.ensures c.in_ok-push_filled-3.ensures c.in_ok-push_filled-4.ensures c.in_ok-push_filled-5.ensures
+    (c.in_ok-push_root.ensures ∙ ap (λ (xs : List ℕ). xs ++ root) c.in_ok-out.ensures)
+    c.in_ok-push_filled.ensures c.in_ok-push_filled-2.ensures c.in_ok-push_filled-3.ensures c.in_ok-push_filled-4.ensures c.in_ok-push_filled-5.ensures
 
 pub returns-clause-holds : goal.returns-clause-holds
 returns-clause-holds c = rw (built c) (metadata_holds c.args.streams.now c.requires)
