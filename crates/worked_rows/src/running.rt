@@ -1,0 +1,140 @@
+//! The program over a shelf and a console in memory.
+
+use il_base::{MemConsole, MemShelf, NoMemory, Text, Words};
+use il_tools::run;
+use std::alloc::Global;
+use std::test::Fail;
+
+const MANIFEST: &[u8] = b".assembly Hello { .ver 1:2:3:4 }";
+
+/// Words parted by single spaces.
+fn words(alloc: Global, line: &str) -> Result<Words, NoMemory> {
+    let mut words = Words::new(alloc);
+    for word in line.split(' ') {
+        words.push(Text::new(alloc, word)?)?;
+    }
+    Ok(words)
+}
+
+/// A shelf that holds `source` as `a.il`.
+fn shelf_with(alloc: Global, source: &[u8]) -> Result<MemShelf, NoMemory> {
+    let mut shelf = MemShelf::new(alloc);
+    shelf.put("a.il", source)?;
+    Ok(shelf)
+}
+
+/// The status, and what was said on standard error.
+fn outcome(alloc: Global, line: &str, shelf: &mut MemShelf) -> Result<(u8, Text), NoMemory> {
+    let words = words(alloc, line)?;
+    let mut console = MemConsole::new(alloc);
+    let status = run(alloc, &words, shelf, &mut console);
+    let said = match str::from_utf8(console.err_bytes()) {
+        Ok(said) => Text::new(alloc, said)?,
+        Err(_) => Text::new(alloc, "no text")?,
+    };
+    Ok((status.number, said))
+}
+
+#[test]
+fn statuses_and_texts(rt: HostRuntime) -> Result<(), Fail> {
+    let cases: [(&str, &[u8], u8, &str); 10] = [
+        ("ilasm a.il -dll", MANIFEST, 0, ""),
+        (
+            "ilasm a.il -dll",
+            b".class C { }".as_slice(),
+            1,
+            "a.il: error P1: this form isn't read yet\n",
+        ),
+        (
+            "ilasm a.il -dll",
+            b"".as_slice(),
+            1,
+            "a.il: error P1: this form isn't read yet\n",
+        ),
+        (
+            "ilasm a.il -dll",
+            b"\xFF".as_slice(),
+            1,
+            "a.il: error P1: this form isn't read yet\n",
+        ),
+        ("ilasm a.il", MANIFEST, 2, "usage fault at word 3\n"),
+        ("ilasm -dll a.il", MANIFEST, 2, "usage fault at word 2\n"),
+        (
+            "ilasm a.il -dll -dll",
+            MANIFEST,
+            2,
+            "usage fault at word 4\n",
+        ),
+        ("peverify a.il", MANIFEST, 2, "usage fault at word 1\n"),
+        ("ilasm - -dll", MANIFEST, 2, "usage fault at word 2\n"),
+        ("ilasm b.il -dll", MANIFEST, 3, "b.il: cannot be read\n"),
+    ];
+    for (line, source, status, text) in cases {
+        let mut shelf = shelf_with(rt.alloc(), source)?;
+        let (number, said) = outcome(rt.alloc(), line, &mut shelf)?;
+        assert_eq!(rt; number, status, "at {line:?}");
+        assert_eq!(rt; said.as_str(), text, "at {line:?}");
+        assert_eq!(rt; shelf.file("a.dll").is_some(), status == 0, "at {line:?}");
+        assert_eq!(rt; shelf.failed_reads(), 0, "at {line:?}");
+        assert_eq!(rt; shelf.failed_writes(), 0, "at {line:?}");
+    }
+    Ok(())
+}
+
+/// The rows of Module, TypeDef and Assembly stand at the end of the stream of tables.
+#[test]
+fn a_manifest(rt: HostRuntime) -> Result<(), Fail> {
+    let mut shelf = shelf_with(rt.alloc(), MANIFEST)?;
+    let (number, _) = outcome(rt.alloc(), "ilasm a.il -dll", &mut shelf)?;
+    assert_eq!(rt; number, 0);
+    let image = shelf.file("a.dll").ok_or("no image")?;
+    let header = b"\x00\x00\x00\x00\x02\x00\x00\x01\x05\x00\x00\x00\x01\x00\x00\x00".as_slice();
+    let rows = b"\x01\x00\x00\x00\x01\x00\x00\x00\x01\x00\x00\x00".as_slice();
+    let at = image
+        .windows(16)
+        .position(|bytes| bytes == header)
+        .ok_or("no tables")?;
+    assert!(rt; at < image.len() && image.len() < 1 << 20 && image.len() - at > 82);
+    assert_eq!(rt; &image[at + 24..at + 36], rows);
+    assert_eq!(rt;
+        &image[at + 60..at + 72],
+        b"\x04\x80\x00\x00\x01\x00\x02\x00\x03\x00\x04\x00".as_slice()
+    );
+    assert!(rt;
+        image
+            .windows(9)
+            .any(|bytes| bytes == b"Hello.dll".as_slice())
+    );
+    Ok(())
+}
+
+/// The nth call of the shelf fails, n counting up until a run ends with no failure.
+#[test]
+fn failing_calls(rt: HostRuntime) -> Result<(), Fail> {
+    for (call, status) in [(1, 3), (2, 3), (3, 4), (4, 4), (5, 4), (6, 4)] {
+        let mut shelf = shelf_with(rt.alloc(), MANIFEST)?;
+        shelf.fail_at(call)?;
+        shelf.at_most(512);
+        let (number, said) = outcome(rt.alloc(), "ilasm a.il -dll", &mut shelf)?;
+        assert_eq!(rt; number, status, "at {call}");
+        let text = if status == 3 {
+            "a.il: cannot be read\n"
+        } else {
+            ""
+        };
+        assert_eq!(rt; said.as_str(), text, "at {call}");
+        let stands = shelf.file("a.dll").map(|file| file.len());
+        let wanted = match call {
+            4 => Some(0),
+            5 => Some(512),
+            6 => Some(1024),
+            _ => None,
+        };
+        assert_eq!(rt; stands, wanted, "at {call}");
+    }
+    let mut shelf = shelf_with(rt.alloc(), MANIFEST)?;
+    shelf.at_most(0);
+    let (number, _) = outcome(rt.alloc(), "ilasm a.il -dll", &mut shelf)?;
+    assert_eq!(rt; number, 4);
+    Ok(())
+}
