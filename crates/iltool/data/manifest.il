@@ -1,0 +1,1 @@
+.assembly Hello { .ver 1:2:3:4 }

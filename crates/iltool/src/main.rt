@@ -1,0 +1,90 @@
+//! `iltool`: tools for .NET's intermediate language. The words after the program's name, the real files and the
+//! real streams go to `il_tools::run`; `--help` and `--version`, alone, are answered here.
+#![tactic(auto)]
+
+use il_base::{DiskShelf, NoMemory, StdConsole, Text, Words};
+use std::process::ExitCode;
+use std::rt::Env;
+use std::{env, io};
+use thiserror::Error;
+
+const HELP: &str = "\
+iltool: tools for .NET's intermediate language
+
+  iltool ilasm FILE -dll    assembles FILE to a library, named as FILE with .dll in place of .il
+  iltool --help             prints this text
+  iltool --version          prints the version
+
+Status: 0 done, 1 fault in the source, 2 usage fault, 3 FILE cannot be read, 4 output cannot be
+written, 5 FILE is too long, 6 no memory.
+";
+
+const VERSION: &str = "iltool 0.1.0\n";
+
+/// Why there are no words to hand on.
+#[derive(Debug, Drop, Error)]
+enum WordsFault {
+    /// There was no memory for them.
+    #[error("no memory")]
+    NoMemory,
+    /// One of them isn't UTF-8, or the system didn't tell them.
+    #[error("usage fault: a word isn't UTF-8")]
+    NotText,
+}
+
+impl From<NoMemory> for WordsFault {
+    fn from(_fault: NoMemory) -> WordsFault {
+        WordsFault::NoMemory
+    }
+}
+
+fn main(rt: HostRuntime) -> ExitCode {
+    let status = match words(&rt) {
+        Ok(words) => answer(&rt, &words),
+        Err(WordsFault::NoMemory) => 6,
+        Err(WordsFault::NotText) => {
+            let _ = rt.eprintln(WordsFault::NotText);
+            2
+        }
+    };
+    ExitCode::from(status)
+}
+
+/// The words after the program's name.
+fn words(rt: &(impl Env + AllocGlobal)) -> Result<Words, WordsFault> {
+    let all = match env::args(rt) {
+        Ok(all) => all,
+        Err(error) => {
+            return Err(match error.kind() {
+                io::ErrorKind::OutOfMemory => WordsFault::NoMemory,
+                _ => WordsFault::NotText,
+            });
+        }
+    };
+    let mut words = Words::new(rt.alloc());
+    for word in all.skip(1) {
+        words.push(Text::new(rt.alloc(), word.as_str())?)?;
+    }
+    Ok(words)
+}
+
+/// The status with which the program ends.
+fn answer(rt: &HostRuntime, words: &Words) -> u8 {
+    match words.as_slice() {
+        [word] if word.as_str() == "--help" => printed(rt, HELP),
+        [word] if word.as_str() == "--version" => printed(rt, VERSION),
+        _ => {
+            let mut shelf = DiskShelf::new(rt, rt.alloc());
+            let mut console = StdConsole::new(rt.stdout(), rt.stderr());
+            il_tools::run(rt.alloc(), words, &mut shelf, &mut console).number
+        }
+    }
+}
+
+/// Prints a text: 0 where it could be written, else 4.
+fn printed(rt: &impl Print, text: &str) -> u8 {
+    match rt.print(text) {
+        Ok(()) => 0,
+        Err(_) => 4,
+    }
+}
