@@ -138,3 +138,15 @@ fn failing_calls(rt: HostRuntime) -> Result<(), Fail> {
     assert_eq!(rt; number, 4);
     Ok(())
 }
+
+/// One byte more than a source may have.
+#[test]
+fn a_source_too_long(rt: HostRuntime) -> Result<(), Fail> {
+    let source = vec![in rt.alloc(); b' '; 134_217_729]?;
+    let mut shelf = shelf_with(rt.alloc(), source.as_slice())?;
+    let (number, said) = outcome(rt.alloc(), "ilasm a.il -dll", &mut shelf)?;
+    assert_eq!(rt; number, 5);
+    assert_eq!(rt; said.as_str(), "a.il: longer than 134217728 bytes\n");
+    assert!(rt; shelf.file("a.dll").is_none());
+    Ok(())
+}
