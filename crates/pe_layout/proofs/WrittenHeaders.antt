@@ -117,9 +117,12 @@ pub written_sections : (l : Layout) (p : Parts) (rest : List ℕ) → LaidOut l 
 unfolding headers dos_header file_header standard_fields nt_fields directories section_headers u16_at u32_at
 written_sections l p rest h =
     let n = written_numbers l p rest h in
+    let size = h.text_size in
+    let ends : 0x2000 + l.text_size ≡ l.imports_rva + 74 + 6 = omega arith in
     record {
       text = record { name_is = refl; virtual_address = refl; raw_size = n.text_raw ∙ h.text_raw ∙ ap (λ s. round_up s p.numbers.file_alignment) (sym n.text_size) ∙ ap (round_up (virtual_size_at (headers l p.numbers p.kind ++ rest) 376)) (sym n.file_alignment); raw_place = refl; relocation_place = refl; line_place = refl; relocation_count = refl; line_count = refl; flags_are = refl };
       reloc = record { name_is = refl; virtual_address = n.reloc_rva ∙ h.reloc_rva ∙ ap (λ s. round_up (0x2000 + s) 0x2000) (sym n.text_size); raw_size = n.reloc_raw ∙ h.reloc_raw ∙ ap (round_up 12) (sym n.file_alignment); raw_place = n.reloc_place ∙ ap (λ a. a + l.text_raw) (sym n.text_place) ∙ ap (λ r. raw_place_at (headers l p.numbers p.kind ++ rest) 376 + r) (sym n.text_raw); relocation_place = refl; line_place = refl; relocation_count = refl; line_count = refl; flags_are = refl };
+      text_length = ap (λ s. 0x2000 + s) n.text_size ∙ ends ∙ ap (λ e. e + 6) (sym n.entry_rva);
     }
 
 abbrev pub text_section : Layout → ManifestNumbers → Section

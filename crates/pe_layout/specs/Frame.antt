@@ -94,10 +94,12 @@ pub record IsSectionHeader (image : List ℕ) (place : ℕ) (name : List ℕ) (r
   pub flags_are : section_flags_at image place ≡ flags
 
 -- `.text` stands directly after the headers, `.reloc` in memory at the next free multiple of 0x2000 and in
--- the file directly after the raw bytes of `.text`
+-- the file directly after the raw bytes of `.text`. The last part of `.text` is the entry stub of 6 bytes, so
+-- its true length runs to the stub's end; that of `.reloc` is the size of directory 5.
 pub record HasSections (image : List ℕ) : Type 0 where
   pub text : IsSectionHeader image (text_header_of image) (codes ".text" ++ replicate 3 0) 0x2000 (header_size_of image) 0x60000020
   pub reloc : IsSectionHeader image (reloc_header_of image) (codes ".reloc" ++ replicate 2 0) (round_up (0x2000 + virtual_size_at image (text_header_of image)) 0x2000) (raw_place_at image (text_header_of image) + raw_size_at image (text_header_of image)) 0x42000040
+  pub text_length : 0x2000 + virtual_size_at image (text_header_of image) ≡ entry_rva_of image + 6
 
 -- II.25.3.3; metadata, flags and entry token are the assembly's
 pub record HasCliFields (image : List ℕ) : Type 0 where
