@@ -4,6 +4,7 @@
 
 mod assembly;
 mod body;
+mod copying;
 mod inner;
 mod members;
 mod sizes;

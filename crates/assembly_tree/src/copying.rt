@@ -1,0 +1,3 @@
+mod assemblies;
+mod bodies;
+mod members;
