@@ -1,3 +1,4 @@
 pub mod DataSize
+pub mod Nesting
 pub mod Room
 pub mod Weight

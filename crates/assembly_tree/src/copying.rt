@@ -1,3 +1,5 @@
 mod assemblies;
 mod bodies;
 mod members;
+mod nests;
+mod typedefs;
