@@ -4,3 +4,4 @@ pub mod Filled
 pub mod Finds
 pub mod Hash
 pub mod Heap
+pub mod Written

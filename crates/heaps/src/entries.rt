@@ -1,8 +1,9 @@
 //! A heap's bytes with the chains over them, and one entry more.
-ghost use Rattle.std.specs.Prelude.{◌≡◌, ℕ, ◌+◌, ◌<◌, ◌^◌, ◌++◌, List, [], length, IfSome, IfNone, IfOk, OnOk, OnErr};
+ghost use Rattle.std.specs.Prelude.{◌≡◌, ℕ, ◌+◌, ◌<◌, ◌≤◌, ◌^◌, ◌++◌, List, [], length, IfSome, IfNone, IfOk, OnOk, OnErr};
+ghost use Rattle.il_base.specs.Numbers.{Packed, IsShortest, packed_bytes};
 
 use crate::chains::Chains;
-use il_base::{Bytes, NoMemory};
+use il_base::{Bytes, NoMemory, push_packed};
 use std::alloc::Global;
 
 /// The bytes of a heap, and where its contents stand.
@@ -66,6 +67,33 @@ impl Entries {
             .chains
             .note(self.bytes.as_slice(), index, start, content)
         {
+            Ok(()) => Ok(()),
+            Err(NoMemory) => {
+                self.bytes.truncate(len);
+                Err(NoMemory)
+            }
+        }
+    }
+
+    /// Adds an entry with this index at the end: the packed length of `content` and `tail`, and these
+    /// two.
+    pub fn add_counted(&mut self, index: u32, content: &[u8], tail: &[u8]) -> Result<(), NoMemory>
+        requires finds { Finds self.old.chains self.old.bytes }
+        requires lacks { Lacks self.old.chains self.old.bytes content.now }
+        requires filled { 0 < length content.now + length tail.now }
+        requires room { length self.old.bytes + length content.now + length tail.now + 4 < 2 ^ 29 }
+        ensures finds { Finds self.new.chains self.new.bytes }
+        ensures bytes { OnOk result (self.new.bytes ≡ self.old.bytes ++ (packed_bytes (length content.now + length tail.now) ++ (content.now ++ tail.now))) }
+        ensures place { OnOk result (AddsPlace self.old.chains self.new.chains self.new.bytes index content.now) }
+        ensures err { OnErr result ((self.new.bytes ≡ self.old.bytes) × (self.new.chains.places ≡ self.old.chains.places)) }
+
+        // What was added.
+        ensures spells { Packed (packed_bytes (length content.now + length tail.now)) (length content.now + length tail.now) }
+        ensures shortest { IsShortest Packed (packed_bytes (length content.now + length tail.now)) (length content.now + length tail.now) }
+    {
+        let len = self.bytes.len();
+        push_packed(&mut self.bytes, (content.len() + tail.len()) as u32)?;
+        match self.add(index, &[], content, tail) {
             Ok(()) => Ok(()),
             Err(NoMemory) => {
                 self.bytes.truncate(len);

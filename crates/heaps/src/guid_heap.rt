@@ -1,7 +1,7 @@
 //! The heap of identifiers, `#GUID` (ECMA-335 II.24.2.5).
-ghost use Rattle.std.specs.Prelude.{◌≡◌, ℕ, ◌+◌, ◌<◌, ◌^◌, ◌∷◌, ◌++◌, ◌⊎◌, List, [], length, Contains, IfOk, OnErr};
+ghost use Rattle.std.specs.Prelude.{◌≡◌, ℕ, ◌+◌, ◌*◌, ◌<◌, ◌≤◌, ◌^◌, ◌∷◌, ◌++◌, ◌⊎◌, List, [], Ok, length, Contains, IfOk, OnErr};
 ghost use Rattle.heaps.specs.Content.{HasGuid};
-ghost use Rattle.heaps.specs.Heap.{HoldsOnce, Grows};
+ghost use Rattle.heaps.specs.Heap.{HoldsEach, HoldsOnce, Grows};
 
 use crate::entries::Entries;
 use il_base::NoMemory;
@@ -45,6 +45,8 @@ impl GuidHeap {
         requires room { length self.old.bytes + length content.now + 8 < 2 ^ 29 }
 
         ensures has { IfOk result (λ index. HasGuid self.new.bytes index content.now × Contains self.new.used index) }
+        ensures within { IfOk result (λ index. 16 * index ≤ length self.new.bytes) }
+        ensures known { (index : ℕ) → Contains self.old.used index → HasGuid self.old.bytes index content.now → (result ≡ Ok index) × (self.new ≡ self.old) }
         ensures stays { (index : ℕ) (id : List ℕ) → HasGuid self.old.bytes index id → HasGuid self.new.bytes index id }
         ensures grows { IfOk result (λ index. (self.new ≡ self.old) ⊎ Grows (λ entry. entry ≡ content.now) self.old self.new index) }
         ensures err { OnErr result (self.new ≡ self.old) }
@@ -57,9 +59,10 @@ impl GuidHeap {
         Ok(index)
     }
 
-    /// The heap's bytes. No identifier stands at two indexes in use.
+    /// The heap's bytes. Each index in use holds an identifier, and none stands at two of them.
     pub fn bytes(&self) -> &[u8]
         ensures bytes { result.now ≡ self.now.bytes }
+        ensures holds { HoldsEach HasGuid self.now }
         ensures once { HoldsOnce HasGuid self.now }
     {
         self.entries.bytes.as_slice()

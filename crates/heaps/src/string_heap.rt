@@ -1,7 +1,7 @@
 //! The heap of texts, `#Strings` (ECMA-335 II.24.2.3).
-ghost use Rattle.std.specs.Prelude.{◌≡◌, ◌≢◌, ℕ, ◌+◌, ◌<◌, ◌^◌, ◌∷◌, ◌++◌, ◌⊎◌, List, [], length, All, Contains, IsUtf8, IfOk, OnErr};
+ghost use Rattle.std.specs.Prelude.{◌≡◌, ◌≢◌, ℕ, ◌+◌, ◌<◌, ◌^◌, ◌∷◌, ◌++◌, ◌⊎◌, List, [], Ok, length, All, Contains, IsUtf8, IfOk, OnErr};
 ghost use Rattle.heaps.specs.Content.{HasText};
-ghost use Rattle.heaps.specs.Heap.{HoldsOnce, Grows};
+ghost use Rattle.heaps.specs.Heap.{HoldsEach, HoldsOnce, Grows};
 
 use crate::entries::Entries;
 use il_base::NoMemory;
@@ -46,6 +46,8 @@ impl StringHeap {
         requires room { length self.old.bytes + length content.now + 8 < 2 ^ 29 }
 
         ensures has { IfOk result (λ index. HasText self.new.bytes index content.now × Contains self.new.used index) }
+        ensures within { IfOk result (λ index. index < length self.new.bytes) }
+        ensures known { (index : ℕ) → Contains self.old.used index → HasText self.old.bytes index content.now → (result ≡ Ok index) × (self.new ≡ self.old) }
         ensures stays { (index : ℕ) (text : List ℕ) → HasText self.old.bytes index text → HasText self.new.bytes index text }
         ensures grows { IfOk result (λ index. (self.new ≡ self.old) ⊎ Grows (λ entry. entry ≡ content.now ++ 0 ∷ []) self.old self.new index) }
         ensures err { OnErr result (self.new ≡ self.old) }
@@ -61,9 +63,10 @@ impl StringHeap {
         Ok(index)
     }
 
-    /// The heap's bytes. No text stands at two indexes in use.
+    /// The heap's bytes. Each index in use holds a text, and no text stands at two of them.
     pub fn bytes(&self) -> &[u8]
         ensures bytes { result.now ≡ self.now.bytes }
+        ensures holds { HoldsEach HasText self.now }
         ensures once { HoldsOnce HasText self.now }
     {
         self.entries.bytes.as_slice()
