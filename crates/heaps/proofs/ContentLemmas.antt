@@ -3,7 +3,7 @@ use Rattle.std.proofs.Common.{◌≡◌, ℕ, zero, suc, ◌+◌, ◌*◌, ◌-�
 use Rattle.std.specs.Prelude.{All, IsUtf8, ◌≢◌, Option, Some, None, IfNone}
 use Rattle.std.proofs.lemmas.List.{length-append, length-drop, length-take, drop-append-le, append_assoc, get_or-take, get_or_default, take-append-drop}
 use Rattle.std.proofs.lemmas.List.Elements.{All-head, All-tail}
-use Rattle.std.proofs.Math.Seq.{drop-append-add, drop-append_seam, take-append_seam}
+use Rattle.std.proofs.Math.Seq.{drop-append_seam, take-append_seam}
 use Rattle.heaps.specs.Content.{BeginsText, HasText, HasGuid}
 
 -- what stands in a list stands in it with more at its end

@@ -1,13 +1,11 @@
 -- A heap keeps its contents, each at one index, when an entry is added at its end.
-use Rattle.std.proofs.Common.{◌≡◌, ℕ, zero, suc, ◌+◌, ◌*◌, ◌<◌, ◌≤◌, ◌⊎◌, inl, inr, List, ◌∷◌, ◌++◌, [], Some, length, map, take, drop, get_or, sym, ◌∙◌, ap, subst, refl, arith}
+use Rattle.std.proofs.Common.{◌≡◌, ℕ, zero, suc, ◌⊎◌, inl, inr, List, ◌∷◌, ◌++◌, [], Some, length, map, sym, ◌∙◌, ap, refl, arith}
 use Rattle.std.specs.Prelude.{slice_get, Contains, ◌≢◌, ◌==◌, Bool, true, false}
-use Rattle.std.proofs.lemmas.Option.{slice_get-map, slice_get-get_or, same_Some, slice_get_within, get_or_from_slice_get}
+use Rattle.std.proofs.lemmas.Option.{slice_get-map, same_Some, slice_get_within, get_or_from_slice_get}
 use Rattle.std.specs.Option.{option_map}
-use Rattle.std.proofs.lemmas.List.{length-append, length-map, drop-append-le, append_assoc}
 use Rattle.std.proofs.lemmas.Bool.{eqb-true}
-use Rattle.heaps.specs.Hash.{hash_of}
 use Rattle.heaps.specs.Filled.{IsFilled, IsProper, indexes}
-use Rattle.heaps.specs.Heap.{HoldsOnce}
+use Rattle.heaps.specs.Heap.{HoldsEach, HoldsOnce}
 use Rattle.heaps.specs.Finds.{Finds, Lacks, IsPlaceOf, AddsPlace, content_of}
 use Rattle.heaps.specs.declared.chains.Chains.{Chains}
 use Rattle.heaps.specs.declared.chains.Place.{Place}
@@ -64,6 +62,41 @@ module _ (Has : List ℕ → ℕ → List ℕ → Type 0)
       let same : a.1 ≡ b.1 = same_Some a.1 b.1 (sym a.2 ∙ ap (slice_get chains.places) e ∙ b.2) in
       sym a.3 ∙ ap (λ (p : Place). p.index) same ∙ b.3
 
+  -- so an index in use that has the content is that of its place, and a content without a place has no index
+  pub known_found : (bytes : List ℕ) (chains : Chains) (content : List ℕ) (j index : ℕ) → IsFilled Has bytes chains
+      → IsPlaceOf chains bytes content j → Contains (indexes chains.places) index → Has bytes index content → j ≡ index
+  known_found bytes chains content j index ok place used here =
+      let found = Has-found bytes chains content j ok place in same_index bytes chains ok j index content found.1 used found.0 here
+
+  pub known_lacks : (bytes : List ℕ) (chains : Chains) (content : List ℕ) (index : ℕ) → IsFilled Has bytes chains → Lacks chains bytes content
+      → Contains (indexes chains.places) index → Has bytes index content → ⊥
+  known_lacks bytes chains content index ok lacks used here =
+      let a = place_of_index chains.places index used in
+      lacks a.0 (slice_get-map (content_of bytes) chains.places a.0 ∙ ap (option_map (content_of bytes)) a.2
+      ∙ ap Some (unique bytes index (content_of bytes a.1) content (rw a.3 at (ok.holds a.0 a.1 a.2)) here))
+
+-- what an index says of its content, it says with less
+pub IsFilled-weaker : (Has Weaker : List ℕ → ℕ → List ℕ → Type 0) → ((bytes : List ℕ) (k : ℕ) (c : List ℕ) → Has bytes k c → Weaker bytes k c)
+    → (bytes : List ℕ) (chains : Chains) → IsFilled Has bytes chains → IsFilled Weaker bytes chains
+IsFilled-weaker Has Weaker weaker bytes chains ok = record {
+  finds = ok.finds;
+  holds = λ k p at. weaker bytes p.index (content_of bytes p) (ok.holds k p at);
+}
+
+-- a heap whose bytes and places are as they were
+pub IsFilled-kept : (Has : List ℕ → ℕ → List ℕ → Type 0) (bytes now : List ℕ) (old new : Chains) → IsFilled Has bytes old → Finds new now
+    → now ≡ bytes → new.places ≡ old.places → IsFilled Has now new
+IsFilled-kept Has bytes now old new ok finds same places = record {
+  finds = finds;
+  holds = λ k p at. rw same (ok.holds k p (ap (λ ps. slice_get ps k) (sym places) ∙ at));
+}
+
+-- each index in use holds a content
+pub HoldsEach-filled : (Has : List ℕ → ℕ → List ℕ → Type 0) (bytes : List ℕ) (chains : Chains) → IsFilled Has bytes chains
+    → HoldsEach Has (record { bytes = bytes; used = indexes chains.places })
+HoldsEach-filled Has bytes chains ok index used =
+    let a = place_of_index chains.places index used in (content_of bytes a.1, rw a.3 at (ok.holds a.0 a.1 a.2))
+
 Contains-cons_cases : (x : ℕ) (xs : List ℕ) (y : ℕ) → Contains (x ∷ xs) y → (x ≡ y) ⊎ Contains xs y
 Contains-cons_cases x xs y (zero, less, is) = inl is
 Contains-cons_cases x xs y (suc k, less, is) = inr (k, omega arith, is)
@@ -100,6 +133,31 @@ module _ (Has : List ℕ → ℕ → List ℕ → Type 0)
           | inr b ↦ same_index Has stays unique bytes chains ok j k content a b here there
         ]
       ]
+
+  pub HoldsEach-zero : (bytes : List ℕ) (chains : Chains) → IsFilled Has bytes chains
+      → HoldsEach Has (record { bytes = bytes; used = 0 ∷ indexes chains.places })
+  HoldsEach-zero bytes chains ok index used = elim (Contains-cons_cases 0 (indexes chains.places) index used) [
+    | inl e ↦ ([], rw (← e) (empty bytes))
+    | inr more ↦ HoldsEach-filled Has bytes chains ok index more
+  ]
+
+  pub known_empty : (bytes : List ℕ) (chains : Chains) (content : List ℕ) (index : ℕ) → IsFilled Has bytes chains → IsProper bytes chains
+      → content ≡ [] → Contains (0 ∷ indexes chains.places) index → Has bytes index content → 0 ≡ index
+  known_empty bytes chains content index ok proper none used here =
+      HoldsOnce-zero bytes chains ok proper 0 index [] (Contains-first 0 (indexes chains.places)) used (empty bytes) (rw none at here)
+
+  pub known_found-zero : (bytes : List ℕ) (chains : Chains) (content : List ℕ) (j index : ℕ) → IsFilled Has bytes chains → IsProper bytes chains
+      → IsPlaceOf chains bytes content j → Contains (0 ∷ indexes chains.places) index → Has bytes index content → j ≡ index
+  known_found-zero bytes chains content j index ok proper place used here =
+      let found = Has-found Has stays unique bytes chains content j ok place in
+      HoldsOnce-zero bytes chains ok proper j index content (Contains-cons 0 (indexes chains.places) j found.1) used found.0 here
+
+  pub known_lacks-zero : (bytes : List ℕ) (chains : Chains) (content : List ℕ) (index : ℕ) → IsFilled Has bytes chains → Lacks chains bytes content
+      → content ≢ [] → Contains (0 ∷ indexes chains.places) index → Has bytes index content → ⊥
+  known_lacks-zero bytes chains content index ok lacks full used here = elim (Contains-cons_cases 0 (indexes chains.places) index used) [
+    | inl e ↦ full (unique bytes 0 content [] (rw (← e) at here) (empty bytes))
+    | inr more ↦ known_lacks Has stays unique bytes chains content index ok lacks more here
+  ]
 
 pub IsProper-add : (bytes more : List ℕ) (old new : Chains) (index : ℕ) (content : List ℕ) → Finds old bytes → IsProper bytes old
     → AddsPlace old new (bytes ++ more) index content → content ≢ [] → IsProper (bytes ++ more) new

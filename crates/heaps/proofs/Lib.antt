@@ -1,3 +1,4 @@
+pub mod BlobLemmas
 pub mod ChainLemmas
 pub mod ContentLemmas
 pub mod FindsLemmas

@@ -1,5 +1,5 @@
 -- What stands at an index of a heap (ECMA-335 II.24.2.3 to II.24.2.5).
-use Rattle.std.specs.Prelude.{◌≡◌, ◌≢◌, ℕ, zero, suc, ◌+◌, ◌*◌, ◌%◌, List, [], ◌∷◌, ◌++◌, All, IsUtf8, length, drop}
+use Rattle.std.specs.Prelude.{◌≡◌, ◌≢◌, ℕ, zero, suc, ◌*◌, ◌%◌, List, [], ◌∷◌, ◌++◌, All, IsUtf8, length, drop}
 use Rattle.il_base.specs.Numbers.{Packed}
 
 -- the bytes begin with a text in UTF-8 and the zero byte that ends it

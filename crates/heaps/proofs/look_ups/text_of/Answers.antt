@@ -1,6 +1,3 @@
-use Rattle.std.proofs.Common.{◌≡◌, ℕ, List, take, sym, ◌∙◌, ap}
-use Rattle.std.specs.Prelude.{IsUtf8}
-use Rattle.heaps.specs.Content.{BeginsText}
 use Rattle.heaps.proofs.ContentLemmas.{BeginsText-here, BeginsText-ends, BeginsText-ended}
 use Rattle.heaps.proofs.look_ups.text_of.Goals as goal
 

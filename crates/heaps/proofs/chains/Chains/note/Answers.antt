@@ -1,8 +1,8 @@
-use Rattle.std.proofs.Common.{◌≡◌, ℕ, ◌+◌, ◌<◌, ◌≤◌, ◌∷◌, ◌++◌, [], Option, Some, cond, length, sym, ◌∙◌, ap, arith, rules}
+use Rattle.std.proofs.Common.{◌≡◌, ℕ, Some, cond, length, sym, ap, rules}
 use Rattle.std.specs.Prelude.{nat_eq}
 use Rattle.indexmap.specs.IndexMap.{get}
 use Rattle.heaps.specs.Hash.{hash_of}
-use Rattle.heaps.specs.Finds.{Lacks, content_of}
+use Rattle.heaps.specs.Finds.{content_of}
 use Rattle.heaps.specs.declared.chains.Chains.{Chains}
 use Rattle.heaps.specs.declared.chains.Place.{Place}
 use Rattle.heaps.proofs.FindsLemmas.{Finds-note}

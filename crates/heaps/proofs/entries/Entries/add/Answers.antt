@@ -1,5 +1,4 @@
-use Rattle.std.proofs.Common.{◌≡◌, ◌++◌, ◌∙◌, sym, ap}
-use Rattle.heaps.specs.Finds.{Finds, Lacks}
+use Rattle.std.proofs.Common.{◌≡◌, ◌++◌, ◌∙◌}
 use Rattle.heaps.proofs.FindsLemmas.{Finds-grow, Finds-undo, Lacks-grow, middle}
 use Rattle.heaps.proofs.entries.Entries.add.Goals as goal
 use Rattle.heaps.proofs.entries.Entries.add.Goals.{After-as_slice}

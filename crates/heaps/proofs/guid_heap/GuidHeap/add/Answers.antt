@@ -1,10 +1,10 @@
-use Rattle.std.proofs.Common.{◌≡◌, ℕ, ◌+◌, ◌/◌, ◌%◌, ◌<◌, ◌++◌, ◌∷◌, [], length, ◌∙◌, sym, ap, refl, arith, rules}
+use Rattle.std.proofs.Common.{◌≡◌, ◌+◌, ◌/◌, ◌++◌, [], ap, refl, arith, Ok}
 use Rattle.std.proofs.lemmas.List.{length-append}
 use Rattle.heaps.specs.Content.{HasGuid}
-use Rattle.heaps.specs.Filled.{IsFilled, indexes}
-use Rattle.heaps.specs.Finds.{Finds, AddsPlace}
+use Rattle.heaps.specs.Finds.{AddsPlace}
 use Rattle.heaps.proofs.ContentLemmas.{HasGuid-append, HasGuid-unique, HasGuid-end}
-use Rattle.heaps.proofs.HeapLemmas.{Has-found, IsFilled-grown, index_of_added}
+use Rattle.heaps.proofs.HeapLemmas.{Has-found, IsFilled-grown, index_of_added, known_found, known_lacks}
+use Rattle.heaps.proofs.BlobLemmas.{HasGuid-inside}
 use Rattle.heaps.proofs.guid_heap.GuidHeap.add.Goals as goal
 use Rattle.heaps.proofs.guid_heap.GuidHeap.add.Goals.{In_ok-add}
 
@@ -44,3 +44,30 @@ returns-clause-has c =
 pub returns-clause-stays : goal.returns-clause-stays
 returns-clause-stays c index text was =
     rw (grown c) (HasGuid-append c.self.inside.entries.bytes _ index text (rw (← c.self.view_is) at was))
+
+pub returns-in-Some-clause-within : goal.returns-in-Some-clause-within
+returns-in-Some-clause-within c =
+    let inside = c.self.inside.entries in
+    let found = Has-found HasGuid HasGuid-append HasGuid-unique inside.bytes inside.chains c.args.content.now c.in-Some.old c.self.invariant.0 c.in-Some.ensures.found in
+    rw (← c.self.view_is) (HasGuid-inside inside.bytes c.args.content.now c.in-Some.old found.0)
+
+pub returns-in-Some-clause-known : goal.returns-in-Some-clause-known
+returns-in-Some-clause-known c =
+    let inside = c.self.inside.entries in
+    rw (← c.self.view_is) (λ index used here. (
+      ap Ok (known_found HasGuid HasGuid-append HasGuid-unique inside.bytes inside.chains c.args.content.now c.in-Some.old index
+          c.self.invariant.0 c.in-Some.ensures.found used here),
+      refl,
+    ))
+
+pub returns-in_err-add-clause-known : goal.returns-in_err-add-clause-known
+returns-in_err-add-clause-known c index used here =
+    let inside = c.self.inside.entries in
+    absurd (known_lacks HasGuid HasGuid-append HasGuid-unique inside.bytes inside.chains c.args.content.now index
+    c.self.invariant.0 c.in_default.ensures.none (rw (← c.self.view_is) at used) (rw (← c.self.view_is) at here))
+
+pub returns-clause-known : goal.returns-clause-known
+returns-clause-known c index used here =
+    let inside = c.self.inside.entries in
+    absurd (known_lacks HasGuid HasGuid-append HasGuid-unique inside.bytes inside.chains c.args.content.now index
+    c.self.invariant.0 c.in_default.ensures.none (rw (← c.self.view_is) at used) (rw (← c.self.view_is) at here))
