@@ -1,0 +1,3 @@
+pub mod Assigning
+pub mod Climbing
+pub mod Ordering

@@ -1,0 +1,10 @@
+pub mod Ancestors
+pub mod Declarations
+pub mod Hierarchy
+pub mod Laws
+pub mod Names
+pub mod Normal
+pub mod Relations
+pub mod Scopes
+pub mod Stack
+pub mod ValueNames

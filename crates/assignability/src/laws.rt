@@ -1,0 +1,22 @@
+ghost use Rattle.std.specs.Prelude.{ℕ};
+ghost use Rattle.type_terms.specs.declared.term.SigType.{SigType};
+ghost use Rattle.assignability.specs.Hierarchy.{Hierarchy};
+ghost use Rattle.assignability.specs.Laws.{IsGrounded, IsReflexive, IsTransitive, IsOrder, JoinLaws};
+
+/// A value of a type may stand where that type is wanted, save for Bad; and what may stand for a second
+/// type that may stand for a third may stand for the third (ECMA-335 I.8.7.3). It does nothing when it is
+/// called.
+#[tactic(auto, using(crate::proofs::Assigning::reflexive, crate::proofs::Assigning::transitive))]
+pub fn assignable_is_a_preorder()
+    ensures reflexive { (w : Hierarchy) → IsReflexive w }
+    ensures transitive { (w : Hierarchy) (height : SigType → ℕ) → IsGrounded w height → IsTransitive w }
+{}
+
+/// The order of stack types is one; two types have at most one join, whose order and grouping don't
+/// matter; a type is its own join, and is assignable to its join with another unless that is Bad
+/// (ECMA-335 III.1.8.1.3). It does nothing when it is called.
+#[tactic(auto, using(crate::proofs::Ordering::order, crate::proofs::Ordering::joins))]
+pub fn joins_are_least_upper_bounds()
+    ensures order { (w : Hierarchy) (height : SigType → ℕ) → IsGrounded w height → IsOrder w }
+    ensures joins { (w : Hierarchy) (height : SigType → ℕ) → IsGrounded w height → JoinLaws w }
+{}

@@ -1,0 +1,6 @@
+//! Which type may stand where another is wanted, and what two types merge to (ECMA-335 I.8.7, III.1.8).
+#![tactic(auto)]
+
+mod laws;
+
+pub use laws::{assignable_is_a_preorder, joins_are_least_upper_bounds};
