@@ -81,3 +81,8 @@ passed-all piece bs at pieces p e =
     let b : (run_of piece bs).bytes ≡ at = p.bytes ∙ ap (λ r. at + r.bytes) none ∙ add-zero at in
     let k : (run_of piece bs).pieces ≡ pieces = p.pieces ∙ ap (λ r. pieces + r.pieces) none ∙ add-zero pieces in
     sym (ap (λ n. record { bytes = n; pieces = (run_of piece bs).pieces }) b ∙ ap (λ n. record { bytes = at; pieces = n }) k)
+
+-- a piece at the front, and the run behind it
+pub run-piece : (piece : List ℕ → Option ℕ) (b n : ℕ) (bs : List ℕ) → piece (b ∷ bs) ≡ Some (suc n) →
+    run_of piece (b ∷ bs) ≡ joined (suc n) (run_of piece (drop n bs))
+run-piece piece b n bs e = first_piece piece b bs ∙ ap (λ o. from_piece o (λ m. run_of piece (drop m (b ∷ bs)))) e

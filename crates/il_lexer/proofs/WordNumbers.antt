@@ -32,7 +32,7 @@ at_first x xs i w k true e rec h =
     record { behind = 0; place = omega arith; within = omega arith; same = (bytes_decides x w).0 e }
 at_first x xs i w k false e rec h = later x xs i w k (rec h)
 
-place-some : (xs : List (List ℕ)) (i : ℕ) (w : List ℕ) (k : ℕ) → place_from i xs w ≡ Some k → Found xs i w k
+pub place-some : (xs : List (List ℕ)) (i : ℕ) (w : List ℕ) (k : ℕ) → place_from i xs w ≡ Some k → Found xs i w k
 place-some [] i w k h = cc
 place-some (x ∷ xs) i w k h = at_first x xs i w k (bytes_eq x w) refl (λ e. place-some xs (suc i) w k e) h
 
@@ -76,9 +76,9 @@ placed_at place (w ∷ ws) k (suc i) h lt =
     let below : i < length ws = omega arith in
     placed_at place ws (suc k) i (second_holds _ _ h) below ∙ e
 
-words_len : length words ≡ 401
+pub words-len : length words ≡ 401
 unfolding words
-words_len = refl
+words-len = refl
 
 all_placed : placed_from (candidate SHIFTS SLOTS) 0 words ≡ true
 unfolding words
@@ -100,14 +100,14 @@ none_or_some w (Some j) h k lt e =
 
 -- the word at a place has that number
 pub number-some : (w : List ℕ) (k : ℕ) → k < 401 → get_or words k [] ≡ w → word_number w ≡ Some k
-number-some w k lt e = none_or_some w (word_number w) refl k (subst (λ n. k < n) (sym words_len) lt) e
+number-some w k lt e = none_or_some w (word_number w) refl k (subst (λ n. k < n) (sym words-len) lt) e
 
 no_number : (w : List ℕ) (o : Option ℕ) → word_number w ≡ o →
     ((k : ℕ) → k < 401 → candidate SHIFTS SLOTS w ≡ k → get_or words k [] ≡ w → ⊥) → o ≡ None
 no_number w None h never = refl
 no_number w (Some j) h never =
     let f : Found words 0 w j = place-some words 0 w j h in
-    absurd (never f.behind (subst (λ n. f.behind < n) words_len f.within) (word_place w f.behind f.within f.same) f.same)
+    absurd (never f.behind (subst (λ n. f.behind < n) words-len f.within) (word_place w f.behind f.within f.same) f.same)
 
 -- a text that isn't the word at its candidate has no number
 pub number-none : (w : List ℕ) →

@@ -7,3 +7,7 @@ pub mod WordList
 pub mod Tokens
 pub mod Lexing
 pub mod Laws
+pub mod Spelled
+pub mod Longest
+pub mod LongestGap
+pub mod Unplaced
