@@ -1,4 +1,3 @@
-pub mod FormLemmas
 pub mod FrontLemmas
 pub mod OutcomeLemmas
 pub mod PlainReads

@@ -1,20 +1,25 @@
 -- What each status says, from how assembling ended and how its fault was reported.
-use Rattle.std.proofs.Common.{◌≡◌, ℕ, ◌+◌, ◌<◌, ◌≤◌, ◌^◌, ◌⊎◌, inl, inr, Bool, List, ◌++◌, Option, Some, None, Result, Ok, Err, length, take, sym, ◌∙◌, ap, refl, arith}
+use Rattle.std.proofs.Common.{◌≡◌, ℕ, ◌+◌, ◌<◌, ◌≤◌, ◌^◌, ◌⊎◌, inl, inr, Bool, List, ◌++◌, Option, Some, None, Result, Ok, Err, length, take, sym, ◌∙◌, ap, refl, subst, arith}
 use Rattle.std.specs.Prelude.{◌≢◌, IsTrue}
 use Rattle.std.proofs.lemmas.Option.{same_Some}
+use Rattle.std.proofs.lemmas.List.{append-nil}
+use Rattle.std.proofs.Math.Seq.{take-length}
 use Rattle.il_base.specs.Outside.{Files, Rose, ChangesOnly}
 use Rattle.il_tools.specs.Assembled.{IsImageOf}
-use Rattle.il_tools.specs.Form.{Form, form_of}
-use Rattle.il_tools.specs.Outcome.{number_of, Reported, Answers}
+use Rattle.plain_source.specs.declared.reading.SourceFault.{SourceFault}
+use Rattle.plain_source.specs.Form.{Form}
+use Rattle.plain_source.specs.Laws.{OneReading}
+use Rattle.plain_source.specs.Reading.{IsPlain, IsFaultOf}
+use Rattle.il_tools.specs.Outcome.{number_of, text_of, HasFaultOf, IsCause, Reported, Answers, Says}
 use Rattle.il_tools.specs.Output.{HoldsFront}
 use Rattle.il_tools.specs.Words.{usage_fault, file_of, output_of}
 use Rattle.il_tools.specs.declared.fault.Fault.{Fault}
-use Rattle.il_tools.specs.declared.fault.Fault.TheVariants.{Usage, Form as NoForm, Unread, TooLong, Unwritten, NoMemory}
+use Rattle.il_tools.specs.declared.fault.Fault.TheVariants.{Usage, Source, Unread, TooLong, Unwritten, NoMemory}
 
 -- a fault is one of six
-which : (fault : Fault) → ((word : ℕ) × (fault ≡ Usage word)) ⊎ ((fault ≡ NoForm) ⊎ ((fault ≡ Unread) ⊎ ((fault ≡ TooLong) ⊎ ((fault ≡ Unwritten) ⊎ (fault ≡ NoMemory)))))
+which : (fault : Fault) → ((word : ℕ) × (fault ≡ Usage word)) ⊎ (((found : SourceFault) × (fault ≡ Source found)) ⊎ ((fault ≡ Unread) ⊎ ((fault ≡ TooLong) ⊎ ((fault ≡ Unwritten) ⊎ (fault ≡ NoMemory)))))
 which (Usage word) = inl (word, refl)
-which NoForm = inr (inl refl)
+which (Source found) = inr (inl (found, refl))
 which Unread = inr (inr (inl refl))
 which TooLong = inr (inr (inr (inl refl)))
 which Unwritten = inr (inr (inr (inr (inl refl))))
@@ -22,23 +27,23 @@ which NoMemory = inr (inr (inr (inr (inr refl))))
 
 number_range : (fault : Fault) → (0 < number_of fault) × (number_of fault ≤ 6)
 number_range (Usage word) = (omega arith, omega arith)
-number_range NoForm = (omega arith, omega arith)
+number_range (Source found) = (omega arith, omega arith)
 number_range Unread = (omega arith, omega arith)
 number_range TooLong = (omega arith, omega arith)
 number_range Unwritten = (omega arith, omega arith)
 number_range NoMemory = (omega arith, omega arith)
 
-is_no_form : (fault : Fault) → number_of fault ≡ 1 → fault ≡ NoForm
-is_no_form (Usage word) e = absurd (omega arith)
-is_no_form NoForm e = refl
-is_no_form Unread e = absurd (omega arith)
-is_no_form TooLong e = absurd (omega arith)
-is_no_form Unwritten e = absurd (omega arith)
-is_no_form NoMemory e = absurd (omega arith)
+is_source : (fault : Fault) → number_of fault ≡ 1 → (found : SourceFault) × (fault ≡ Source found)
+is_source (Usage word) e = absurd (omega arith)
+is_source (Source found) e = (found, refl)
+is_source Unread e = absurd (omega arith)
+is_source TooLong e = absurd (omega arith)
+is_source Unwritten e = absurd (omega arith)
+is_source NoMemory e = absurd (omega arith)
 
 is_usage : (fault : Fault) → number_of fault ≡ 2 → (word : ℕ) × (fault ≡ Usage word)
 is_usage (Usage word) e = (word, refl)
-is_usage NoForm e = absurd (omega arith)
+is_usage (Source found) e = absurd (omega arith)
 is_usage Unread e = absurd (omega arith)
 is_usage TooLong e = absurd (omega arith)
 is_usage Unwritten e = absurd (omega arith)
@@ -46,7 +51,7 @@ is_usage NoMemory e = absurd (omega arith)
 
 is_unread : (fault : Fault) → number_of fault ≡ 3 → fault ≡ Unread
 is_unread (Usage word) e = absurd (omega arith)
-is_unread NoForm e = absurd (omega arith)
+is_unread (Source found) e = absurd (omega arith)
 is_unread Unread e = refl
 is_unread TooLong e = absurd (omega arith)
 is_unread Unwritten e = absurd (omega arith)
@@ -54,7 +59,7 @@ is_unread NoMemory e = absurd (omega arith)
 
 is_unwritten : (fault : Fault) → number_of fault ≡ 4 → fault ≡ Unwritten
 is_unwritten (Usage word) e = absurd (omega arith)
-is_unwritten NoForm e = absurd (omega arith)
+is_unwritten (Source found) e = absurd (omega arith)
 is_unwritten Unread e = absurd (omega arith)
 is_unwritten TooLong e = absurd (omega arith)
 is_unwritten Unwritten e = refl
@@ -62,16 +67,30 @@ is_unwritten NoMemory e = absurd (omega arith)
 
 is_too_long : (fault : Fault) → number_of fault ≡ 5 → fault ≡ TooLong
 is_too_long (Usage word) e = absurd (omega arith)
-is_too_long NoForm e = absurd (omega arith)
+is_too_long (Source found) e = absurd (omega arith)
 is_too_long Unread e = absurd (omega arith)
 is_too_long TooLong e = refl
 is_too_long Unwritten e = absurd (omega arith)
 is_too_long NoMemory e = absurd (omega arith)
 
+is_no_memory : (fault : Fault) → number_of fault ≡ 6 → fault ≡ NoMemory
+is_no_memory (Usage word) e = absurd (omega arith)
+is_no_memory (Source found) e = absurd (omega arith)
+is_no_memory Unread e = absurd (omega arith)
+is_no_memory TooLong e = absurd (omega arith)
+is_no_memory Unwritten e = absurd (omega arith)
+is_no_memory NoMemory e = refl
+
 some_none : {X : Type 0} (o : Option X) (x : X) → o ≡ Some x → o ≡ None → ⊥
 some_none o x some none = absurd cc
 
-module _ (words : List (List ℕ)) (tells : Bool) (before now : Files) (reads reads_now writes writes_now failed failed_now : ℕ) where
+-- a source of the form has no fault
+no_fault : (one : OneReading) (source : List ℕ) (form : Form) (file : Option (List ℕ)) (fault : SourceFault) → IsPlain source form → file ≡ Some source → HasFaultOf file fault → ⊥
+no_fault one source form file fault plain is has =
+    let same : has.0 ≡ source = same_Some has.0 source (sym has.1 ∙ is) in
+    one.apart source form fault plain (rw same at has.3)
+
+module _ (one : OneReading) (words : List (List ℕ)) (tells : Bool) (before now : Files) (reads reads_now writes writes_now failed failed_now : ℕ) where
   -- nothing failed
   pub Answers-done : (IsTrue tells → (source : List ℕ) × (image : List ℕ) × (before (file_of words) ≡ Some source) × (length source ≤ 2 ^ 27) × IsImageOf source image
       × (now (output_of (file_of words)) ≡ Some image))
@@ -88,10 +107,8 @@ module _ (words : List (List ℕ)) (tells : Bool) (before now : Files) (reads re
     long = λ t fits source is more. let d = done t in
         let same : d.0 ≡ source = same_Some d.0 source (sym d.2 ∙ is) in
         let short : length source ≤ 2 ^ 27 = rw same at d.3 in absurd (omega arith);
-    no_form = λ t e. absurd (omega arith);
-    other_form = λ t fits source is within none. let d = done t in
-        let same : d.0 ≡ source = same_Some d.0 source (sym d.2 ∙ is) in
-        absurd (some_none (form_of d.0) d.4.0 d.4.1 (ap form_of same ∙ none));
+    refused = λ t e. absurd (omega arith);
+    faulty = λ t fits fault has. let d = done t in absurd (no_fault one d.0 d.4.0 (before (file_of words)) fault d.4.1 d.2 has);
     done = λ t e. let d = done t in (d.0, d.1, d.2, d.4, d.5);
     complete = λ t fits source form is within has nr nw nf. inl refl;
     untouched = λ t n. absurd (n refl);
@@ -105,7 +122,7 @@ module _ (words : List (List ℕ)) (tells : Bool) (before now : Files) (reads re
       (misfit : (word : ℕ) → usage_fault words ≡ Some word → fault ≡ Usage word)
       (unread : fault ≡ Unread → Rose reads reads_now ⊎ (IsTrue tells × (before (file_of words) ≡ None)))
       (too_long : IsTrue tells → fault ≡ TooLong → (source : List ℕ) × (before (file_of words) ≡ Some source) × (2 ^ 27 < length source))
-      (no_form : IsTrue tells → fault ≡ NoForm → (source : List ℕ) × (before (file_of words) ≡ Some source) × (length source ≤ 2 ^ 27) × (form_of source ≡ None))
+      (refused : IsTrue tells → (found : SourceFault) → fault ≡ Source found → HasFaultOf (before (file_of words)) found)
       (unwritten : fault ≡ Unwritten → Rose writes writes_now)
       (begun : IsTrue tells → fault ≡ Unwritten → (source : List ℕ) × (image : List ℕ) × (before (file_of words) ≡ Some source) × IsImageOf source image
       × ((now ≡ before) ⊎ HoldsFront now (output_of (file_of words)) image))
@@ -144,7 +161,7 @@ module _ (words : List (List ℕ)) (tells : Bool) (before now : Files) (reads re
       | inl n ↦ elim (which fault) [
         | inl u ↦ absurd (no_usage fits u.0 u.1)
         | inr a ↦ elim a [
-          | inl e ↦ let s = no_form t e in absurd (some_none (before (file_of words)) s.0 s.1 none)
+          | inl e ↦ let s = refused t e.0 e.1 in absurd (some_none (before (file_of words)) s.0 s.1 none)
           | inr b ↦ elim b [
             | inl e ↦ inl (n ∙ ap number_of e)
             | inr c ↦ elim c [
@@ -163,7 +180,7 @@ module _ (words : List (List ℕ)) (tells : Bool) (before now : Files) (reads re
       | inl n ↦ elim (which fault) [
         | inl u ↦ absurd (no_usage fits u.0 u.1)
         | inr a ↦ elim a [
-          | inl e ↦ let s = no_form t e in
+          | inl e ↦ let s = refused t e.0 e.1 in
               let same : s.0 ≡ source = same_Some s.0 source (sym s.1 ∙ is) in
               let short : length source ≤ 2 ^ 27 = rw same at s.2 in absurd (omega arith)
           | inr b ↦ elim b [
@@ -177,20 +194,21 @@ module _ (words : List (List ℕ)) (tells : Bool) (before now : Files) (reads re
       ]
     ]
 
-    by_other_form : IsTrue tells → usage_fault words ≡ None → (source : List ℕ) → before (file_of words) ≡ Some source → length source ≤ 2 ^ 27
-        → form_of source ≡ None → (number ≡ 1) ⊎ ((number ≡ 3) ⊎ ((number ≡ 4) ⊎ (number ≡ 6)))
-    by_other_form t fits source is within none = elim reported [
+    by_fault : IsTrue tells → usage_fault words ≡ None → (found : SourceFault) → HasFaultOf (before (file_of words)) found
+        → (number ≡ 1) ⊎ ((number ≡ 3) ⊎ ((number ≡ 4) ⊎ (number ≡ 6)))
+    by_fault t fits found has = elim reported [
       | inr r ↦ elim r [ inl s ↦ inr (inr (inr s.0)) | inr f ↦ inr (inr (inl f.0)) ]
       | inl n ↦ elim (which fault) [
         | inl u ↦ absurd (no_usage fits u.0 u.1)
         | inr a ↦ elim a [
-          | inl e ↦ inl (n ∙ ap number_of e)
+          | inl e ↦ inl (n ∙ ap number_of e.1)
           | inr b ↦ elim b [
             | inl e ↦ inr (inl (n ∙ ap number_of e))
             | inr c ↦ elim c [
               | inl e ↦ let s = too_long t e in
-                  let same : s.0 ≡ source = same_Some s.0 source (sym s.1 ∙ is) in
-                  let long : 2 ^ 27 < length source = rw same at s.2 in absurd (omega arith)
+                  let same : s.0 ≡ has.0 = same_Some s.0 has.0 (sym s.1 ∙ has.1) in
+                  let long : 2 ^ 27 < length has.0 = rw same at s.2 in
+                  let short : length has.0 ≤ 2 ^ 27 = has.2 in absurd (omega arith)
               | inr d ↦ elim d [ inl e ↦ inr (inr (inl (n ∙ ap number_of e))) | inr e ↦ inr (inr (inr (n ∙ ap number_of e))) ]
             ]
           ]
@@ -199,15 +217,13 @@ module _ (words : List (List ℕ)) (tells : Bool) (before now : Files) (reads re
     ]
 
     by_form : IsTrue tells → usage_fault words ≡ None → (source : List ℕ) (form : Form) → before (file_of words) ≡ Some source → length source ≤ 2 ^ 27
-        → form_of source ≡ Some form → (Rose reads reads_now → ⊥) → (Rose writes writes_now → ⊥) → (Rose failed failed_now → ⊥) → (number ≡ 0) ⊎ (number ≡ 6)
+        → IsPlain source form → (Rose reads reads_now → ⊥) → (Rose writes writes_now → ⊥) → (Rose failed failed_now → ⊥) → (number ≡ 0) ⊎ (number ≡ 6)
     by_form t fits source form is within has nr nw nf = elim reported [
       | inr r ↦ elim r [ inl s ↦ inr s.0 | inr f ↦ absurd (nf f.1) ]
       | inl n ↦ elim (which fault) [
         | inl u ↦ absurd (no_usage fits u.0 u.1)
         | inr a ↦ elim a [
-          | inl e ↦ let s = no_form t e in
-              let same : s.0 ≡ source = same_Some s.0 source (sym s.1 ∙ is) in
-              absurd (some_none (form_of source) form has (ap form_of (sym same) ∙ s.3))
+          | inl e ↦ absurd (no_fault one source form (before (file_of words)) e.0 has is (refused t e.0 e.1))
           | inr b ↦ elim b [
             | inl e ↦ elim (unread e) [ inl rose ↦ absurd (nr rose) | inr gone ↦ absurd (some_none (before (file_of words)) source is gone.1) ]
             | inr c ↦ elim c [
@@ -232,7 +248,7 @@ module _ (words : List (List ℕ)) (tells : Bool) (before now : Files) (reads re
     by_front t e = elim (which fault) [
       | inl u ↦ inl (same_files t (λ q. absurd (two_faults u.0 (sym u.1 ∙ q))))
       | inr a ↦ elim a [
-        | inl q ↦ inl (same_files t (λ p. absurd (one_fault (sym q ∙ p))))
+        | inl q ↦ inl (same_files t (λ p. absurd (one_fault q.0 (sym q.1 ∙ p))))
         | inr b ↦ elim b [
           | inl q ↦ inl (same_files t (λ p. absurd (three_fault (sym q ∙ p))))
           | inr c ↦ elim c [
@@ -249,8 +265,8 @@ module _ (words : List (List ℕ)) (tells : Bool) (before now : Files) (reads re
         two_faults : (word : ℕ) → Usage word ≡ Unwritten → ⊥
         two_faults word p = absurd cc
 
-        one_fault : NoForm ≡ Unwritten → ⊥
-        one_fault p = absurd cc
+        one_fault : (found : SourceFault) → Source found ≡ Unwritten → ⊥
+        one_fault found p = absurd cc
 
         three_fault : Unread ≡ Unwritten → ⊥
         three_fault p = absurd cc
@@ -271,8 +287,8 @@ module _ (words : List (List ℕ)) (tells : Bool) (before now : Files) (reads re
       absent = by_absent;
       too_long = λ t e. too_long t (is_too_long fault (named 5 e (λ q. absurd (omega arith)) (λ q. absurd (omega arith))));
       long = by_long;
-      no_form = λ t e. no_form t (is_no_form fault (named 1 e (λ q. absurd (omega arith)) (λ q. absurd (omega arith))));
-      other_form = by_other_form;
+      refused = λ t e. let s = is_source fault (named 1 e (λ q. absurd (omega arith)) (λ q. absurd (omega arith))) in (s.0, refused t s.0 s.1);
+      faulty = by_fault;
       done = λ t e. let z = named 0 e (λ q. absurd (omega arith)) (λ q. absurd (omega arith)) in let r = number_range fault in absurd (omega arith);
       complete = by_form;
       untouched = λ t n0 n4. stays t n4;
@@ -291,3 +307,62 @@ same_Err a b e = cc
 
 pub not_Ok : {X : Type 0} (x : X) (b : Fault) → ◌≡◌ {A = Result X Fault} (Ok x) (Err b) → ⊥
 not_Ok x b e = absurd cc
+
+-- ---- what is said
+
+-- the fault of the words, or of the told source, is the cause of what is said of it
+cause_of : (words : List (List ℕ)) (tells : Bool) (files : Files) (fault : Fault) → ((word : ℕ) → fault ≡ Usage word → usage_fault words ≡ Some word)
+    → (IsTrue tells → (found : SourceFault) → fault ≡ Source found → HasFaultOf (files (file_of words)) found) → IsCause words tells files fault
+cause_of words tells files (Usage word) usage refused = usage word refl
+cause_of words tells files (Source found) usage refused = λ t. refused t found refl
+cause_of words tells files Unread usage refused = tt
+cause_of words tells files TooLong usage refused = tt
+cause_of words tells files Unwritten usage refused = tt
+cause_of words tells files NoMemory usage refused = tt
+
+module _ (words : List (List ℕ)) (shelf_tells : Bool) (files : Files) (number : ℕ) (tells : Bool) (before now : List ℕ) where
+  pub Says-done : number ≡ 0 → now ≡ before → Says words number shelf_tells files tells before now
+  Says-done zero same = record {
+    quiet = λ t e. same;
+    text = λ t n0 n4 n6. absurd (n0 zero);
+    front = λ t e. absurd (omega arith);
+  }
+
+  pub Says-fault : (fault : Fault) (file : List ℕ) → file ≡ file_of words → (failed failed_now : ℕ)
+      → Reported tells number fault (text_of file fault) failed failed_now before now
+      → ((word : ℕ) → fault ≡ Usage word → usage_fault words ≡ Some word)
+      → (IsTrue shelf_tells → (found : SourceFault) → fault ≡ Source found → HasFaultOf (files (file_of words)) found)
+      → Says words number shelf_tells files tells before now
+  Says-fault fault file named failed failed_now first usage refused = record { quiet = quiet; text = said; front = front }
+    where
+      cause : IsCause words shelf_tells files fault
+      cause = cause_of words shelf_tells files fault usage refused
+
+      reported : Reported tells number fault (text_of (file_of words) fault) failed failed_now before now
+      reported = subst (λ (name : List ℕ). Reported tells number fault (text_of name fault) failed failed_now before now) named first
+
+      quiet : IsTrue tells → (number ≡ 0) ⊎ (number ≡ 6) → now ≡ before
+      quiet t n = elim reported [
+        | inl r ↦ r.1 t ∙ nothing (sym r.0)
+        | inr b ↦ elim b [ inl r ↦ r.2 t | inr r ↦ absurd (elim n [ inl e ↦ omega (arith, r.0) | inr e ↦ omega (arith, r.0) ]) ]
+      ]
+        where
+          six : number_of fault ≡ number → fault ≡ NoMemory
+          six e = let r = number_range fault in elim n [ inl z ↦ absurd (omega arith) | inr z ↦ is_no_memory fault (e ∙ z) ]
+
+          nothing : number_of fault ≡ number → before ++ text_of (file_of words) fault ≡ before
+          nothing e = ap (λ (f : Fault). before ++ text_of (file_of words) f) (six e) ∙ append-nil before
+
+      said : IsTrue tells → number ≢ 0 → number ≢ 4 → number ≢ 6 → (fault : Fault) × (number ≡ number_of fault)
+          × (now ≡ before ++ text_of (file_of words) fault) × IsCause words shelf_tells files fault
+      said t n0 n4 n6 = elim reported [
+        | inl r ↦ (fault, r.0, r.1 t, cause)
+        | inr b ↦ elim b [ inl r ↦ absurd (n6 r.0) | inr r ↦ absurd (n4 r.0) ]
+      ]
+
+      front : IsTrue tells → number ≡ 4 → (fault : Fault) × (count : ℕ) × IsCause words shelf_tells files fault
+          × (now ≡ before ++ take count (text_of (file_of words) fault))
+      front t four = elim reported [
+        | inl r ↦ (fault, length (text_of (file_of words) fault), cause, r.1 t ∙ ap (λ xs. before ++ xs) (sym (take-length (text_of (file_of words) fault))))
+        | inr b ↦ elim b [ inl r ↦ absurd (omega (arith, r.0)) | inr r ↦ let s = r.2 t in (fault, s.0, cause, s.1) ]
+      ]

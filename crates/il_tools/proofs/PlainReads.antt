@@ -12,7 +12,7 @@ use Rattle.metadata_tables.specs.Stream.{row_count, cell}
 use Rattle.metadata_tables.specs.Laws.{LongerStream, KeepsTables}
 use Rattle.image_model.specs.Root.{IsRoot, HasStream, filled}
 use Rattle.image_model.specs.FirstReading.{ReadsFirst, Opened, HasThreeRows, IsModuleRow, IsModuleType, IsAssemblyRow, header_numbers}
-use Rattle.il_tools.specs.Form.{Form}
+use Rattle.plain_source.specs.Form.{Form}
 use Rattle.il_tools.specs.Denoted.{denoted}
 use Rattle.il_tools.specs.Plain.{Indexes, plain_rows, module_cells, type_cells, assembly_cells, HoldsTexts, HoldsRows}
 use Rattle.il_tools.proofs.PlainRows.{rows_none}

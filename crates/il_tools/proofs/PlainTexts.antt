@@ -10,7 +10,7 @@ use Rattle.std.proofs.lemmas.List.Recursion.{and_at}
 use Rattle.std.proofs.lemmas.Str.{IsUtf8-from_ascii}
 use Rattle.heaps.specs.Content.{HasText, HasGuid}
 use Rattle.heaps.specs.Heap.{Heap, Grows}
-use Rattle.il_tools.specs.Form.{is_name, is_upper, is_digit, is_letter_or_digit}
+use Rattle.plain_source.specs.Names.{is_name, is_upper, is_digit, is_letter_or_digit}
 
 and_both : (a b : Bool) → (a && b) ≡ true → (a ≡ true) × (b ≡ true)
 and_both true b h = (refl, h)

@@ -1,7 +1,7 @@
 -- The assembly that a source of the form denotes.
 use Rattle.std.specs.Prelude.{List, [], ◌++◌, codes}
 use Rattle.assembly_tree.specs.declared.Assembly.{Assembly}
-use Rattle.il_tools.specs.Form.{Form}
+use Rattle.plain_source.specs.Form.{Form}
 
 -- the name and the version are the source's, and the module is named after the assembly; there is no key and no culture, the
 -- hash algorithm is SHA-1, and the image base, file alignment, stack reserve, subsystem and flags are those of a plain image

@@ -3,18 +3,19 @@ ghost use Rattle.std.specs.Prelude.{◌≡◌, ◌≢◌, ℕ, ◌≤◌, ◌<�
 ghost use Rattle.il_base.specs.Outside.{Rose, ChangesOnly};
 ghost use Rattle.image_model.specs.FirstReading.{ReadsFirst};
 ghost use Rattle.il_tools.specs.Denoted.{denoted};
-ghost use Rattle.il_tools.specs.Form.{form_of};
+ghost use Rattle.plain_source.specs.declared.reading.SourceFault.{SourceFault};
 ghost use Rattle.il_tools.specs.Output.{HoldsFront};
 ghost use Rattle.il_tools.specs.Words.{usage_fault, file_of, output_of};
 ghost use Rattle.il_tools.specs.Assembled.{IsImageOf, IsRefused};
+ghost use Rattle.il_tools.specs.Outcome.{HasFaultOf};
 
 use crate::fault::Fault;
-use crate::form::form_of;
 use crate::input::{InputFault, read_file};
 use crate::output::write_file;
 use crate::plain::write_plain;
 use crate::words::{file_word, output_name};
 use il_base::{Bytes, Shelf, Words};
+use plain_source::{Reading, read_source};
 use sha2::{Digest, Sha256};
 use std::alloc::Global;
 
@@ -27,7 +28,7 @@ pub(crate) fn assemble<S: Shelf>(alloc: Global, words: &Words, shelf: &mut S) ->
     ensures misfit { (word : ℕ) → usage_fault words.now ≡ Some word → result ≡ Err (Fault.Usage word) }
     ensures unread { result ≡ Err Fault.Unread → Rose (S.failed_reads shelf.old) (S.failed_reads shelf.new) ⊎ (IsTrue (S.tells shelf.old) × (S.files shelf.old (file_of words.now) ≡ None)) }
     ensures too_long { IsTrue (S.tells shelf.old) → result ≡ Err Fault.TooLong → (source : List ℕ) × (S.files shelf.old (file_of words.now) ≡ Some source) × (2 ^ 27 < length source) }
-    ensures form { IsTrue (S.tells shelf.old) → result ≡ Err Fault.Form → (source : List ℕ) × (S.files shelf.old (file_of words.now) ≡ Some source) × (length source ≤ 2 ^ 27) × (form_of source ≡ None) }
+    ensures faulty { IsTrue (S.tells shelf.old) → (fault : SourceFault) → result ≡ Err (Fault.Source fault) → HasFaultOf (S.files shelf.old (file_of words.now)) fault }
     ensures unwritten { result ≡ Err Fault.Unwritten → Rose (S.failed_writes shelf.old) (S.failed_writes shelf.new) }
     ensures done { IsTrue (S.tells shelf.old) → IsOk result → (source : List ℕ) × (image : List ℕ) × (S.files shelf.old (file_of words.now) ≡ Some source) × (length source ≤ 2 ^ 27) × IsImageOf source image × (S.files shelf.new (output_of (file_of words.now)) ≡ Some image) }
     ensures begun { IsTrue (S.tells shelf.old) → result ≡ Err Fault.Unwritten → (source : List ℕ) × (image : List ℕ) × (S.files shelf.old (file_of words.now) ≡ Some source) × IsImageOf source image × ((S.files shelf.new ≡ S.files shelf.old) ⊎ HoldsFront (S.files shelf.new) (output_of (file_of words.now)) image) }
@@ -65,11 +66,14 @@ pub(crate) fn assemble<S: Shelf>(alloc: Global, words: &Words, shelf: &mut S) ->
 
 /// The image of a source. Its identifier is the front of the source's SHA-256.
 fn image_of(alloc: Global, source: &[u8]) -> Result<Bytes, Fault>
+    requires { length source.now ≤ 2 ^ 27 }
     ensures image { IfOk result (IsImageOf source.now) }
     ensures fault { IfErr result (IsRefused source.now) }
 {
-    let Some(form) = form_of(source) else {
-        return Err(Fault::Form);
+    let form = match read_source(alloc, source) {
+        Ok(Reading::Plain(form)) => form,
+        Ok(Reading::Fault(fault)) => return Err(Fault::Source(fault)),
+        Err(_) => return Err(Fault::NoMemory),
     };
     let hash = Sha256::digest(source);
     match write_plain(alloc, &form, &hash[..16]) {

@@ -1,3 +1,4 @@
+use plain_source::SourceFault;
 use thiserror::Error;
 
 /// Why the program isn't done.
@@ -6,9 +7,9 @@ pub(crate) enum Fault {
     /// The words don't fit, from this word on.
     #[error("usage fault")]
     Usage(u32),
-    /// The source isn't of the form that is read so far.
-    #[error("this form isn't read yet")]
-    Form,
+    /// The source has a fault, or isn't of the form that is read so far.
+    #[error("the source has a fault")]
+    Source(SourceFault),
     /// The input can't be read.
     #[error("cannot be read")]
     Unread,

@@ -3,11 +3,11 @@
 
 mod assemble;
 mod fault;
-mod form;
 mod input;
 mod output;
 mod plain;
 mod report;
+mod texts;
 mod top;
 mod words;
 

@@ -2,16 +2,16 @@
 ghost use Rattle.std.specs.Prelude.{◌≡◌, ◌≢◌, ℕ, ◌+◌, ◌<◌, ◌≤◌, ◌^◌, ◌∷◌, ◌++◌, [], true, length, codes, IfOk};
 ghost use Rattle.heaps.specs.Content.{HasText, HasGuid};
 ghost use Rattle.image_model.specs.FirstReading.{ReadsFirst};
-ghost use Rattle.il_tools.specs.Form.{is_name};
+ghost use Rattle.plain_source.specs.Names.{is_name};
 ghost use Rattle.il_tools.specs.Denoted.{denoted};
 ghost use Rattle.il_tools.specs.Plain.{HoldsTexts, HoldsRows, HoldsAll};
 
-use crate::form::Form;
 use heaps::{GuidHeap, StringHeap};
 use il_base::{Bytes, NoMemory};
 use image_model::{Streams, put_together};
 use metadata_tables::{Rows, encode, longer_stream, row_of_columns};
 use pe_layout::{Kind, ManifestNumbers, Parts};
+use plain_source::Form;
 use std::alloc::Global;
 
 // The tables that have a row.

@@ -6,6 +6,7 @@ ghost use Rattle.il_tools.specs.Outcome.{Answers, Says};
 use crate::assemble::assemble;
 use crate::report::report;
 use il_base::{Console, Shelf, Text, Words};
+use plain_source::one_reading;
 use std::alloc::Global;
 
 /// How the program ends.
@@ -20,6 +21,9 @@ pub struct Status {
 
 /// Does all that the program does: `ilasm FILE -dll` assembles FILE, whose output is named after it,
 /// without a last `.il` and with `.dll`. `words` are those after the program's name.
+///
+/// A source is read through its tokens and its derivation (II.5). Its first fault is said with its rule and
+/// line; a source without one that is no manifest of the form in `plain_source` isn't read yet, which is P1.
 pub fn run<S: Shelf, C: Console>(
     alloc: Global,
     words: &Words,
@@ -27,7 +31,7 @@ pub fn run<S: Shelf, C: Console>(
     console: &mut C,
 ) -> Status
     ensures answers { Answers words.now result.number (S.tells shelf.old) (S.files shelf.old) (S.files shelf.new) (S.failed_reads shelf.old) (S.failed_reads shelf.new) (S.failed_writes shelf.old) (S.failed_writes shelf.new) (C.failed console.old) (C.failed console.new) }
-    ensures says { Says words.now result.number (C.tells console.old) (C.err_taken console.old) (C.err_taken console.new) }
+    ensures says { Says words.now result.number (S.tells shelf.old) (S.files shelf.old) (C.tells console.old) (C.err_taken console.old) (C.err_taken console.new) }
     ensures no_output { IsTrue (C.tells console.old) → C.out_taken console.new ≡ C.out_taken console.old }
 
     // What stays.
@@ -37,6 +41,7 @@ pub fn run<S: Shelf, C: Console>(
     ensures writes_stay { S.failed_writes shelf.old ≤ S.failed_writes shelf.new }
     ensures count_stays { C.failed console.old ≤ C.failed console.new }
 {
+    one_reading();
     match assemble(alloc, words, shelf) {
         Ok(()) => Status { number: 0 },
         Err(fault) => Status {

@@ -7,6 +7,8 @@ use std::test::Fail;
 
 const MANIFEST: &[u8] = b".assembly Hello { .ver 1:2:3:4 }";
 
+const P1: &str = "a.il: error P1: this form isn't read yet\n";
+
 /// Words parted by single spaces.
 fn words(alloc: Global, line: &str) -> Result<Words, NoMemory> {
     let mut words = Words::new(alloc);
@@ -35,27 +37,88 @@ fn outcome(alloc: Global, line: &str, shelf: &mut MemShelf) -> Result<(u8, Text)
     Ok((status.number, said))
 }
 
+/// Sources in `a.il`, the status of `ilasm a.il -dll` and what is said.
+static SOURCES: [(&str, u8, &str); 21] = [
+    (".assembly A{.ver 1:0:0:0}", 0, ""),
+    ("\u{feff}// a\n.assembly /* b */ A\r\n{ } // c", 0, ""),
+    (".class C { }", 1, P1),
+    (".assembly a { }", 1, P1),
+    (".assembly A.B { }", 1, P1),
+    (".assembly 'A' { }", 1, P1),
+    (".assembly A { } .assembly B { }", 1, P1),
+    (".assembly A { .ver 1:0:0:65536 }", 1, P1),
+    (".assembly A { .ver 1:-1:0:0 }", 1, P1),
+    (".assembly A { .ver 1:0:0:0 .ver 1:0:0:0 }", 1, P1),
+    (".assembly A { .hash algorithm 0x8004 }", 1, P1),
+    (".assembly extern A { }", 1, P1),
+    (
+        ".assembly A { } }\n  /* x",
+        1,
+        "a.il(2): error L2: a string, a quoted name or a comment doesn't end\n",
+    ),
+    (
+        "''",
+        1,
+        "a.il(1): error L3: an escape, a zero byte or an empty quoted name isn't allowed\n",
+    ),
+    (
+        ".assembly extern mscorlib { }\n.assembly A { }\n.method static void M() cil managed { ldc.r8 2.5 ret }",
+        1,
+        "a.il(3): error L4: a real number in decimal isn't read\n",
+    ),
+    ("\n\n %", 1, "a.il(3): error L5: no token begins here\n"),
+    (
+        "",
+        1,
+        "a.il(1): error S1: no declaration goes on with this token\n",
+    ),
+    (
+        ".class C extends\n",
+        1,
+        "a.il(2): error S1: no declaration goes on with this token\n",
+    ),
+    (
+        ".assembly A { }\n}",
+        1,
+        "a.il(2): error S1: no declaration goes on with this token\n",
+    ),
+    (
+        "calli",
+        1,
+        "a.il(1): error S2: this construct is left out\n",
+    ),
+    (
+        ".assembly A { }\n.line",
+        1,
+        "a.il(2): error S2: this construct is left out\n",
+    ),
+];
+
+#[test]
+fn sources(rt: HostRuntime) -> Result<(), Fail> {
+    for (source, status, text) in SOURCES.iter() {
+        let mut shelf = shelf_with(rt.alloc(), source.as_bytes())?;
+        let (number, said) = outcome(rt.alloc(), "ilasm a.il -dll", &mut shelf)?;
+        assert_eq!(rt; said.as_str(), *text, "at {source:?}");
+        assert_eq!(rt; number, *status, "at {source:?}");
+        assert_eq!(rt;
+            shelf.file("a.dll").is_some(),
+            *status == 0,
+            "at {source:?}"
+        );
+    }
+    Ok(())
+}
+
 #[test]
 fn statuses_and_texts(rt: HostRuntime) -> Result<(), Fail> {
-    let cases: [(&str, &[u8], u8, &str); 10] = [
+    let cases: [(&str, &[u8], u8, &str); 8] = [
         ("ilasm a.il -dll", MANIFEST, 0, ""),
         (
             "ilasm a.il -dll",
-            b".class C { }".as_slice(),
+            b"\n\xFF".as_slice(),
             1,
-            "a.il: error P1: this form isn't read yet\n",
-        ),
-        (
-            "ilasm a.il -dll",
-            b"".as_slice(),
-            1,
-            "a.il: error P1: this form isn't read yet\n",
-        ),
-        (
-            "ilasm a.il -dll",
-            b"\xFF".as_slice(),
-            1,
-            "a.il: error P1: this form isn't read yet\n",
+            "a.il(2): error L1: the source isn't UTF-8\n",
         ),
         ("ilasm a.il", MANIFEST, 2, "usage fault at word 3\n"),
         ("ilasm -dll a.il", MANIFEST, 2, "usage fault at word 2\n"),
@@ -77,6 +140,62 @@ fn statuses_and_texts(rt: HostRuntime) -> Result<(), Fail> {
         assert_eq!(rt; shelf.file("a.dll").is_some(), status == 0, "at {line:?}");
         assert_eq!(rt; shelf.failed_reads(), 0, "at {line:?}");
         assert_eq!(rt; shelf.failed_writes(), 0, "at {line:?}");
+    }
+    Ok(())
+}
+
+/// One token too many, and one bracket too deep.
+#[test]
+fn limits_of_tokens(rt: HostRuntime) -> Result<(), Fail> {
+    let cases = [
+        (
+            b',',
+            16_777_217,
+            "a.il(1): error L6: more than 16777216 tokens\n",
+        ),
+        (
+            b'{',
+            400,
+            "a.il(1): error S1: no declaration goes on with this token\n",
+        ),
+        (
+            b'{',
+            401,
+            "a.il(1): error L7: brackets nest deeper than 400\n",
+        ),
+    ];
+    for (byte, count, text) in cases {
+        let source = vec![in rt.alloc(); byte; count]?;
+        let mut shelf = shelf_with(rt.alloc(), source.as_slice())?;
+        let (number, said) = outcome(rt.alloc(), "ilasm a.il -dll", &mut shelf)?;
+        assert_eq!(rt; said.as_str(), text);
+        assert_eq!(rt; number, 1);
+    }
+    Ok(())
+}
+
+/// The parts of a version, by the bytes of the Assembly row from its hash algorithm on.
+#[test]
+fn versions(rt: HostRuntime) -> Result<(), Fail> {
+    let cases = [
+        (
+            b".assembly Hello { }".as_slice(),
+            b"\x04\x80\x00\x00\x00\x00\x00\x00\x00\x00\x00\x00".as_slice(),
+        ),
+        (
+            b".assembly Hello { .ver 0x1fE : 0065535 : -0 : 10 }".as_slice(),
+            b"\x04\x80\x00\x00\xFE\x01\xFF\xFF\x00\x00\x0A\x00".as_slice(),
+        ),
+    ];
+    for (source, wanted) in cases {
+        let mut shelf = shelf_with(rt.alloc(), source)?;
+        let (number, _) = outcome(rt.alloc(), "ilasm a.il -dll", &mut shelf)?;
+        assert_eq!(rt; number, 0, "at {source:?}");
+        let image = shelf.file("a.dll").ok_or("no image")?;
+        assert!(rt;
+            image.windows(12).any(|bytes| bytes == wanted),
+            "at {source:?}"
+        );
     }
     Ok(())
 }

@@ -5,7 +5,7 @@ use Rattle.heaps.specs.Heap.{Heap}
 use Rattle.il_tools.proofs.PlainTexts.{IsName, IsPlain, IsName-from, IsPlain-utf8, IsPlain-no_zero, IsPlain-append, dll_plain, length-grown}
 use Rattle.il_tools.proofs.plain.make_texts.Goals as goal
 use Rattle.il_tools.proofs.plain.make_texts.Goals.{After-as_slice}
-use Rattle.il_tools.specs.Form.{is_name}
+use Rattle.plain_source.specs.Names.{is_name}
 
 named : (c : After-as_slice) → IsName c.args.name.now
 named c = IsName-from c.args.name.now c.requires

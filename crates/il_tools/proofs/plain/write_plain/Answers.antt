@@ -6,7 +6,7 @@ use Rattle.il_tools.proofs.PlainTexts.{text_within, guid_within, length-grown_gu
 use Rattle.il_tools.proofs.PlainRows.{stream_short}
 use Rattle.il_tools.proofs.PlainReads.{reads_first}
 use Rattle.pe_layout.specs.declared.Parts.{Parts}
-use Rattle.il_tools.specs.Form.{Form}
+use Rattle.plain_source.specs.Form.{Form}
 use Rattle.il_tools.proofs.plain.write_plain.Goals as goal
 
 pub encode_rows-requires-clause-module_name : goal.encode_rows-requires-clause-module_name

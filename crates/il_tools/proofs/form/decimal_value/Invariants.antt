@@ -1,9 +1,0 @@
-use Rattle.std.proofs.Common.{◌≡◌, ◌<◌, ◌^◌, take}
-use Rattle.il_tools.specs.Form.{decimal_value}
-use Rattle.il_tools.proofs.form.decimal_value.Given as goal
-
-abbrev pub invariant-loop-digit : goal.invariant-loop-digit
-invariant-loop-digit l = record {
-  value : l.value ≡ decimal_value (take l.digit-index l.digits);
-  small : l.value < 10 ^ l.digit-index;
-}
