@@ -2,3 +2,9 @@ pub mod DataSize
 pub mod Nesting
 pub mod Room
 pub mod Weight
+pub mod WellFormed
+pub mod WellFormedBodies
+pub mod WellFormedMembers
+pub mod WellFormedNames
+pub mod WellFormedTerms
+pub mod WellFormedTypes

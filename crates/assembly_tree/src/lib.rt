@@ -5,6 +5,7 @@
 mod assembly;
 mod body;
 mod copying;
+mod formed;
 mod inner;
 mod members;
 mod sizes;
@@ -13,6 +14,7 @@ mod weighing;
 
 pub use assembly::{Assembly, ExternAssembly, Externs, Manifest};
 pub use body::{Body, Clause, ClauseKind, Clauses, Code, Ins, Operand};
+pub use formed::well_formed;
 pub use members::{
     Accessor, Accessors, Attribute, Attributes, Constant, Event, Events, Field, Fields, Generic,
     Generics, Method, Methods, Param, Params, Properties, Property,

@@ -61,7 +61,7 @@ fn declared<'a>(a: &'a Assembly, name: &TypeName) -> Option<&'a TypeDef>
 }
 
 /// The type that the path leads to from a list of types.
-fn type_at<'a>(types: &'a [TypeDef], path: &[TypeId]) -> Option<&'a TypeDef>
+pub(crate) fn type_at<'a>(types: &'a [TypeDef], path: &[TypeId]) -> Option<&'a TypeDef>
     ensures { option_copied result ≡ type_at types.now path.now }
 {
     match path {
@@ -118,7 +118,7 @@ impl TypeDef {
 }
 
 /// Whether both are of one space and name.
-fn is_id(a: &TypeId, b: &TypeId) -> bool
+pub(crate) fn is_id(a: &TypeId, b: &TypeId) -> bool
     ensures { result ≡ is_id a.now b.now }
 {
     a.space.as_bytes() == b.space.as_bytes() && a.name.as_bytes() == b.name.as_bytes()

@@ -9,6 +9,7 @@ mod weighs;
 
 use crate::Assembly;
 use weighs::Weighs;
+pub(crate) use weighs::charge_each;
 
 /// The greatest weight that `weight` tells.
 pub const MAX_WEIGHT: u64 = 1 << 63;
