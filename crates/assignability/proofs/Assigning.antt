@@ -9,7 +9,7 @@ use Rattle.type_terms.specs.declared.term.SigType.{SigType, out-SigType}
 use Rattle.type_terms.specs.declared.term.SigType.TheVariants as type
 use Rattle.assignability.specs.Names.{is_integral}
 use Rattle.assignability.specs.Hierarchy.{Hierarchy, object, parent, interfaces, Up, Elements, elements, layer_elements, underlying, layer_underlying}
-use Rattle.assignability.specs.Stack.{Stack, null, ref, boxed, bad, is_reference, layer_is_reference, reduced_type, changed, layer_changed, signed}
+use Rattle.assignability.specs.Stack.{Stack, null, ref, boxed, bad, is_reference, layer_is_reference, reduced_type, changed, counts_as, or_else, primitive, layer_primitive, signed}
 use Rattle.assignability.specs.Relations.{AreAlike, Assignable, same, null_ref, null_boxed, ref_object, boxed_object, ref_up, boxed_parent, boxed_interface, by_elements, by_reduced}
 use Rattle.assignability.specs.Laws.{IsGrounded}
 use Rattle.assignability.proofs.Climbing.{up_trans, chain_up, chain_object, only_object, first_step, First, at_once, by_parent, by_interface, same_layer, some_same, none_some, array_itself, above_arrays}
@@ -80,7 +80,7 @@ back_prim g t p l e h =
     let same : signed p ≡ p = reference_signed p (reference_at t (Prim (signed p)) (prim_layer t (signed p) e) h) in
     same_layer g t (l ∙ sym (prim_layer t (signed p) e ∙ ap Prim same))
 
-back_layer : (g t : SigType) (l : Layer) → out-SigType g ≡ l → layer_changed signed g l ≡ t → IsTrue (is_reference t) → g ≡ t
+back_layer : (g t : SigType) (l : Layer) → out-SigType g ≡ l → changed signed g (layer_primitive l) ≡ t → IsTrue (is_reference t) → g ≡ t
 back_layer g t (Prim p) l e h = back_prim g t p l e h
 back_layer g t (Class n) l e h = e
 back_layer g t (Value n) l e h = e
@@ -94,13 +94,13 @@ back_layer g t (Pointer of) l e h = e
 back_layer g t (Mod r by of) l e h = e
 back_layer g t (Pinned of) l e h = e
 
-back : (w : Hierarchy) → (height : SigType → ℕ) → IsGrounded w height → (g t : SigType) (o : Option Primitive) → underlying w g ≡ o → changed signed g o ≡ t → IsTrue (is_reference t) → g ≡ t
+back : (w : Hierarchy) → (height : SigType → ℕ) → IsGrounded w height → (g t : SigType) (o : Option Primitive) → underlying w g ≡ o → changed signed g (or_else o (layer_primitive (out-SigType g))) ≡ t → IsTrue (is_reference t) → g ≡ t
 back w height k g t None u e h = back_layer g t (out-SigType g) refl e h
 back w height k g t (Some p) u e h = absurd (back_enum w height k g t p u e h)
 
 -- what reduces to a reference type is that type
 reduced_back : (w : Hierarchy) → (height : SigType → ℕ) → IsGrounded w height → (g t : SigType) → reduced_type w g ≡ t → IsTrue (is_reference t) → g ≡ t
-unfolding reduced_type
+unfolding reduced_type counts_as primitive
 reduced_back w height k g t e h = back w height k g t (underlying w g) refl e h
 
 no_underlying : (w : Hierarchy) (l : Layer) → layer_is_reference l ≡ true → layer_underlying w l ≡ None
@@ -123,7 +123,7 @@ stays_prim t prim.Str e h = same_layer (type.Prim prim.Str) t (type.outs-Prim pr
 stays_prim t prim.Object e h = same_layer (type.Prim prim.Object) t (type.outs-Prim prim.Object ∙ sym e)
 stays_prim t p e h = absurd (let f : ⊥ = cc in f)
 
-stays_layer : (t : SigType) (l : Layer) → out-SigType t ≡ l → layer_is_reference l ≡ true → layer_changed signed t l ≡ t
+stays_layer : (t : SigType) (l : Layer) → out-SigType t ≡ l → layer_is_reference l ≡ true → changed signed t (layer_primitive l) ≡ t
 stays_layer t (Prim p) e h = stays_prim t p e h
 stays_layer t (Class n) e h = refl
 stays_layer t (Value n) e h = refl
@@ -139,10 +139,10 @@ stays_layer t (Pinned of) e h = refl
 
 -- a reference type reduces to itself
 reduced_itself : (w : Hierarchy) (t : SigType) → IsTrue (is_reference t) → reduced_type w t ≡ t
-unfolding reduced_type underlying
+unfolding reduced_type counts_as primitive underlying
 reduced_itself w t h =
     let r : layer_is_reference (out-SigType t) ≡ true = reference_at t (out-SigType t) refl h in
-    ap (changed signed t) (no_underlying w (out-SigType t) r) ∙ stays_layer t (out-SigType t) refl r
+    ap (λ o. changed signed t (or_else o (layer_primitive (out-SigType t)))) (no_underlying w (out-SigType t) r) ∙ stays_layer t (out-SigType t) refl r
 
 -- ---- arrays
 

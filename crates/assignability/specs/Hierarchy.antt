@@ -175,10 +175,13 @@ abbrev pub declared_underlying : Option Declaration → Option Primitive
 declared_underlying None = None
 declared_underlying (Some d) = d.underlying
 
+abbrev pub instance_underlying : Bool → Option Declaration → Option Primitive
+instance_underlying true d = declared_underlying d
+instance_underlying false d = None
+
 abbrev pub layer_underlying : Hierarchy → SigType-F Owner SigType → Option Primitive
 layer_underlying w (Value name) = declared_underlying (w.declared name)
-layer_underlying w (Inst true name args) = declared_underlying (w.declared name)
-layer_underlying w (Inst false name args) = None
+layer_underlying w (Inst value name args) = instance_underlying value (w.declared name)
 layer_underlying w (Prim p) = None
 layer_underlying w (Class name) = None
 layer_underlying w (Var n) = None

@@ -1,10 +1,16 @@
+pub mod Above
 pub mod Ancestors
+pub mod Chains
 pub mod Declarations
 pub mod Hierarchy
 pub mod Laws
+pub mod Meaning
+pub mod NameHash
 pub mod Names
 pub mod Normal
+pub mod Pooled
 pub mod Relations
 pub mod Scopes
 pub mod Stack
+pub mod Tables
 pub mod ValueNames

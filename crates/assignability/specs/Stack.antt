@@ -1,5 +1,5 @@
 -- Types of values on the evaluation stack (ECMA-335 III.1.1, I.12.3.2.1), and those that the values of a type have there.
-use Rattle.std.specs.Prelude.{Bool, true, false, if◌then◌else◌, Option, None, Some}
+use Rattle.std.specs.Prelude.{Bool, true, false, not, Option, None, Some}
 use Rattle.type_terms.specs.declared.term.Primitive.{Primitive}
 use Rattle.type_terms.specs.declared.term.Primitive.TheVariants as prim
 use Rattle.type_terms.specs.declared.term.Owner.{Owner}
@@ -24,12 +24,15 @@ pub data Stack : Type 0 where
 
 -- ---- reference types
 
+abbrev pub is_reference_primitive : Primitive → Bool
+is_reference_primitive prim.Str = true
+is_reference_primitive prim.Object = true
+is_reference_primitive p = false
+
 abbrev pub layer_is_reference : SigType-F Owner SigType → Bool
-layer_is_reference (Prim prim.Str) = true
-layer_is_reference (Prim prim.Object) = true
-layer_is_reference (Prim p) = false
+layer_is_reference (Prim p) = is_reference_primitive p
 layer_is_reference (Class name) = true
-layer_is_reference (Inst value name args) = if value then false else true
+layer_is_reference (Inst value name args) = not value
 layer_is_reference (SzArray of) = true
 layer_is_reference (Array of rank sizes lower) = true
 layer_is_reference (Value name) = false
@@ -66,22 +69,44 @@ signed prim.U8 = prim.I8
 signed prim.NUint = prim.NInt
 signed p = p
 
-abbrev pub layer_changed : (Primitive → Primitive) → SigType → SigType-F Owner SigType → SigType
-layer_changed change t (Prim p) = type.Prim (change p)
-layer_changed change t l = t
+abbrev pub layer_primitive : SigType-F Owner SigType → Option Primitive
+layer_primitive (Prim p) = Some p
+layer_primitive (Class name) = None
+layer_primitive (Value name) = None
+layer_primitive (Inst value name args) = None
+layer_primitive (Var n) = None
+layer_primitive (MVar n) = None
+layer_primitive (SzArray of) = None
+layer_primitive (Array of rank sizes lower) = None
+layer_primitive (ByRef of) = None
+layer_primitive (Pointer of) = None
+layer_primitive (Mod required by of) = None
+layer_primitive (Pinned of) = None
 
--- an enum counts as its underlying type; any type that isn't primitive stays
+-- the primitive type that a type is
+unfoldable pub primitive : SigType → Option Primitive
+primitive t = layer_primitive (out-SigType t)
+
+abbrev pub or_else : Option Primitive → Option Primitive → Option Primitive
+or_else (Some p) other = Some p
+or_else None other = other
+
+-- the primitive type that a type counts as: of an enum its underlying type
+unfoldable pub counts_as : Hierarchy → SigType → Option Primitive
+counts_as w t = or_else (underlying w t) (primitive t)
+
+-- any type that counts as no primitive one stays
 abbrev pub changed : (Primitive → Primitive) → SigType → Option Primitive → SigType
 changed change t (Some p) = type.Prim (change p)
-changed change t None = layer_changed change t (out-SigType t)
+changed change t None = t
 
 -- v(T): the verification type
 unfoldable pub verification_type : Hierarchy → SigType → SigType
-verification_type w t = changed verified t (underlying w t)
+verification_type w t = changed verified t (counts_as w t)
 
 -- r(T): the reduced type
 unfoldable pub reduced_type : Hierarchy → SigType → SigType
-reduced_type w t = changed signed t (underlying w t)
+reduced_type w t = changed signed t (counts_as w t)
 
 -- ---- st(T)
 
@@ -105,11 +130,15 @@ primitive_stack prim.TypedRef = bad
 primitive_stack prim.NInt = native
 primitive_stack prim.NUint = native
 
+abbrev pub instance_stack : Bool → SigType → Stack
+instance_stack true t = val t
+instance_stack false t = ref t
+
 abbrev pub layer_stack : Hierarchy → SigType → SigType-F Owner SigType → Stack
 layer_stack w t (Prim p) = primitive_stack p
 layer_stack w t (Class name) = ref t
 layer_stack w t (Value name) = val t
-layer_stack w t (Inst value name args) = if value then val t else ref t
+layer_stack w t (Inst value name args) = instance_stack value t
 layer_stack w t (Var n) = val t
 layer_stack w t (MVar n) = val t
 layer_stack w t (SzArray of) = ref t
@@ -119,9 +148,13 @@ layer_stack w t (Pointer of) = native
 layer_stack w t (Mod required by of) = bad
 layer_stack w t (Pinned of) = bad
 
+-- of a type that is no enum
+unfoldable pub plain_stack : Hierarchy → SigType → Stack
+plain_stack w t = layer_stack w t (out-SigType t)
+
 abbrev pub stack_by : Hierarchy → SigType → Option Primitive → Stack
 stack_by w t (Some p) = primitive_stack p
-stack_by w t None = layer_stack w t (out-SigType t)
+stack_by w t None = plain_stack w t
 
 -- st(T): what a value of the type is on the stack
 unfoldable pub stack_of : Hierarchy → SigType → Stack
@@ -131,6 +164,10 @@ stack_of w t = stack_by w t (underlying w t)
 abbrev pub pointer_to : Hierarchy → SigType → Stack
 pointer_to w t = ptr (verification_type w t)
 
+abbrev pub boxed_by : Bool → SigType → Stack
+boxed_by true t = ref t
+boxed_by false t = boxed t
+
 -- rf(T): what a value of the type is as an object (III.4.1)
 abbrev pub boxed_of : SigType → Stack
-boxed_of t = if is_reference t then ref t else boxed t
+boxed_of t = boxed_by (is_reference t) t

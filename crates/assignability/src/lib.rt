@@ -1,6 +1,14 @@
 //! Which type may stand where another is wanted, and what two types merge to (ECMA-335 I.8.7, III.1.8).
 #![tactic(auto)]
 
+mod core_types;
+mod interfaces;
 mod laws;
+mod names;
+mod parents;
+mod stack;
+mod stack_of;
+mod stack_type;
+mod tables;
 
 pub use laws::{assignable_is_a_preorder, joins_are_least_upper_bounds};
