@@ -1,5 +1,6 @@
 pub mod Branches
 pub mod Charging
+pub mod FormedFacts
 pub mod FormedTerms
 pub mod FormedTypes
 pub mod TypeWeights

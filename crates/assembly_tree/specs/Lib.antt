@@ -4,6 +4,7 @@ pub mod Room
 pub mod Weight
 pub mod WellFormed
 pub mod WellFormedBodies
+pub mod WellFormedFacts
 pub mod WellFormedMembers
 pub mod WellFormedNames
 pub mod WellFormedTerms

@@ -6,6 +6,7 @@ mod bodies;
 mod branches;
 mod clauses;
 mod formed_parts;
+mod laws;
 mod lists;
 mod manifest;
 mod members;
@@ -20,6 +21,7 @@ mod types;
 
 use crate::Assembly;
 use formed_parts::Formed;
+pub use laws::conditions_are_named;
 use manifest::are_globals;
 use types::{are_classes, is_one_entry};
 

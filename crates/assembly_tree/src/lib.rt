@@ -14,7 +14,7 @@ mod weighing;
 
 pub use assembly::{Assembly, ExternAssembly, Externs, Manifest};
 pub use body::{Body, Clause, ClauseKind, Clauses, Code, Ins, Operand};
-pub use formed::well_formed;
+pub use formed::{conditions_are_named, well_formed};
 pub use members::{
     Accessor, Accessors, Attribute, Attributes, Constant, Event, Events, Field, Fields, Generic,
     Generics, Method, Methods, Param, Params, Properties, Property,
