@@ -1,0 +1,17 @@
+pub mod Opcodes
+pub mod Pieces
+pub mod Fronts
+pub mod Headers
+pub mod Marks
+pub mod Places
+pub mod Rows
+pub mod Targets
+pub mod Outcomes
+pub mod Spelled
+pub mod Sections
+pub mod Operands
+pub mod Decoded
+pub mod Handlers
+pub mod Outlines
+pub mod NamedDecoded
+pub mod Tokens

@@ -1,0 +1,11 @@
+pub mod Instruction
+pub mod Names
+pub mod Spelling
+pub mod Header
+pub mod Sections
+pub mod Bodies
+pub mod Faults
+pub mod NamedTokens
+pub mod Encoding
+pub mod Reading
+pub mod ReadingClauses

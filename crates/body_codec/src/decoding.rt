@@ -1,0 +1,16 @@
+//! From bytes to a body.
+
+mod handlers;
+mod header;
+mod layout;
+mod marks;
+mod opcode;
+mod operands;
+mod outline;
+mod sections;
+mod targets;
+mod tokens;
+mod top;
+
+pub use tokens::named_tokens;
+pub use top::decode;

@@ -1,0 +1,11 @@
+//! The bodies of methods as bytes (ECMA-335 II.25.4): instructions by their numbers on one side, offsets and displacements
+//! on the other, with the tokens of a numberer and the names of a namer.
+#![tactic(auto)]
+
+mod decoding;
+mod fault;
+mod laws;
+
+pub use decoding::{decode, named_tokens};
+pub use fault::BodyFault;
+pub use laws::{bytes_name_one_list, bytes_spell_one_body};
