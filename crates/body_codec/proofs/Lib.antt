@@ -15,3 +15,16 @@ pub mod Handlers
 pub mod Outlines
 pub mod NamedDecoded
 pub mod Tokens
+pub mod Back
+pub mod CodePieces
+pub mod CodeSpelled
+pub mod Coding
+pub mod Ending
+pub mod Far
+pub mod Final
+pub mod Heads
+pub mod Numbers
+pub mod Offsets
+pub mod SectionRows
+pub mod Tails
+pub mod Whole

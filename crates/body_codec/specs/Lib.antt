@@ -9,3 +9,5 @@ pub mod NamedTokens
 pub mod Encoding
 pub mod Reading
 pub mod ReadingClauses
+pub mod Written
+pub mod Back

@@ -7,7 +7,7 @@ mod marks;
 mod opcode;
 mod operands;
 mod outline;
-mod sections;
+pub(crate) mod sections;
 mod targets;
 mod tokens;
 mod top;
