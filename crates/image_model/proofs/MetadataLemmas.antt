@@ -1,15 +1,16 @@
 -- The metadata that is written has its root and its five streams.
-use Rattle.std.proofs.Common.{◌≡◌, ℕ, ◌+◌, ◌-◌, ◌*◌, ◌/◌, ◌^◌, ◌<◌, ◌≤◌, List, [], ◌∷◌, ◌++◌, Some, length, take, drop, replicate, sym, ◌∙◌, ap, refl, arith, append_assoc}
+use Rattle.std.proofs.Common.{◌≡◌, ℕ, ◌+◌, ◌-◌, ◌*◌, ◌/◌, ◌%◌, ◌^◌, ◌<◌, ◌≤◌, List, [], ◌∷◌, ◌++◌, All, Some, length, map, take, drop, sym, ◌∙◌, ap, subst, refl, arith, append_assoc}
+use Rattle.std.proofs.lemmas.List.Elements.{All-from_recursion}
 use Rattle.std.specs.Prelude.{codes}
 use Rattle.std.specs.List.{find}
 use Rattle.std.specs.Str.{bytes_eq}
 use Rattle.std.proofs.lemmas.List.{length-append, length-replicate}
-use Rattle.std.proofs.Math.Seq.{drop-append-add, drop-append_seam, take-append_seam}
+use Rattle.std.proofs.Math.Seq.{drop-append_seam, take-append_seam}
 use Rattle.byteorder.specs.Endian.{little_number, little_bytes}
 use Rattle.byteorder.specs.Numbers.{little_number-reads_back}
 use Rattle.pe_layout.specs.Fields.{u16_at, u32_at, round_up}
 use Rattle.image_model.specs.Root.{StreamHeader, IsRoot, HasStream, headers_of, headers_end, header_of, filled}
-use Rattle.image_model.specs.Written.{root_of, metadata_by, metadata_of, total_of, HoldsStreams}
+use Rattle.image_model.specs.Written.{root_of, metadata_of, total_of, HoldsStreams, HasWrittenRoot}
 use Rattle.image_model.specs.declared.metadata.Streams.{Streams}
 
 pub length-filled : (xs : List ℕ) → (length xs + 3) / 4 * 4 ≡ length (filled xs)
@@ -154,6 +155,52 @@ module _ (a b c d e : List ℕ) (small : length a + length b + length c + length
       ∙ sym (append_assoc (((sizes_root ++ a) ++ b) ++ c) d e))
       ∙ last_piece ((((sizes_root ++ a) ++ b) ++ c) ++ d) e (108 + length a + length b + length c + length d)
       (let len = length-sizes_root in rw (length-append, length-append, length-append, length-append) (omega arith)))
+
+abbrev IsAligned : StreamHeader → Type 0
+IsAligned h = (h.offset % 4 ≡ 0) × (h.size % 4 ≡ 0)
+
+aligned_five : (o1 s1 o2 s2 o3 s3 o4 s4 o5 s5 : ℕ) → (o1 % 4 ≡ 0) × (s1 % 4 ≡ 0) → (o2 % 4 ≡ 0) × (s2 % 4 ≡ 0) → (o3 % 4 ≡ 0) × (s3 % 4 ≡ 0) → (o4 % 4 ≡ 0) × (s4 % 4 ≡ 0) → (o5 % 4 ≡ 0) × (s5 % 4 ≡ 0)
+    → All IsAligned (five o1 s1 o2 s2 o3 s3 o4 s4 o5 s5)
+unfolding five header
+aligned_five o1 s1 o2 s2 o3 s3 o4 s4 o5 s5 h1 h2 h3 h4 h5 = All-from_recursion IsAligned (five o1 s1 o2 s2 o3 s3 o4 s4 o5 s5) (h1, (h2, (h3, (h4, (h5, tt)))))
+
+-- the root's header fields, where each stream is filled up
+written_root : (a b c d e : List ℕ) (small : length a + length b + length c + length d + length e < 2 ^ 27) → length a % 4 ≡ 0 → length b % 4 ≡ 0 → length c % 4 ≡ 0 → length d % 4 ≡ 0 → length e % 4 ≡ 0
+    → HasWrittenRoot (all_bytes a b c d e small)
+unfolding all_bytes sizes_root u32_at u16_at round_up five header
+written_root a b c d e small la lb lc ld le =
+    let all = headers_are a b c d e small in
+    record {
+      signature = refl;
+      major = refl;
+      minor = refl;
+      reserved = refl;
+      version_length = refl;
+      version = refl;
+      flags = refl;
+      names = ap (map (λ (h : StreamHeader). h.name)) all;
+      aligned = subst (All IsAligned) (sym all) (aligned_five 108 (length a) (108 + length a) (length b) (108 + length a + length b) (length c) (108 + length a + length b + length c) (length d)
+          (108 + length a + length b + length c + length d) (length e) (omega arith, la) (omega arith, lb) (omega arith, lc) (omega arith, ld) (omega arith, le));
+    }
+
+filled_whole : (xs : List ℕ) → length (filled xs) % 4 ≡ 0
+filled_whole xs = let e = length-filled xs in omega arith
+
+pub metadata_written : (s : Streams) → total_of s < 2 ^ 26 → HasWrittenRoot (metadata_of s)
+unfolding metadata_of all_bytes sizes_root
+metadata_written s small =
+    let a = filled s.tables.now in
+    let b = filled s.strings.now in
+    let c = filled s.user.now in
+    let d = filled s.guids.now in
+    let e = filled s.blobs.now in
+    let la = length-filled-le s.tables.now in
+    let lb = length-filled-le s.strings.now in
+    let lc = length-filled-le s.user.now in
+    let ld = length-filled-le s.guids.now in
+    let le = length-filled-le s.blobs.now in
+    let fits : length a + length b + length c + length d + length e < 2 ^ 27 = omega arith in
+    written_root a b c d e fits (filled_whole s.tables.now) (filled_whole s.strings.now) (filled_whole s.user.now) (filled_whole s.guids.now) (filled_whole s.blobs.now)
 
 pub metadata_holds : (s : Streams) → total_of s < 2 ^ 26 → HoldsStreams s (metadata_of s)
 unfolding metadata_of all_bytes sizes_root

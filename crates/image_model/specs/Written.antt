@@ -1,7 +1,8 @@
 -- The metadata that is written: a root with the version text `v4.0.30319`, and five streams behind it in a fixed order.
-use Rattle.std.specs.Prelude.{◌≡◌, ℕ, ◌+◌, ◌<◌, ◌^◌, List, [], ◌∷◌, ◌++◌, length, codes}
+use Rattle.std.specs.Prelude.{◌≡◌, ℕ, ◌+◌, ◌%◌, List, [], ◌∷◌, ◌++◌, All, length, map, take, drop, replicate, codes}
 use Rattle.byteorder.specs.Endian.{little_bytes}
-use Rattle.image_model.specs.Root.{IsRoot, HasStream, filled}
+use Rattle.pe_layout.specs.Fields.{u16_at, u32_at}
+use Rattle.image_model.specs.Root.{StreamHeader, IsRoot, HasStream, headers_of, flags_place, filled}
 use Rattle.image_model.specs.declared.metadata.Streams.{Streams}
 
 -- the root up to the stream headers
@@ -54,3 +55,24 @@ pub record HoldsStreams (s : Streams) (metadata : List ℕ) : Type 0 where
   pub user : HasStream metadata (codes "#US") (filled s.user.now)
   pub guids : HasStream metadata (codes "#GUID") (filled s.guids.now)
   pub blobs : HasStream metadata (codes "#Blob") (filled s.blobs.now)
+
+-- ---- the header fields of a written root
+
+-- II.24.2.1: the version text
+abbrev pub version_text : List ℕ
+version_text = codes "v4.0.30319" ++ replicate 2 0
+
+abbrev pub stream_names : List (List ℕ)
+stream_names = codes "#~" ∷ codes "#Strings" ∷ codes "#US" ∷ codes "#GUID" ∷ codes "#Blob" ∷ []
+
+-- the metadata root as it is written; each stream begins and ends at a multiple of 4
+pub record HasWrittenRoot (metadata : List ℕ) : Type 0 where
+  pub signature : u32_at metadata 0 ≡ 0x424A5342
+  pub major : u16_at metadata 4 ≡ 1
+  pub minor : u16_at metadata 6 ≡ 1
+  pub reserved : u32_at metadata 8 ≡ 0
+  pub version_length : u32_at metadata 12 ≡ 12
+  pub version : take 12 (drop 16 metadata) ≡ version_text
+  pub flags : u16_at metadata (flags_place metadata) ≡ 0
+  pub names : map (λ (header : StreamHeader). header.name) (headers_of metadata) ≡ stream_names
+  pub aligned : All (λ header. (header.offset % 4 ≡ 0) × (header.size % 4 ≡ 0)) (headers_of metadata)

@@ -2,7 +2,7 @@
 ghost use Rattle.std.specs.Prelude.{◌≡◌, ℕ, ◌+◌, ◌-◌, ◌<◌, ◌≤◌, ◌^◌, ◌++◌, length, replicate, IfOk, OnOk};
 ghost use Rattle.pe_layout.specs.Fields.{round_up};
 ghost use Rattle.image_model.specs.Root.{filled};
-ghost use Rattle.image_model.specs.Written.{header_bytes, root_of, total_of, HoldsStreams};
+ghost use Rattle.image_model.specs.Written.{header_bytes, root_of, total_of, HoldsStreams, HasWrittenRoot};
 
 use byteorder::{ByteOrder, LittleEndian};
 use il_base::{Bytes, NoMemory};
@@ -24,11 +24,12 @@ pub struct Streams<'a> {
 }
 
 /// Puts streams together behind a root that names them. Each stream begins at a multiple of 4 and is
-/// filled with zeros to a multiple of 4.
+/// filled with zeros to a multiple of 4; the root's header fields have the values that are written.
 #[tactic(auto, unfolding(crate::specs::Written::metadata_of))]
 pub fn put_together(alloc: Global, streams: &Streams<'_>) -> Result<Bytes, NoMemory>
     requires { total_of streams.now < 2 ^ 26 }
     ensures holds { IfOk result (HoldsStreams streams.now) }
+    ensures written { IfOk result HasWrittenRoot }
     ensures len { IfOk result (λ metadata. length metadata ≤ total_of streams.now + 123) }
 {
     let mut out = Bytes::with_capacity(alloc, ROOT_SIZE as usize + capacity(streams))?;

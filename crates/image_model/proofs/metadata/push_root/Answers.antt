@@ -1,4 +1,4 @@
-use Rattle.std.proofs.Common.{◌≡◌, ◌+◌, ◌++◌, sym, ◌∙◌, ap}
+use Rattle.std.proofs.Common.{◌≡◌, ◌+◌, ◌++◌, ◌∙◌}
 use Rattle.image_model.specs.Written.{root_front, header_bytes, root_of, tables_name, strings_name, user_name, guids_name, blobs_name}
 use Rattle.image_model.proofs.MetadataLemmas.{six_pieces, root_of-same}
 use Rattle.image_model.proofs.metadata.push_root.Goals as goal

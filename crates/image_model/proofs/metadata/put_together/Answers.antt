@@ -1,7 +1,7 @@
-use Rattle.std.proofs.Common.{◌≡◌, ℕ, List, length, ◌++◌, [], sym, ◌∙◌, ap}
+use Rattle.std.proofs.Common.{◌≡◌, ℕ, List, length, ◌++◌, [], ◌∙◌, ap}
 use Rattle.image_model.specs.Root.{filled}
-use Rattle.image_model.specs.Written.{root_of, metadata_of, HoldsStreams}
-use Rattle.image_model.proofs.MetadataLemmas.{six_pieces, metadata_holds, length-metadata}
+use Rattle.image_model.specs.Written.{root_of, metadata_of}
+use Rattle.image_model.proofs.MetadataLemmas.{six_pieces, metadata_holds, metadata_written, length-metadata}
 use Rattle.image_model.proofs.metadata.put_together.Goals as goal
 use Rattle.image_model.proofs.metadata.put_together.Goals.{In_ok-push_filled-5}
 
@@ -24,3 +24,6 @@ returns-clause-holds c = rw (built c) (metadata_holds c.args.streams.now c.requi
 
 pub returns-clause-len : goal.returns-clause-len
 returns-clause-len c = rw (built c) (length-metadata c.args.streams.now c.requires)
+
+pub returns-clause-written : goal.returns-clause-written
+returns-clause-written c = rw (built c) (metadata_written c.args.streams.now c.requires)
