@@ -85,3 +85,8 @@ put_in_is ns ms args none t id x p h e = λ i. replaced (sym (kept ns ms args x 
 pub args_kept : (ns ms : List Node) (o : Option (List ℕ)) → Extends ns ms → ForSome o (λ ks. AllBelow (length ns) ks) → option_map (terms_at ms) o ≡ option_map (terms_at ns) o
 args_kept ns ms None x p = refl
 args_kept ns ms (Some ks) x p = ap Some (kept ns ms ks x (p ks refl))
+
+pub ids_more : (ns ms : List Node) (ids new : List ℕ) (id : ℕ) → AllBelow (length ns) ids → id < length ns → Extends ns ms → new ≡ ids ++ id ∷ [] → AllBelow (length ms) new
+ids_more ns ms ids new id p h x e =
+    let l : length ns ≤ length ms = extends_long ns ms x in
+    subst (AllBelow (length ms)) (sym e) (below_end (length ms) ids id (below_extends ns ms ids x p) (omega arith))

@@ -1,6 +1,7 @@
 pub mod Assigning
 pub mod ChainLemmas
 pub mod Climbing
+pub mod CommonLemmas
 pub mod GrowLemmas
 pub mod NameLemmas
 pub mod NodeLemmas

@@ -1,6 +1,7 @@
 pub mod Above
 pub mod Ancestors
 pub mod Chains
+pub mod Common
 pub mod Declarations
 pub mod Hierarchy
 pub mod Laws

@@ -1,6 +1,7 @@
 //! Which type may stand where another is wanted, and what two types merge to (ECMA-335 I.8.7, III.1.8).
 #![tactic(auto)]
 
+mod common;
 mod core_types;
 mod interfaces;
 mod laws;

@@ -1,0 +1,14 @@
+use Rattle.std.proofs.Common.{◌<◌, length}
+use Rattle.sig_pool.specs.Pool.{Extends}
+use Rattle.sig_pool.specs.Terms.{AllBelow, term_of}
+use Rattle.assignability.specs.Common.{Completes}
+use Rattle.assignability.specs.Tables.{hierarchy_in}
+use Rattle.assignability.proofs.common.climb_ids.Given as goal
+
+abbrev pub invariant-climb : goal.invariant-climb
+invariant-climb l = record {
+  within : AllBelow (length l.pool) l.ids;
+  at : l.at < length l.pool;
+  extends : Extends l.initial.pool l.pool;
+  rest : Completes (hierarchy_in l.tables) (term_of l.initial.pool l.fn.id) l.pool l.ids (term_of l.pool l.at);
+}
