@@ -5,3 +5,5 @@
 
 #[cfg(test)]
 mod heaps_rows;
+#[cfg(test)]
+mod signature_rows;

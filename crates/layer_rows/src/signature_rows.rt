@@ -1,0 +1,233 @@
+//! Signatures as bytes, and types in a pool.
+
+ghost use Rattle.std.specs.Prelude.{◌≡◌, ℕ, pos, [], ◌∷◌, Option, IfOk};
+ghost use Rattle.sig_codec.specs.Spellable.{HasSpelling, MethodHasSpelling};
+ghost use Rattle.type_terms.specs.declared.term.Owner.{Owner};
+ghost use Rattle.type_terms.specs.declared.term.Primitive.TheVariants.{I4};
+ghost use Rattle.type_terms.specs.declared.term.SigType.TheVariants.{Array, SzArray, Prim};
+
+use il_base::{Boxed, NoMemory, Numbers, Signed, Units};
+use sig_codec::{Namer, Numberer, decode_method, decode_type, encode_method, encode_type};
+use std::alloc::Global;
+use std::cmp::Ordering;
+use std::test::Fail;
+use type_terms::{FieldRef, MethodRef, MethodSig, Owner, Prim, SigType, Types, compare_terms};
+
+/// An image that names nothing.
+#[derive(Drop)]
+struct NoNames;
+
+impl Namer for NoNames {
+    ghost use Rattle.std.specs.Prelude.{None};
+
+    ghost owners = { λ _ _. None };
+
+    ghost methods = { λ _ _. None };
+
+    ghost fields = { λ _ _. None };
+
+    ghost locals = { λ _ _. None };
+
+    ghost texts = { λ _ _. None };
+
+    fn owner_of(&self, _token: u32) -> Option<&Owner> {
+        None
+    }
+
+    fn method_of(&self, _token: u32) -> Option<&MethodRef> {
+        None
+    }
+
+    fn field_of(&self, _token: u32) -> Option<&FieldRef> {
+        None
+    }
+
+    fn locals_of(&self, _token: u32) -> Option<&Types> {
+        None
+    }
+
+    fn text_of(&self, _token: u32) -> Option<&Units> {
+        None
+    }
+}
+
+impl Numberer for NoNames {
+    ghost use Rattle.std.specs.Prelude.{None};
+
+    ghost owner_tokens = { λ _ _. None };
+
+    ghost method_tokens = { λ _ _. None };
+
+    ghost field_tokens = { λ _ _. None };
+
+    ghost locals_tokens = { λ _ _. None };
+
+    ghost text_tokens = { λ _ _. None };
+
+    fn token_of_owner(&self, _owner: &Owner) -> Option<u32> {
+        None
+    }
+
+    fn token_of_method(&self, _method: &MethodRef) -> Option<u32> {
+        None
+    }
+
+    fn token_of_field(&self, _field: &FieldRef) -> Option<u32> {
+        None
+    }
+
+    fn token_of_locals(&self, _locals: &Types) -> Option<u32> {
+        None
+    }
+
+    fn token_of_text(&self, _text: &Units) -> Option<u32> {
+        None
+    }
+}
+
+/// A vector of this type.
+fn vector(alloc: Global, of: SigType) -> Result<SigType, NoMemory>
+    ensures { IfOk result (λ t. t ≡ SzArray of) }
+{
+    Ok(SigType::SzArray(Boxed::new(alloc, of)?))
+}
+
+/// The type `int32[]`.
+#[tactic(auto, using(crate::proofs::Spelled::numbers_spelled))]
+fn numbers(alloc: Global) -> Result<SigType, NoMemory>
+    ensures { IfOk result (λ t. (tokens : Owner → Option ℕ) → HasSpelling tokens t) }
+{
+    vector(alloc, SigType::Prim(Prim::I4))
+}
+
+/// An array of rank 2 of `int32`, with the lower bounds 0 and 0 and no sizes.
+#[tactic(auto, using(crate::proofs::Spelled::two_bounds_spelled))]
+fn two_bounds(alloc: Global) -> Result<SigType, NoMemory>
+    ensures { IfOk result (λ t. (tokens : Owner → Option ℕ) → HasSpelling tokens t) }
+{
+    let mut lower = Signed::new(alloc);
+    lower.push(0)?;
+    lower.push(0)?;
+    Ok(SigType::Array {
+        of: Boxed::new(alloc, SigType::Prim(Prim::I4))?,
+        rank: 2,
+        sizes: Numbers::new(alloc),
+        lower,
+    })
+}
+
+/// The method `instance void (string)`.
+#[tactic(auto, using(crate::proofs::Spelled::method_spelled))]
+fn takes_a_string(alloc: Global) -> Result<MethodSig, NoMemory>
+    ensures { IfOk result (λ s. (tokens : Owner → Option ℕ) → MethodHasSpelling tokens s) }
+{
+    let mut params = Types::new(alloc);
+    params.push(SigType::Prim(Prim::Str))?;
+    Ok(MethodSig {
+        has_this: true,
+        explicit_this: false,
+        vararg: false,
+        generic: 0,
+        ret: SigType::Prim(Prim::Void),
+        params,
+        sentinel: None,
+    })
+}
+
+#[test]
+fn types_as_bytes(rt: HostRuntime) -> Result<(), Fail> {
+    let alloc = rt.alloc();
+    let bytes = encode_type(alloc, &numbers(alloc)?, &NoNames)?;
+    assert_eq!(rt; bytes.as_slice(), b"\x1D\x08".as_slice());
+    let bytes = encode_type(alloc, &two_bounds(alloc)?, &NoNames)?;
+    assert_eq!(rt;
+        bytes.as_slice(),
+        b"\x14\x08\x02\x00\x02\x00\x00".as_slice()
+    );
+    Ok(())
+}
+
+#[test]
+fn a_method_as_bytes(rt: HostRuntime) -> Result<(), Fail> {
+    let alloc = rt.alloc();
+    let bytes = encode_method(alloc, &takes_a_string(alloc)?, &NoNames)?;
+    assert_eq!(rt; bytes.as_slice(), b"\x20\x01\x01\x0E".as_slice());
+    Ok(())
+}
+
+/// Bytes, and whether all of them spell a type where no token names anything.
+static SPELLINGS: [(&[u8], bool); 12] = [
+    (b"\x08", true),
+    (b"\x1D\x08", true),
+    (b"\x14\x08\x02\x00\x02\x00\x00", true),
+    (b"\x13\x00", true),
+    (b"\x1E\x80\x05", true),
+    (b"", false),
+    (b"\x1B", false),
+    (b"\x1D", false),
+    (b"\x1D\x08\x08", false),
+    (b"\x14\x08\x02\x00\x02\x00", false),
+    (b"\x13\xFF", false),
+    (b"\x12\x05", false),
+];
+
+/// Whether these bytes spell a type.
+fn spells_a_type(alloc: Global, bytes: &[u8]) -> Result<bool, NoMemory> {
+    Ok(decode_type(alloc, bytes, &NoNames)?.is_some())
+}
+
+#[test]
+fn bytes_that_spell_types(rt: HostRuntime) -> Result<(), Fail> {
+    for (bytes, whole) in SPELLINGS.iter() {
+        let found = spells_a_type(rt.alloc(), bytes)?;
+        assert_eq!(rt; found, *whole, "at {bytes:?}");
+    }
+    Ok(())
+}
+
+/// Whether these bytes spell this type.
+fn spells(alloc: Global, bytes: &[u8], wanted: &SigType) -> Result<bool, NoMemory> {
+    match decode_type(alloc, bytes, &NoNames)? {
+        Some(found) => Ok(compare_terms(&found, wanted) == Ordering::Equal),
+        None => Ok(false),
+    }
+}
+
+#[test]
+fn types_from_bytes(rt: HostRuntime) -> Result<(), Fail> {
+    let alloc = rt.alloc();
+    let vectors = spells(alloc, b"\x1D\x08", &numbers(alloc)?)?;
+    assert!(rt; vectors);
+    let arrays = spells(alloc, b"\x14\x08\x02\x00\x02\x00\x00", &two_bounds(alloc)?)?;
+    assert!(rt; arrays);
+    Ok(())
+}
+
+/// Whether this is the method `instance void (string)`.
+fn is_of_a_string(found: &MethodSig) -> bool {
+    let alone = !found.explicit_this && !found.vararg && found.sentinel.is_none();
+    let nothing = matches!(&found.ret, SigType::Prim(Prim::Void));
+    let text = matches!(found.params.get(0), Some(SigType::Prim(Prim::Str)));
+    found.has_this && alone && found.generic == 0 && nothing && found.params.len() == 1 && text
+}
+
+#[test]
+fn a_method_from_bytes(rt: HostRuntime) -> Result<(), Fail> {
+    let found = decode_method(rt.alloc(), b"\x20\x01\x01\x0E", &NoNames)?;
+    let found = found.ok_or("no method")?;
+    let holds = is_of_a_string(&found);
+    assert!(rt; holds);
+    Ok(())
+}
+
+/// A vector of vectors, 100 and 101 deep.
+#[test]
+fn types_as_deep_as_can_be(rt: HostRuntime) -> Result<(), Fail> {
+    let mut bytes = [0x1D; 101];
+    bytes[100] = 0x08;
+    let deep = spells_a_type(rt.alloc(), &bytes[1..])?;
+    assert!(rt; deep);
+    let deeper = spells_a_type(rt.alloc(), &bytes)?;
+    assert!(rt; !deeper);
+    Ok(())
+}
