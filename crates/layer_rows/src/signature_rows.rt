@@ -1,10 +1,9 @@
-//! Signatures as bytes, and types in a pool.
+//! Signatures as bytes, both ways.
 
-ghost use Rattle.std.specs.Prelude.{◌≡◌, ℕ, pos, [], ◌∷◌, Option, IfOk};
+ghost use Rattle.std.specs.Prelude.{◌≡◌, ℕ, Option, IfOk};
 ghost use Rattle.sig_codec.specs.Spellable.{HasSpelling, MethodHasSpelling};
 ghost use Rattle.type_terms.specs.declared.term.Owner.{Owner};
-ghost use Rattle.type_terms.specs.declared.term.Primitive.TheVariants.{I4};
-ghost use Rattle.type_terms.specs.declared.term.SigType.TheVariants.{Array, SzArray, Prim};
+ghost use Rattle.type_terms.specs.declared.term.SigType.TheVariants.{SzArray};
 
 use il_base::{Boxed, NoMemory, Numbers, Signed, Units};
 use sig_codec::{Namer, Numberer, decode_method, decode_type, encode_method, encode_type};
