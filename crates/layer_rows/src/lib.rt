@@ -6,4 +6,6 @@
 #[cfg(test)]
 mod heaps_rows;
 #[cfg(test)]
+mod pool_rows;
+#[cfg(test)]
 mod signature_rows;

@@ -85,7 +85,7 @@ impl Numberer for NoNames {
 }
 
 /// A vector of this type.
-fn vector(alloc: Global, of: SigType) -> Result<SigType, NoMemory>
+pub(crate) fn vector(alloc: Global, of: SigType) -> Result<SigType, NoMemory>
     ensures { IfOk result (λ t. t ≡ SzArray of) }
 {
     Ok(SigType::SzArray(Boxed::new(alloc, of)?))
