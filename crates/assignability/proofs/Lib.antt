@@ -3,6 +3,7 @@ pub mod ChainLemmas
 pub mod Climbing
 pub mod CommonLemmas
 pub mod GrowLemmas
+pub mod KeptLemmas
 pub mod NameLemmas
 pub mod NodeLemmas
 pub mod Ordering

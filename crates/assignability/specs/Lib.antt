@@ -15,3 +15,4 @@ pub mod Scopes
 pub mod Stack
 pub mod Tables
 pub mod ValueNames
+pub mod World

@@ -5,8 +5,9 @@ ghost use Rattle.sig_pool.specs.Replaced.{terms_at};
 ghost use Rattle.sig_pool.specs.Terms.{AllBelow, term_of};
 ghost use Rattle.assignability.specs.Common.{IsClimbOf, HasNearest, Meets};
 ghost use Rattle.assignability.specs.Tables.{hierarchy_in};
+ghost use Rattle.assignability.specs.World.{KnowsParents};
 
-use crate::parents::parent_id;
+use crate::kept::{Parents, kept_parent};
 use crate::tables::Tables;
 use il_lists::{Items, NoMemory};
 use sig_pool::{SigId, SigIds, SigPool};
@@ -17,17 +18,20 @@ pub fn common_id(
     alloc: Global,
     tables: &Tables,
     pool: &mut SigPool,
+    parents: &mut Parents,
     a: SigId,
     b: SigId,
 ) -> Result<SigId, NoMemory>
     requires tables { length tables.now.names ≡ length tables.now.entries }
     requires a { a < length pool.old }
     requires b { b < length pool.old }
+    requires known { KnowsParents (hierarchy_in tables.now) pool.old parents.old }
     ensures ok { IfOk result (λ r. HasNearest (hierarchy_in tables.now) (term_of pool.old a) (term_of pool.old b) pool.new r) }
     ensures extends { Extends pool.old pool.new }
+    ensures known { KnowsParents (hierarchy_in tables.now) pool.new parents.new }
 {
-    let left = climb_ids(alloc, tables, pool, a)?;
-    let right = climb_ids(alloc, tables, pool, b)?;
+    let left = climb_ids(alloc, tables, pool, parents, a)?;
+    let right = climb_ids(alloc, tables, pool, parents, b)?;
     Ok(meeting(pool, &left, &right))
 }
 
@@ -36,18 +40,21 @@ fn climb_ids(
     alloc: Global,
     tables: &Tables,
     pool: &mut SigPool,
+    parents: &mut Parents,
     id: SigId,
 ) -> Result<SigIds, NoMemory>
     requires tables { length tables.now.names ≡ length tables.now.entries }
     requires id { id < length pool.old }
+    requires known { KnowsParents (hierarchy_in tables.now) pool.old parents.old }
     ensures ok { IfOk result (λ ids. IsClimbOf (hierarchy_in tables.now) (term_of pool.old id) pool.new ids) }
     ensures extends { Extends pool.old pool.new }
+    ensures known { KnowsParents (hierarchy_in tables.now) pool.new parents.new }
 {
     let mut ids = Items::new(alloc);
     let mut at = id;
     'climb: for _ in 0..u64::MAX {
         ids.push(at)?;
-        match parent_id(alloc, tables, pool, at)? {
+        match kept_parent(alloc, tables, pool, parents, at)? {
             Some(parent) => at = parent,
             None => return Ok(ids),
         }

@@ -4,6 +4,7 @@
 mod common;
 mod core_types;
 mod interfaces;
+mod kept;
 mod laws;
 mod names;
 mod parents;
@@ -11,5 +12,7 @@ mod stack;
 mod stack_of;
 mod stack_type;
 mod tables;
+pub mod types;
 
 pub use laws::{assignable_is_a_preorder, joins_are_least_upper_bounds};
+pub use stack_type::{StackType, TypeKey, TypeKeys, id_of};

@@ -3,6 +3,7 @@ use Rattle.sig_pool.specs.Pool.{Extends}
 use Rattle.sig_pool.specs.Terms.{AllBelow, term_of}
 use Rattle.assignability.specs.Common.{Completes}
 use Rattle.assignability.specs.Tables.{hierarchy_in}
+use Rattle.assignability.specs.World.{KnowsParents}
 use Rattle.assignability.proofs.common.climb_ids.Given as goal
 
 abbrev pub invariant-climb : goal.invariant-climb
@@ -10,5 +11,6 @@ invariant-climb l = record {
   within : AllBelow (length l.pool) l.ids;
   at : l.at < length l.pool;
   extends : Extends l.initial.pool l.pool;
+  known : KnowsParents (hierarchy_in l.tables) l.pool l.parents;
   rest : Completes (hierarchy_in l.tables) (term_of l.initial.pool l.fn.id) l.pool l.ids (term_of l.pool l.at);
 }

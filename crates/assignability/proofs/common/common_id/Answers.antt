@@ -1,4 +1,4 @@
-use Rattle.std.proofs.Common.{arith, ◌≡◌, ◌∙◌, sym, ap, subst, suc, ◌-◌, ◌<◌, length}
+use Rattle.std.proofs.Common.{arith, subst, ◌-◌, ◌<◌, length}
 use Rattle.type_terms.specs.declared.term.SigType.{SigType}
 use Rattle.sig_pool.specs.Terms.{term_of}
 use Rattle.assignability.specs.Common.{IsClimbOf}
