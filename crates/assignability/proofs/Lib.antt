@@ -2,9 +2,15 @@ pub mod Assigning
 pub mod ChainLemmas
 pub mod Climbing
 pub mod CommonLemmas
+pub mod FitIds
+pub mod FitLemmas
 pub mod GrowLemmas
+pub mod JoinIds
+pub mod JoinLemmas
 pub mod KeptLemmas
 pub mod NameLemmas
 pub mod NodeLemmas
 pub mod Ordering
+pub mod QueueLemmas
 pub mod TableLemmas
+pub mod WalkLemmas

@@ -1,5 +1,5 @@
 -- What the stack types of the code mean in a pool.
-use Rattle.std.specs.Prelude.{◌≡◌, ℕ, ◌<◌, Bool, true, false, List, length}
+use Rattle.std.specs.Prelude.{◌≡◌, ℕ, ◌<◌, Bool, true, false, List, length, Option, None, Some}
 use Rattle.sig_pool.specs.declared.node.Node.{Node}
 use Rattle.sig_pool.specs.Terms.{term_of}
 use Rattle.assignability.specs.Stack as stack
@@ -41,3 +41,8 @@ pub record Means (ns : List Node) (s : StackType) (x : stack.Stack) : Type 0 whe
 abbrev pub instance_type : Bool → ℕ → StackType
 instance_type true id = Val id
 instance_type false id = Ref id
+
+-- a value of the pool that means `x`, or none where there is none
+abbrev pub MeansOption : List Node → Option StackType → Option stack.Stack → Type 0
+MeansOption ns None x = x ≡ None
+MeansOption ns (Some s) x = (y : stack.Stack) × (x ≡ Some y) × Means ns s y

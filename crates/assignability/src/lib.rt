@@ -1,13 +1,19 @@
 //! Which type may stand where another is wanted, and what two types merge to (ECMA-335 I.8.7, III.1.8).
 #![tactic(auto)]
 
+mod above;
+mod arrays;
 mod common;
 mod core_types;
+mod fits;
 mod interfaces;
+mod joining;
 mod kept;
 mod laws;
 mod names;
+mod order;
 mod parents;
+mod queue;
 mod stack;
 mod stack_of;
 mod stack_type;
@@ -15,4 +21,5 @@ mod tables;
 pub mod types;
 
 pub use laws::{assignable_is_a_preorder, joins_are_least_upper_bounds};
+pub use order::{assignable, join, parent};
 pub use stack_type::{StackType, TypeKey, TypeKeys, id_of};

@@ -1,9 +1,9 @@
 //! What the values of a type are on the stack.
-ghost use Rattle.std.specs.Prelude.{◌≡◌, ◌<◌, length, IfOk};
+ghost use Rattle.std.specs.Prelude.{◌≡◌, ◌↔◌, ◌<◌, length, IsTrue, IfOk};
 ghost use Rattle.std.specs.Option.{option_copied};
 ghost use Rattle.sig_pool.specs.Pool.{Extends, Has};
 ghost use Rattle.sig_pool.specs.Terms.{term_of};
-ghost use Rattle.assignability.specs.Hierarchy.{underlying, declared_underlying, instance_underlying};
+ghost use Rattle.assignability.specs.Hierarchy.{object, underlying, declared_underlying, instance_underlying};
 ghost use Rattle.assignability.specs.Stack.{is_reference, is_reference_primitive, verified, signed, primitive, counts_as, verification_type, reduced_type};
 ghost use Rattle.assignability.specs.Tables.{hierarchy_in, declaration_in};
 
@@ -186,6 +186,17 @@ fn primitive(pool: &SigPool, id: SigId) -> Option<Prim>
         Node::Pointer(_) => None,
         Node::Mod { .. } => None,
         Node::Pinned(_) => None,
+    }
+}
+
+/// Whether the type of `id` is Object. Takes no memory.
+pub fn is_object(pool: &SigPool, id: SigId) -> bool
+    requires { id < length pool.now }
+    ensures { IsTrue result ↔ (term_of pool.now id ≡ object) }
+{
+    match primitive(pool, id) {
+        Some(prim) => prim == Prim::Object,
+        None => false,
     }
 }
 
