@@ -3,4 +3,5 @@ pub mod Charging
 pub mod FormedFacts
 pub mod FormedTerms
 pub mod FormedTypes
+pub mod Prefixes
 pub mod TypeWeights

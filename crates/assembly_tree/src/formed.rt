@@ -28,8 +28,9 @@ use types::{are_classes, is_one_entry};
 /// Whether the tree is one that a source can denote and an image can hold: each condition on its parts holds, as the
 /// definition `is_well_formed` lists them. Takes no memory.
 ///
-/// Types that stand side by side, the members of one type, and a path against the types that stand where it leads, are
-/// compared with one another, so the time grows with the square of the largest of these numbers; else it is linear.
+/// The time is linear but for three questions of equality, which are asked pair by pair since no order or map of what
+/// they compare can be had without memory: types that stand side by side, the members of one kind of one type, and each
+/// name in a path against the types where it leads. So it grows with the square of the largest of these numbers.
 #[tactic(auto, unfolding(crate::specs::WellFormed::is_well_formed))]
 pub fn well_formed(a: &Assembly) -> bool
     ensures { result ≡ is_well_formed a.now }

@@ -21,10 +21,10 @@ impl Copies for Generic {
 impl Copies for Field {
     fn copy(&self, alloc: Global) -> Result<Field, NoMemory> {
         let name = self.name.copy(alloc)?;
-        let of = self.of.copy(alloc)?;
-        let constant = self.constant.copy(alloc)?;
         let content = self.content.copy(alloc)?;
         let attributes = self.attributes.copy(alloc)?;
+        let constant = self.constant.copy(alloc)?;
+        let of = self.of.copy(alloc)?;
         Ok(Field {
             name,
             flags: self.flags,
@@ -40,12 +40,12 @@ impl Copies for Field {
 impl Copies for Method {
     fn copy(&self, alloc: Global) -> Result<Method, NoMemory> {
         let name = self.name.copy(alloc)?;
-        let sig = self.sig.copy(alloc)?;
         let generics = self.generics.copy(alloc)?;
         let params = self.params.copy(alloc)?;
         let overrides = self.overrides.copy(alloc)?;
-        let body = self.body.copy(alloc)?;
         let attributes = self.attributes.copy(alloc)?;
+        let body = self.body.copy(alloc)?;
+        let sig = self.sig.copy(alloc)?;
         Ok(Method {
             name,
             flags: self.flags,
@@ -64,8 +64,8 @@ impl Copies for Method {
 impl Copies for Param {
     fn copy(&self, alloc: Global) -> Result<Param, NoMemory> {
         let name = self.name.copy(alloc)?;
-        let constant = self.constant.copy(alloc)?;
         let attributes = self.attributes.copy(alloc)?;
+        let constant = self.constant.copy(alloc)?;
         Ok(Param {
             number: self.number,
             flags: self.flags,
@@ -79,10 +79,10 @@ impl Copies for Param {
 impl Copies for Property {
     fn copy(&self, alloc: Global) -> Result<Property, NoMemory> {
         let name = self.name.copy(alloc)?;
-        let sig = self.sig.copy(alloc)?;
-        let constant = self.constant.copy(alloc)?;
         let accessors = self.accessors.copy(alloc)?;
         let attributes = self.attributes.copy(alloc)?;
+        let constant = self.constant.copy(alloc)?;
+        let sig = self.sig.copy(alloc)?;
         Ok(Property {
             name,
             flags: self.flags,
@@ -97,9 +97,9 @@ impl Copies for Property {
 impl Copies for Event {
     fn copy(&self, alloc: Global) -> Result<Event, NoMemory> {
         let name = self.name.copy(alloc)?;
-        let of = self.of.copy(alloc)?;
         let accessors = self.accessors.copy(alloc)?;
         let attributes = self.attributes.copy(alloc)?;
+        let of = self.of.copy(alloc)?;
         Ok(Event {
             name,
             flags: self.flags,
@@ -118,8 +118,8 @@ impl Copies for Accessor {
 
 impl Copies for Attribute {
     fn copy(&self, alloc: Global) -> Result<Attribute, NoMemory> {
-        let constructor = self.constructor.copy(alloc)?;
         let value = self.value.copy(alloc)?;
+        let constructor = self.constructor.copy(alloc)?;
         Ok(Attribute { constructor, value })
     }
 }

@@ -36,8 +36,8 @@ impl TypeDef {
     {
         let id = self.id.copy(alloc)?;
         let generics = self.generics.copy(alloc)?;
-        let extends = self.extends.copy(alloc)?;
         let implements = self.implements.copy(alloc)?;
+        let extends = self.extends.copy(alloc)?;
         Ok(Head {
             id,
             generics,
@@ -122,8 +122,8 @@ impl Nests for TypeDef {
     fn copied_around(&self, inner: TypeDefs, alloc: Global) -> Result<TypeDef, NoMemory>
         ensures { IfOk result (λ c. inner ≡ nested_in self.now → c ≡ self.now) }
     {
-        let head = self.head_copied(alloc)?;
         let members = self.members_copied(alloc)?;
+        let head = self.head_copied(alloc)?;
         Ok(self.with(head, members, inner))
     }
 }
@@ -137,11 +137,11 @@ impl Copies for TypeDef {
 
 impl Copies for Assembly {
     fn copy(&self, alloc: Global) -> Result<Assembly, NoMemory> {
-        let manifest = self.manifest.copy(alloc)?;
         let externs = self.externs.copy(alloc)?;
         let fields = self.fields.copy(alloc)?;
         let methods = self.methods.copy(alloc)?;
         let types = copied_all(self.types.as_slice(), alloc)?;
+        let manifest = self.manifest.copy(alloc)?;
         Ok(Assembly {
             manifest,
             externs,

@@ -20,10 +20,12 @@ impl<T: Formed> Formed for Items<T> {
     ghost formed = { λ a items. list_all (T.formed a) items };
 
     fn is_formed(&self, a: &Assembly) -> bool {
-        for item in self.as_slice() {
+        let mut rest = self.as_slice();
+        while let [item, more @ ..] = rest {
             if !item.is_formed(a) {
                 return false;
             }
+            rest = more;
         }
         true
     }
