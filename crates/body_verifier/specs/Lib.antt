@@ -1,3 +1,17 @@
+pub mod Blocks
+pub mod Demands
+pub mod Edges
+pub mod Effects
+pub mod Frames
 pub mod Links
+pub mod Methods
+pub mod Operations
+pub mod Paths
+pub mod Prefixes
+pub mod Reports
+pub mod Rows
+pub mod Rules
+pub mod StepBound
 pub mod Texts
+pub mod Typings
 pub mod Waiting

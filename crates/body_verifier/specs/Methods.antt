@@ -1,0 +1,134 @@
+-- The methods of an assembly by their places, and what is declared (ECMA-335 II.10, II.15, II.16).
+use Rattle.std.specs.Prelude.{◌≡◌, ℕ, ◌+◌, Bool, not, nat_eq, bit_and, List, [], ◌∷◌, ◌++◌, map, codes, length, slice_get, is_some, if◌then◌else◌, Option, None, Some, option_and_then}
+use Rattle.std.specs.List.{Contains, flat_map, enumerate_from}
+use lib.Pointwise.{pointwise}
+use Rattle.type_terms.specs.declared.name.Scope.{Scope}
+use Rattle.type_terms.specs.declared.name.Scope.TheVariants.{Here, Extern}
+use Rattle.type_terms.specs.declared.name.TypeId.{TypeId}
+use Rattle.type_terms.specs.declared.name.TypeName.{TypeName}
+use Rattle.type_terms.specs.declared.reference.FieldRef.{FieldRef}
+use Rattle.type_terms.specs.declared.term.Owner.{Owner, out-Owner}
+use Rattle.type_terms.specs.declared.term.Owner.TheOpen.{Owner-F, SigType-F, Name, Spec, Prim, Class, Value, Inst, Var, MVar, SzArray, Array, ByRef, Pointer, Mod, Pinned}
+use Rattle.type_terms.specs.declared.term.SigType.{SigType, out-SigType}
+use Rattle.assembly_tree.specs.declared.assembly.Assembly.{Assembly}
+use Rattle.assembly_tree.specs.declared.members.Field.{Field}
+use Rattle.assembly_tree.specs.declared.members.Method.{Method}
+use Rattle.assembly_tree.specs.declared.typedef.MethodPath.{MethodPath}
+use Rattle.assembly_tree.specs.declared.typedef.TypeDef.{TypeDef}
+use Rattle.assembly_tree.specs.declared.typedef.TypeDef.TheOpen.{TypeDef-F}
+use Rattle.assembly_tree.specs.declared.typedef.TypeDef.TheFolds.{fold-TypeDef}
+use Rattle.assembly_tree.specs.declared.typedef.TypeDef.TheViews.{out-TypeDef}
+use Rattle.assembly_tree.specs.DataSize.{type_at}
+use Rattle.assignability.specs.Names.{same_path}
+
+-- ---- a method by its place
+
+-- the type `<Module>`, which holds the members that stand outside types
+abbrev pub the_module : List TypeId
+the_module = record { space = []; name = codes "<Module>" } ∷ []
+
+-- a method with its type: the type's path, and the number of its generic parameters
+pub record Declared : Type 0 where
+  pub path : List TypeId
+  pub parameters : ℕ
+  pub method : Method
+
+-- a type with the path that leads to it
+pub record Nested : Type 0 where
+  pub path : List TypeId
+  pub typedef : TypeDef
+
+abbrev pub nested_in : List TypeId → Option TypeDef → Option Nested
+nested_in outer None = None
+nested_in outer (Some t) = Some (record { path = outer ++ (out-TypeDef t).id ∷ []; typedef = t })
+
+-- the type that the places lead to, inwards from a type
+abbrev pub inwards : List ℕ → Nested → Option Nested
+inwards [] t = Some t
+inwards (k ∷ ks) t = option_and_then (inwards ks) (nested_in t.path (slice_get (out-TypeDef t.typedef).nested k))
+
+abbrev pub type_by_place : Assembly → List ℕ → Option Nested
+type_by_place a [] = None
+type_by_place a (k ∷ ks) = option_and_then (inwards ks) (nested_in [] (slice_get a.types k))
+
+abbrev pub declared_in : List TypeId → ℕ → Option Method → Option Declared
+declared_in path parameters None = None
+declared_in path parameters (Some m) = Some (record { path = path; parameters = parameters; method = m })
+
+abbrev pub method_of : ℕ → Nested → Option Declared
+method_of k t = declared_in t.path (length (out-TypeDef t.typedef).generics) (slice_get (out-TypeDef t.typedef).methods k)
+
+-- places that are empty lead to `<Module>`
+abbrev pub method_by : Assembly → List ℕ → ℕ → Option Declared
+method_by a [] k = declared_in the_module 0 (slice_get a.methods k)
+method_by a (t ∷ ts) k = option_and_then (method_of k) (type_by_place a (t ∷ ts))
+
+unfoldable pub method_at : Assembly → MethodPath → Option Declared
+method_at a path = method_by a path.types path.method
+
+-- ---- all of them
+
+-- the places of the methods with a body in a list of methods
+abbrev pub with_body : List ℕ → ℕ × Method → List MethodPath
+with_body types (k, m) = if is_some m.body then record { types = types; method = k } ∷ [] else []
+
+abbrev pub places_in : List ℕ → List Method → List MethodPath
+places_in types methods = flat_map (with_body types) (enumerate_from 0 methods)
+
+-- of a type, by its own places: its methods, and then those of the types that it nests
+abbrev pub preorder : TypeDef-F (List ℕ → List MethodPath) → List ℕ → List MethodPath
+preorder t types = places_in types t.methods ++ flat_map (λ (k, places). places (types ++ k ∷ [])) (enumerate_from 0 t.nested)
+
+abbrev pub typedef_places : ℕ × TypeDef → List MethodPath
+typedef_places (k, t) = fold-TypeDef (List ℕ → List MethodPath) preorder t (k ∷ [])
+
+-- the methods with a body: those of `<Module>`, and then those of the types in preorder
+unfoldable pub all_methods : Assembly → List MethodPath
+all_methods a = places_in [] a.methods ++ flat_map typedef_places (enumerate_from 0 a.types)
+
+-- ---- fields
+
+abbrev pub layer_name : SigType-F Owner SigType → Option TypeName
+layer_name (Class name) = Some name
+layer_name (Value name) = Some name
+layer_name (Inst value name args) = Some name
+layer_name (Prim p) = None
+layer_name (Var n) = None
+layer_name (MVar n) = None
+layer_name (SzArray of) = None
+layer_name (Array of rank sizes lower) = None
+layer_name (ByRef of) = None
+layer_name (Pointer of) = None
+layer_name (Mod required by of) = None
+layer_name (Pinned of) = None
+
+abbrev pub owner_layer_name : Owner-F Owner SigType → Option TypeName
+owner_layer_name (Name name) = Some name
+owner_layer_name (Spec t) = layer_name (out-SigType t)
+
+-- the name of a type as it is written, that of an instantiation included
+abbrev pub written_name : Owner → Option TypeName
+written_name o = owner_layer_name (out-Owner o)
+
+abbrev pub fields_in : Option TypeDef → List Field
+fields_in None = []
+fields_in (Some t) = (out-TypeDef t).fields
+
+abbrev pub fields_by_scope : Assembly → Scope → List TypeId → List Field
+fields_by_scope a Here path = if same_path path the_module then a.fields else fields_in (type_at a.types path)
+fields_by_scope a (Extern k) path = []
+
+-- the fields of the type that has that name here
+abbrev pub fields_of : Assembly → Option TypeName → List Field
+fields_of a None = []
+fields_of a (Some name) = fields_by_scope a name.scope name.path
+
+-- the image declares the field: owner, name and type are equal as they are written
+pub record DeclaresField (a : Assembly) (r : FieldRef) (field : Field) : Type 0 where
+  pub here : Contains (fields_of a (written_name r.owner)) field
+  pub name : field.name ≡ r.name
+  pub type : field.of ≡ r.of
+
+-- whether a field is one of the type itself and not of each value (II.23.1.5)
+abbrev pub is_static : Field → Bool
+is_static f = not (nat_eq (bit_and f.flags 0x10) 0)
