@@ -13,7 +13,7 @@ use Rattle.body_verifier.specs.declared.operation.Operation.{Operation}
 use Rattle.body_verifier.specs.declared.operation.Operation.TheVariants as does
 use Rattle.body_verifier.specs.Operations.{operation}
 use Rattle.body_verifier.specs.Frames.{Frame, owner_in}
-use Rattle.body_verifier.specs.Blocks.{Block, try_block, handler_block, Holds, IsInnermost, SameTry}
+use Rattle.body_verifier.specs.Blocks.{try_block, handler_block, Holds, IsInnermost, SameTry}
 
 -- ---- instructions
 

@@ -1,6 +1,5 @@
 -- The stack after an instruction (ECMA-335 III.1.5). What was pushed first stands first.
-use Rattle.std.specs.Prelude.{ℕ, ◌-◌, Bool, true, false, if◌then◌else◌, List, [], ◌∷◌, ◌++◌, map, length, take, drop, replicate}
-use Rattle.assembly_tree.specs.declared.body.Ins.{Ins}
+use Rattle.std.specs.Prelude.{ℕ, ◌-◌, if◌then◌else◌, List, [], ◌++◌, map, length, take, drop, replicate}
 use Rattle.assignability.specs.Stack.{Stack, bad}
 use Rattle.body_verifier.specs.Rows.{Row, given}
 

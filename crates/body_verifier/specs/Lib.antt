@@ -3,6 +3,7 @@ pub mod Demands
 pub mod Edges
 pub mod Effects
 pub mod Frames
+pub mod Laws
 pub mod Links
 pub mod Methods
 pub mod Operations
@@ -11,6 +12,7 @@ pub mod Prefixes
 pub mod Reports
 pub mod Rows
 pub mod Rules
+pub mod Stacks
 pub mod StepBound
 pub mod Texts
 pub mod Typings

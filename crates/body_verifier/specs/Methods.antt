@@ -1,7 +1,6 @@
 -- The methods of an assembly by their places, and what is declared (ECMA-335 II.10, II.15, II.16).
-use Rattle.std.specs.Prelude.{◌≡◌, ℕ, ◌+◌, Bool, not, nat_eq, bit_and, List, [], ◌∷◌, ◌++◌, map, codes, length, slice_get, is_some, if◌then◌else◌, Option, None, Some, option_and_then}
+use Rattle.std.specs.Prelude.{◌≡◌, ℕ, Bool, not, nat_eq, bit_and, List, [], ◌∷◌, ◌++◌, codes, length, slice_get, is_some, if◌then◌else◌, Option, None, Some, option_and_then}
 use Rattle.std.specs.List.{Contains, flat_map, enumerate_from}
-use lib.Pointwise.{pointwise}
 use Rattle.type_terms.specs.declared.name.Scope.{Scope}
 use Rattle.type_terms.specs.declared.name.Scope.TheVariants.{Here, Extern}
 use Rattle.type_terms.specs.declared.name.TypeId.{TypeId}

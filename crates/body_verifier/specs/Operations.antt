@@ -2,8 +2,8 @@
 -- operation. An opcode that is never verified is unlisted.
 use Rattle.opcode_table.specs.declared.op.Op.{Op}
 use Rattle.opcode_table.specs.declared.op.Op.TheVariants as op
-use Rattle.type_terms.specs.declared.term.Primitive.TheVariants as prim
 use Rattle.body_verifier.specs.declared.operation.Number.TheVariants as number
+use Rattle.body_verifier.specs.declared.operation.Numeric.TheVariants as numeric
 use Rattle.body_verifier.specs.declared.operation.Operation.{Operation}
 use Rattle.body_verifier.specs.declared.operation.Operation.TheVariants as does
 use Rattle.body_verifier.specs.declared.operation.Prefix.TheVariants as prefix
@@ -76,24 +76,24 @@ operation op.BgtUn = does.BranchOrder
 operation op.BleUn = does.BranchOrder
 operation op.BltUn = does.BranchOrder
 operation op.Switch = does.Switch
-operation op.LdindI1 = does.LoadIndirect prim.I1
-operation op.LdindU1 = does.LoadIndirect prim.U1
-operation op.LdindI2 = does.LoadIndirect prim.I2
-operation op.LdindU2 = does.LoadIndirect prim.U2
-operation op.LdindI4 = does.LoadIndirect prim.I4
-operation op.LdindU4 = does.LoadIndirect prim.U4
-operation op.LdindI8 = does.LoadIndirect prim.I8
-operation op.LdindI = does.LoadIndirect prim.NInt
-operation op.LdindR4 = does.LoadIndirect prim.R4
-operation op.LdindR8 = does.LoadIndirect prim.R8
+operation op.LdindI1 = does.LoadIndirect numeric.I1
+operation op.LdindU1 = does.LoadIndirect numeric.U1
+operation op.LdindI2 = does.LoadIndirect numeric.I2
+operation op.LdindU2 = does.LoadIndirect numeric.U2
+operation op.LdindI4 = does.LoadIndirect numeric.I4
+operation op.LdindU4 = does.LoadIndirect numeric.U4
+operation op.LdindI8 = does.LoadIndirect numeric.I8
+operation op.LdindI = does.LoadIndirect numeric.NInt
+operation op.LdindR4 = does.LoadIndirect numeric.R4
+operation op.LdindR8 = does.LoadIndirect numeric.R8
 operation op.LdindRef = does.LoadIndirectReference
 operation op.StindRef = does.StoreIndirectReference
-operation op.StindI1 = does.StoreIndirect prim.I1
-operation op.StindI2 = does.StoreIndirect prim.I2
-operation op.StindI4 = does.StoreIndirect prim.I4
-operation op.StindI8 = does.StoreIndirect prim.I8
-operation op.StindR4 = does.StoreIndirect prim.R4
-operation op.StindR8 = does.StoreIndirect prim.R8
+operation op.StindI1 = does.StoreIndirect numeric.I1
+operation op.StindI2 = does.StoreIndirect numeric.I2
+operation op.StindI4 = does.StoreIndirect numeric.I4
+operation op.StindI8 = does.StoreIndirect numeric.I8
+operation op.StindR4 = does.StoreIndirect numeric.R4
+operation op.StindR8 = does.StoreIndirect numeric.R8
 operation op.Add = does.Arithmetic
 operation op.Sub = does.Arithmetic
 operation op.Mul = does.Arithmetic
@@ -148,24 +148,24 @@ operation op.Box = does.BoxValue
 operation op.Newarr = does.NewArray
 operation op.Ldlen = does.LoadLength
 operation op.Ldelema = does.ElementAddress
-operation op.LdelemI1 = does.LoadElementOf prim.I1
-operation op.LdelemU1 = does.LoadElementOf prim.U1
-operation op.LdelemI2 = does.LoadElementOf prim.I2
-operation op.LdelemU2 = does.LoadElementOf prim.U2
-operation op.LdelemI4 = does.LoadElementOf prim.I4
-operation op.LdelemU4 = does.LoadElementOf prim.U4
-operation op.LdelemI8 = does.LoadElementOf prim.I8
-operation op.LdelemI = does.LoadElementOf prim.NInt
-operation op.LdelemR4 = does.LoadElementOf prim.R4
-operation op.LdelemR8 = does.LoadElementOf prim.R8
+operation op.LdelemI1 = does.LoadElementOf numeric.I1
+operation op.LdelemU1 = does.LoadElementOf numeric.U1
+operation op.LdelemI2 = does.LoadElementOf numeric.I2
+operation op.LdelemU2 = does.LoadElementOf numeric.U2
+operation op.LdelemI4 = does.LoadElementOf numeric.I4
+operation op.LdelemU4 = does.LoadElementOf numeric.U4
+operation op.LdelemI8 = does.LoadElementOf numeric.I8
+operation op.LdelemI = does.LoadElementOf numeric.NInt
+operation op.LdelemR4 = does.LoadElementOf numeric.R4
+operation op.LdelemR8 = does.LoadElementOf numeric.R8
 operation op.LdelemRef = does.LoadElementReference
-operation op.StelemI = does.StoreElementOf prim.NInt
-operation op.StelemI1 = does.StoreElementOf prim.I1
-operation op.StelemI2 = does.StoreElementOf prim.I2
-operation op.StelemI4 = does.StoreElementOf prim.I4
-operation op.StelemI8 = does.StoreElementOf prim.I8
-operation op.StelemR4 = does.StoreElementOf prim.R4
-operation op.StelemR8 = does.StoreElementOf prim.R8
+operation op.StelemI = does.StoreElementOf numeric.NInt
+operation op.StelemI1 = does.StoreElementOf numeric.I1
+operation op.StelemI2 = does.StoreElementOf numeric.I2
+operation op.StelemI4 = does.StoreElementOf numeric.I4
+operation op.StelemI8 = does.StoreElementOf numeric.I8
+operation op.StelemR4 = does.StoreElementOf numeric.R4
+operation op.StelemR8 = does.StoreElementOf numeric.R8
 operation op.StelemRef = does.StoreElementReference
 operation op.Ldelem = does.LoadElement
 operation op.Stelem = does.StoreElement
@@ -196,7 +196,7 @@ operation op.SubOvfUn = does.IntegerArithmetic
 operation op.Endfinally = does.EndFinally
 operation op.Leave = does.Leave
 operation op.LeaveS = does.Leave
-operation op.StindI = does.StoreIndirect prim.NInt
+operation op.StindI = does.StoreIndirect numeric.NInt
 operation op.ConvU = does.Convert number.N
 operation op.Arglist = does.Unlisted
 operation op.Ceq = does.CompareEqual

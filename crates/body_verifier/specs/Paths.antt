@@ -1,10 +1,11 @@
 -- Single paths through a body with the types that values really have there (ECMA-335 I.12.3.2, III.1.5): nothing is merged,
 -- and a value may have any type that may stand where its type is stated.
-use Rattle.std.specs.Prelude.{◌≡◌, ◌⊎◌, ℕ, ◌<◌, ◌≤◌, List, [], ◌∷◌, ◌++◌, length, get_or, slice_get, Some}
+use Rattle.std.specs.Prelude.{◌≡◌, ℕ, ◌<◌, ◌≤◌, List, [], ◌++◌, length, get_or, slice_get, Some}
 use Rattle.assembly_tree.specs.declared.body.Ins.{Ins}
 use Rattle.assignability.specs.Hierarchy.{Hierarchy}
 use Rattle.assignability.specs.Stack.{Stack, bad}
 use Rattle.assignability.specs.Relations.{Assignable}
+use Rattle.body_verifier.specs.Stacks.{Each}
 use Rattle.body_verifier.specs.Frames.{Frame}
 use Rattle.body_verifier.specs.Demands.{Demand, Meets, MeetTogether}
 use Rattle.body_verifier.specs.Rows.{Row, row_of}
@@ -36,10 +37,7 @@ pub data StandsFor (w : Hierarchy) : Stack → Stack → Type 0 where
   assigned : {s t : Stack} → Assignable w s t → StandsFor w s t
 
 abbrev pub StandFor : Hierarchy → List Stack → List Stack → Type 0
-StandFor w [] [] = Unit {0}
-StandFor w [] (t ∷ ts) = ⊥
-StandFor w (s ∷ ss) [] = ⊥
-StandFor w (s ∷ ss) (t ∷ ts) = StandsFor w s t × StandFor w ss ts
+StandFor w s t = Each (StandsFor w) s t
 
 -- the stack after an instruction without `leave` and the end of a finally
 pub record Flows (f : Frame) (r : Row) (before after : List Stack) : Type 0 where

@@ -1,6 +1,5 @@
 -- The failures of a method, and of an assembly.
-use Rattle.std.specs.Prelude.{◌≡◌, ℕ, ◌+◌, ◌<◌, ◌≤◌, nat_lt, Bool, true, false, not, ◌&&◌, List, [], ◌∷◌, ◌++◌, map, length, slice_get, Option, None, Some, IsTrue}
-use Rattle.std.specs.List.{Contains}
+use Rattle.std.specs.Prelude.{◌≡◌, ℕ, ◌+◌, ◌<◌, ◌≤◌, nat_lt, Bool, false, not, ◌&&◌, List, [], ◌∷◌, ◌++◌, map, length, Some, IsTrue}
 use Rattle.assembly_tree.specs.declared.assembly.Assembly.{Assembly}
 use Rattle.assembly_tree.specs.declared.body.Body.{Body}
 use Rattle.assembly_tree.specs.declared.typedef.MethodPath.{MethodPath}

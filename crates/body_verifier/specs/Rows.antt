@@ -1,7 +1,6 @@
 -- The operands and results of each instruction (ECMA-335 III.3, III.4): what is asked of each operand, the one that was
 -- pushed first before the others, and what is pushed.
-use Rattle.std.specs.Prelude.{ℕ, zero, suc, Bool, true, false, if◌then◌else◌, List, [], ◌∷◌, ◌++◌, map, codes, get_or, slice_get, Option, None, Some, option_and_then}
-use Rattle.type_terms.specs.declared.name.TypeId.{TypeId}
+use Rattle.std.specs.Prelude.{ℕ, zero, suc, Bool, true, false, if◌then◌else◌, List, [], ◌∷◌, ◌++◌, map, codes, slice_get, Option, None, Some, option_and_then}
 use Rattle.type_terms.specs.declared.reference.FieldRef.{FieldRef}
 use Rattle.type_terms.specs.declared.reference.MethodRef.{MethodRef}
 use Rattle.type_terms.specs.declared.term.Owner.{Owner}
@@ -16,16 +15,17 @@ use Rattle.assembly_tree.specs.declared.body.Ins.{Ins}
 use Rattle.assembly_tree.specs.declared.body.Operand as operand
 use Rattle.assignability.specs.Names.{system}
 use Rattle.assignability.specs.Hierarchy.{Hierarchy, core_name}
-use Rattle.assignability.specs.Stack.{Stack, i4, i8, native, float, null, ref, boxed, val, ptr, bad, is_reference, verification_type, stack_of, pointer_to, boxed_of}
+use Rattle.assignability.specs.Stack.{Stack, i4, i8, native, float, null, ref, boxed, val, ptr, bad, is_reference, verified, primitive_stack, stack_of, pointer_to, boxed_of}
 use Rattle.body_verifier.specs.declared.operation.Number.{Number}
 use Rattle.body_verifier.specs.declared.operation.Number.TheVariants as number_of
+use Rattle.body_verifier.specs.declared.operation.Numeric.{Numeric}
+use Rattle.body_verifier.specs.declared.operation.Numeric.TheVariants as numeric_type
 use Rattle.body_verifier.specs.declared.operation.Operation.{Operation}
 use Rattle.body_verifier.specs.declared.operation.Operation.TheVariants as does
-use Rattle.body_verifier.specs.declared.operation.Prefix.{Prefix}
 use Rattle.body_verifier.specs.declared.operation.Prefix.TheVariants as prefix
 use Rattle.body_verifier.specs.Operations.{operation}
-use Rattle.body_verifier.specs.Frames.{Frame, type_in, owner_in, class_arguments, member_type}
-use Rattle.body_verifier.specs.Demands.{Demand, nothing, any, number, integer, index, object, condition, comparable, exactly, one_of, to, object_pointer, vector, vector_of, object_vector, Together, apart, paired, stored, Pairing, numeric, integral, equality, ordering, is_number, is_integer, referent, element, object_element, first, second, outcome}
+use Rattle.body_verifier.specs.Frames.{Frame, owner_in, member_type}
+use Rattle.body_verifier.specs.Demands.{Demand, nothing, any, number, integer, index, object, condition, comparable, exactly, one_of, to, object_pointer, vector, vector_of, object_vector, Together, apart, paired, stored, Pairing, numeric, integral, equality, ordering, is_number, is_integer, referent, object_element, first, second, outcome}
 
 -- ---- results
 
@@ -242,16 +242,29 @@ number_type number_of.I8 = i8
 number_type number_of.N = native
 number_type number_of.F = float
 
--- a pointer to a value of that primitive type
-abbrev pub primitive_pointer : Hierarchy → Primitive → Stack
-primitive_pointer w p = pointer_to w (type.Prim p)
+-- the primitive type that an opcode has in its name
+abbrev pub primitive_of : Numeric → Primitive
+primitive_of numeric_type.I1 = prim.I1
+primitive_of numeric_type.U1 = prim.U1
+primitive_of numeric_type.I2 = prim.I2
+primitive_of numeric_type.U2 = prim.U2
+primitive_of numeric_type.I4 = prim.I4
+primitive_of numeric_type.U4 = prim.U4
+primitive_of numeric_type.I8 = prim.I8
+primitive_of numeric_type.NInt = prim.NInt
+primitive_of numeric_type.R4 = prim.R4
+primitive_of numeric_type.R8 = prim.R8
 
-abbrev pub primitive_stack : Hierarchy → Primitive → Stack
-primitive_stack w p = stack_of w (type.Prim p)
+-- a pointer to a value of that type
+abbrev pub numeric_pointer : Numeric → Stack
+numeric_pointer n = ptr (type.Prim (verified (primitive_of n)))
 
--- a vector of elements of that primitive type
-abbrev pub primitive_vector : Hierarchy → Primitive → Demand
-primitive_vector w p = vector_of (verification_type w (type.Prim p))
+abbrev pub numeric_stack : Numeric → Stack
+numeric_stack n = primitive_stack (primitive_of n)
+
+-- a vector of elements of that type
+abbrev pub numeric_vector : Numeric → Demand
+numeric_vector n = vector_of (type.Prim (verified (primitive_of n)))
 
 abbrev pub vector_type : SigType → Stack
 vector_type t = ref (type.SzArray t)
@@ -321,9 +334,9 @@ row_by f constrained i does.Switch = row (exactly i4 ∷ []) []
 row_by f constrained i (does.Convert n) = row (number ∷ []) (pushes (number_type n))
 row_by f constrained i does.ConvertUnsigned = row (integer ∷ []) (pushes float)
 row_by f constrained i does.CheckFinite = row (exactly float ∷ []) (pushes float)
-row_by f constrained i (does.LoadIndirect p) = row (exactly (primitive_pointer f.types p) ∷ []) (pushes (primitive_stack f.types p))
+row_by f constrained i (does.LoadIndirect n) = row (exactly (numeric_pointer n) ∷ []) (pushes (numeric_stack n))
 row_by f constrained i does.LoadIndirectReference = row (object_pointer ∷ []) (pointed ∷ [])
-row_by f constrained i (does.StoreIndirect p) = row (exactly (primitive_pointer f.types p) ∷ exactly (primitive_stack f.types p) ∷ []) []
+row_by f constrained i (does.StoreIndirect n) = row (exactly (numeric_pointer n) ∷ exactly (numeric_stack n) ∷ []) []
 row_by f constrained i does.StoreIndirectReference =
     record { operands = object_pointer ∷ any ∷ []; together = stored; pushed = []; empties = false }
 row_by f constrained i does.LoadFunction = row [] (pushes native)
@@ -332,8 +345,8 @@ row_by f constrained i does.LoadString = row [] (pushes (ref (type.Prim prim.Str
 row_by f constrained i does.LoadToken = row [] (pushes (handle f.types i.operand))
 row_by f constrained i does.Throw = row (object ∷ []) []
 row_by f constrained i does.LoadLength = row (vector ∷ []) (pushes native)
-row_by f constrained i (does.LoadElementOf p) = row (primitive_vector f.types p ∷ index ∷ []) (pushes (primitive_stack f.types p))
-row_by f constrained i (does.StoreElementOf p) = row (primitive_vector f.types p ∷ index ∷ exactly (primitive_stack f.types p) ∷ []) []
+row_by f constrained i (does.LoadElementOf n) = row (numeric_vector n ∷ index ∷ []) (pushes (numeric_stack n))
+row_by f constrained i (does.StoreElementOf n) = row (numeric_vector n ∷ index ∷ exactly (numeric_stack n) ∷ []) []
 row_by f constrained i does.LoadElementReference = row (object_vector ∷ index ∷ []) (fetched ∷ [])
 row_by f constrained i does.StoreElementReference = row (object_vector ∷ index ∷ object ∷ []) []
 row_by f constrained i does.LoadField = named_field_row f.types constrained does.LoadField i.operand

@@ -1,14 +1,12 @@
 -- The rules of verifiable code (ECMA-335 III.1.7, III.1.8), each for one instruction of a body.
-use Rattle.std.specs.Prelude.{◌≡◌, ◌⊎◌, ℕ, ◌+◌, ◌<◌, ◌≤◌, Bool, true, false, ◌||◌, not, List, [], ◌∷◌, length, codes, get_or, slice_get, Option, None, Some, IsTrue}
+use Rattle.std.specs.Prelude.{◌≡◌, ℕ, ◌+◌, ◌<◌, ◌≤◌, Bool, true, false, ◌||◌, not, List, [], length, codes, get_or, slice_get, Option, None, Some, IsTrue}
 use Rattle.std.specs.List.{Contains}
-use lib.Pointwise.{pointwise}
 use Rattle.type_terms.specs.declared.reference.FieldRef.{FieldRef}
 use Rattle.type_terms.specs.declared.reference.MethodRef.{MethodRef}
 use Rattle.type_terms.specs.declared.term.Owner.{Owner}
 use Rattle.type_terms.specs.declared.term.Owner.TheOpen.{SigType-F, Prim, Class, Value, Inst, Var, MVar, SzArray, Array, ByRef, Pointer, Mod, Pinned}
 use Rattle.type_terms.specs.declared.term.SigType.{SigType, out-SigType}
 use Rattle.assembly_tree.specs.declared.body.Clause.{Clause}
-use Rattle.assembly_tree.specs.declared.body.ClauseKind.{ClauseKind}
 use Rattle.assembly_tree.specs.declared.body.ClauseKind.TheVariants.{Catch, Filter, Finally, Fault}
 use Rattle.assembly_tree.specs.declared.body.Ins.{Ins}
 use Rattle.assembly_tree.specs.declared.body.Operand as operand
@@ -21,11 +19,11 @@ use Rattle.body_verifier.specs.declared.operation.Prefix.{Prefix}
 use Rattle.body_verifier.specs.Methods.{DeclaresField, is_static}
 use Rattle.body_verifier.specs.Frames.{Frame}
 use Rattle.body_verifier.specs.Demands.{Demand, HasWrongKind, FailsToAssign, AreMismatched, FailToStore}
-use Rattle.body_verifier.specs.Rows.{Row, row_of, argument, local}
+use Rattle.body_verifier.specs.Rows.{row_of, argument, local}
 use Rattle.body_verifier.specs.Effects.{taken, effect}
 use Rattle.body_verifier.specs.Blocks.{BlockKind, guarded, handler, filter, Block, blocks, Holds, IsInnermost, IsLevel, BeginsAt}
 use Rattle.body_verifier.specs.Edges.{Does, falls, branches, targets, Leaves}
-use Rattle.body_verifier.specs.Typings.{State, unreached, stack, clash, Typing}
+use Rattle.body_verifier.specs.Typings.{unreached, stack, clash, Typing}
 use Rattle.body_verifier.specs.Prefixes.{Fits}
 
 -- ---- what instructions do

@@ -1,9 +1,10 @@
 -- Typings of a body: the stack before each instruction (ECMA-335 III.1.8.1.1 to III.1.8.1.3).
-use Rattle.std.specs.Prelude.{◌≡◌, ◌≢◌, ℕ, ◌<◌, List, [], ◌∷◌, length, slice_get, Option, None, Some}
+use Rattle.std.specs.Prelude.{ℕ, ◌<◌, List, [], length, slice_get, Option, None, Some}
 use Rattle.assembly_tree.specs.declared.body.Ins.{Ins}
 use Rattle.assignability.specs.Hierarchy.{Hierarchy}
 use Rattle.assignability.specs.Stack.{Stack}
 use Rattle.assignability.specs.Relations.{Below}
+use Rattle.body_verifier.specs.Stacks.{Each}
 use Rattle.body_verifier.specs.Frames.{Frame}
 use Rattle.body_verifier.specs.Rows.{row_of}
 use Rattle.body_verifier.specs.Effects.{effect}
@@ -22,10 +23,7 @@ Typing = ℕ → State
 
 -- stacks of one depth, each type below the other one
 abbrev pub AreBelow : Hierarchy → List Stack → List Stack → Type 0
-AreBelow w [] [] = Unit {0}
-AreBelow w [] (t ∷ ts) = ⊥
-AreBelow w (s ∷ ss) [] = ⊥
-AreBelow w (s ∷ ss) (t ∷ ts) = Below w s t × AreBelow w ss ts
+AreBelow w s t = Each (Below w) s t
 
 -- unreached below all, clash above all
 pub data AtMost (w : Hierarchy) : State → State → Type 0 where

@@ -1,11 +1,16 @@
 //! Which instructions of a method's body break the rules of verifiable code (ECMA-335 III.1.8).
+//!
+//! What stands: the definitions (`specs/`), their laws, the worklist, the texts of the rules and the report.
+//! The check of a method isn't written yet.
 #![tactic(auto)]
 
+mod laws;
 mod operation;
 mod report;
 mod rule;
 mod worklist;
 
+pub use laws::{a_body_has_one_least_typing, instructions_are_monotone};
 pub use report::{Failure, Report};
 pub use rule::rule_text;
 pub use worklist::Worklist;

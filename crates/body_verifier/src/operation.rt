@@ -1,5 +1,3 @@
-use type_terms::Prim;
-
 /// The numbers of the stack (ECMA-335 III.1.1).
 #[derive(Clone, Copy, Drop)]
 pub(crate) enum Number {
@@ -7,6 +5,21 @@ pub(crate) enum Number {
     I8,
     N,
     F,
+}
+
+/// The primitive types that instructions read and write without naming them as operands (ECMA-335 III.1.1.1).
+#[derive(Clone, Copy, Drop)]
+pub(crate) enum Numeric {
+    I1,
+    U1,
+    I2,
+    U2,
+    I4,
+    U4,
+    I8,
+    NInt,
+    R4,
+    R8,
 }
 
 /// The prefixes of instructions (ECMA-335 III.2).
@@ -58,9 +71,9 @@ pub(crate) enum Operation {
     ConvertUnsigned,
     CheckFinite,
     /// `ldind` of this type.
-    LoadIndirect(Prim),
+    LoadIndirect(Numeric),
     LoadIndirectReference,
-    StoreIndirect(Prim),
+    StoreIndirect(Numeric),
     StoreIndirectReference,
     LoadObject,
     StoreObject,
@@ -90,8 +103,8 @@ pub(crate) enum Operation {
     ElementAddress,
     StoreElement,
     /// `ldelem` of this primitive type.
-    LoadElementOf(Prim),
-    StoreElementOf(Prim),
+    LoadElementOf(Numeric),
+    StoreElementOf(Numeric),
     LoadElementReference,
     StoreElementReference,
     Call,

@@ -1,0 +1,33 @@
+-- Laws of demands and effects, and of least typings, over every hierarchy in which parents and interfaces come to an end.
+use Rattle.std.specs.Prelude.{◌≡◌, ℕ, ◌<◌, List, length, slice_get, Some}
+use Rattle.assembly_tree.specs.declared.body.Ins.{Ins}
+use Rattle.assignability.specs.Hierarchy.{Hierarchy}
+use Rattle.assignability.specs.Stack.{Stack, bad}
+use Rattle.assignability.specs.Relations.{Assignable, Below}
+use Rattle.body_verifier.specs.Frames.{Frame}
+use Rattle.body_verifier.specs.Stacks.{Each}
+use Rattle.body_verifier.specs.Demands.{Demand, Meets, MeetTogether}
+use Rattle.body_verifier.specs.Rows.{Row, row_of}
+use Rattle.body_verifier.specs.Effects.{results, effect}
+use Rattle.body_verifier.specs.Typings.{Typing, IsLeast}
+
+-- a value of the first type may stand where the second is wanted, or the second is Bad
+pub data Under (w : Hierarchy) : Stack → Stack → Type 0 where
+  assigned : {s t : Stack} → Assignable w s t → Under w s t
+  under_bad : {s : Stack} → Under w s bad
+
+-- what is lower meets each demand that the higher meets, and results follow
+pub record IsMonotone (w : Hierarchy) (R : Stack → Stack → Type 0) (r : Row) : Type 0 where
+  pub demands : (n : ℕ) (d : Demand) (s t : Stack) → slice_get r.operands n ≡ Some d → R s t → Meets w d t → Meets w d s
+  pub together : (ss ts : List Stack) → Each R ss ts → MeetTogether w r.together ts → MeetTogether w r.together ss
+  pub results : (ss ts : List Stack) → Each R ss ts → Each R (results r ss) (results r ts)
+  pub effects : (ss ts : List Stack) → Each R ss ts → Each R (effect r ss) (effect r ts)
+
+-- every instruction is monotone in the order of stack types, and where values stand for others
+pub record AreMonotone (f : Frame) : Type 0 where
+  pub order : (k : ℕ) (i : Ins) → IsMonotone f.types (Below f.types) (row_of f k i)
+  pub values : (k : ℕ) (i : Ins) → IsMonotone f.types (Under f.types) (row_of f k i)
+
+-- two least typings are the same at each instruction
+abbrev pub HasOneLeast : Frame → Type 0
+HasOneLeast f = (x y : Typing) → IsLeast f x → IsLeast f y → (k : ℕ) → k < length f.code → x k ≡ y k

@@ -1,0 +1,23 @@
+ghost use Rattle.std.specs.Prelude.{ℕ};
+ghost use Rattle.type_terms.specs.declared.term.SigType.{SigType};
+ghost use Rattle.assignability.specs.Laws.{IsGrounded};
+ghost use Rattle.body_verifier.specs.Frames.{Frame};
+ghost use Rattle.body_verifier.specs.Laws.{AreMonotone, HasOneLeast};
+
+use assignability::{assignable_is_a_preorder, joins_are_least_upper_bounds};
+
+/// The demands and effects of every instruction are monotone in the order of stack types, and where each
+/// value may stand for another or that one is Bad (ECMA-335 III.1.8.1). It does nothing when it is called.
+pub fn instructions_are_monotone()
+    ensures { (f : Frame) (height : SigType → ℕ) → IsGrounded f.types height → AreMonotone f }
+{
+    assignable_is_a_preorder();
+    joins_are_least_upper_bounds();
+}
+
+/// A body has at most one least typing. It does nothing when it is called.
+pub fn a_body_has_one_least_typing()
+    ensures { (f : Frame) (height : SigType → ℕ) → IsGrounded f.types height → HasOneLeast f }
+{
+    joins_are_least_upper_bounds();
+}
