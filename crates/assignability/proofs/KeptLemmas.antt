@@ -5,7 +5,9 @@ use Rattle.sig_pool.specs.Pool.{Extends}
 use Rattle.sig_pool.specs.Terms.{term_of}
 use Rattle.assignability.specs.Hierarchy.{Hierarchy, parent}
 use Rattle.assignability.specs.Pooled.{HasOption}
-use Rattle.assignability.specs.World.{IsParent, KnowsParents, Notes}
+use Rattle.assignability.specs.Tables.{hierarchy_in}
+use Rattle.assignability.specs.World.{IsParent, KnowsParents, Notes, IsReady}
+use Rattle.assignability.specs.declared.tables.Tables.{Tables}
 use Rattle.assignability.proofs.GrowLemmas.{extends_long, has_extends}
 
 pub push_none : (xs : List (Option ℕ)) (k p : ℕ) → slice_get (xs ++ None ∷ []) k ≡ Some (Some p) → slice_get xs k ≡ Some (Some p)
@@ -59,3 +61,7 @@ knows_noted w ns ms old new id q x h n low (t, e, has) k p f = elim (n k p f) [
 -- the parent that is known
 pub known_is : (w : Hierarchy) (ns : List Node) (kept : List (Option ℕ)) (id p : ℕ) → KnowsParents w ns kept → slice_get kept id ≡ Some (Some p) → HasOption ns (Some p) (parent w (term_of ns id))
 known_is w ns kept id p h e = let i : IsParent w ns id p = h id p e in (i.type, i.is, i.has)
+
+-- a world whose pool grew
+pub ready_more : (ns ms : List Node) (t : Tables) (kept : List (Option ℕ)) → IsReady ns t kept → Extends ns ms → IsReady ms t kept
+ready_more ns ms t kept r x = record { paired = r.paired; parents = knows_more (hierarchy_in t) ns ms kept x r.parents }

@@ -13,4 +13,5 @@ pub mod NodeLemmas
 pub mod Ordering
 pub mod QueueLemmas
 pub mod TableLemmas
+pub mod TermLemmas
 pub mod WalkLemmas

@@ -7,6 +7,7 @@ pub mod Common
 pub mod Declarations
 pub mod Hierarchy
 pub mod Joining
+pub mod Keys
 pub mod Laws
 pub mod Meaning
 pub mod NameHash

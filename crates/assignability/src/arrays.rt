@@ -5,6 +5,8 @@ ghost use Rattle.sig_pool.specs.Pool.{Extends};
 ghost use Rattle.sig_pool.specs.Terms.{term_of};
 ghost use Rattle.assignability.specs.Arrays.{elements_at, IsPairOf};
 ghost use Rattle.assignability.specs.Hierarchy.{elements};
+ghost use Rattle.assignability.specs.Keys.{vector_elements};
+ghost use Rattle.assignability.specs.Pooled.{HasOption};
 ghost use Rattle.assignability.specs.Relations.{AreAlike};
 ghost use Rattle.assignability.specs.Stack.{reduced_type};
 ghost use Rattle.assignability.specs.Tables.{hierarchy_in};
@@ -93,4 +95,18 @@ pub fn is_reduced_alike(
     let left = reduced_id(tables, pool, a)?;
     let right = reduced_id(tables, pool, b)?;
     Ok(pool.same(left, right))
+}
+
+/// The id of the element of the type of `id`; None exactly where it isn't a vector.
+pub fn vector_element_id(pool: &SigPool, id: SigId) -> Option<SigId>
+    requires { id < length pool.now }
+    ensures { HasOption pool.now result (vector_elements (elements (term_of pool.now id))) }
+{
+    match element_of_id(pool, id) {
+        Some(element) => match element.rank {
+            None => Some(element.of),
+            Some(_) => None,
+        },
+        None => None,
+    }
 }

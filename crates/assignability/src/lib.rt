@@ -9,6 +9,7 @@ mod fits;
 mod interfaces;
 mod joining;
 mod kept;
+mod keys;
 mod laws;
 mod names;
 mod order;
@@ -18,8 +19,12 @@ mod stack;
 mod stack_of;
 mod stack_type;
 mod tables;
+mod terms;
 pub mod types;
 
+pub use keys::{
+    boxed_of, core_scope, element_of, interfaces_of, is_value, pointer_to, st_of, term_of,
+};
 pub use laws::{assignable_is_a_preorder, joins_are_least_upper_bounds};
 pub use order::{assignable, join, parent};
 pub use stack_type::{StackType, TypeKey, TypeKeys, id_of};

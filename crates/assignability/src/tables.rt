@@ -3,7 +3,7 @@ ghost use Rattle.std.specs.Option.{option_copied};
 ghost use Rattle.assignability.specs.Above.{name_above};
 ghost use Rattle.assignability.specs.Hierarchy.{chained_in};
 ghost use Rattle.assignability.specs.Names.{full_name};
-ghost use Rattle.assignability.specs.Tables.{entry_of, is_value_entry, declared_entry};
+ghost use Rattle.assignability.specs.Tables.{scope_at, entry_of, is_value_entry, declared_entry};
 
 use crate::core_types::{Above, chained};
 use crate::names::Names;
@@ -47,6 +47,19 @@ pub struct Tables {
 }
 
 impl Tables {
+    /// What a scope of the image means.
+    pub fn meant(&self, scope: Scope) -> Scope
+        ensures { result ≡ scope_at self.now.scopes scope }
+    {
+        match scope {
+            Scope::Here => Scope::Here,
+            Scope::Extern(number) => match self.scopes.get(number as usize) {
+                Some(meant) => *meant,
+                None => scope,
+            },
+        }
+    }
+
     /// The entry of a name. Takes no memory.
     pub fn entry(&self, scope: Scope, path: &[TypeId]) -> Option<&Entry>
         requires { length self.now.names ≡ length self.now.entries }
