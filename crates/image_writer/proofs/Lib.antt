@@ -1,0 +1,4 @@
+pub mod ChainLemmas
+pub mod FoundLemmas
+pub mod HashLemmas
+pub mod RowLemmas

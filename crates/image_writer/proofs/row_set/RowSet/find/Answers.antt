@@ -1,0 +1,13 @@
+use Rattle.std.proofs.Common.{◌≡◌, ℕ, ◌+◌, ◌-◌, Some, arith}
+use Rattle.image_writer.proofs.RowLemmas.{find_found, find_none, decides_cells}
+use Rattle.image_writer.proofs.row_set.RowSet.find.Goals as goal
+
+pub returns-in-None-clause-none : goal.returns-in-None-clause-none
+returns-in-None-clause-none c =
+    rw (← c.self.view_is) (find_none _ c.args.cells (decides_cells c.args.cells) c.self.inside.rows.keys c.in-None.ensures.found)
+
+pub returns-in-Some-clause-found : goal.returns-in-Some-clause-found
+returns-in-Some-clause-found c =
+    let at = find_found _ c.args.cells (decides_cells c.args.cells) c.self.inside.rows.keys c.in-Some.place c.in-Some.ensures.index in
+    let before : c.in-Some.place + 1 - 1 ≡ c.in-Some.place = omega arith in
+    rw (← c.self.view_is) (record { counted = omega arith; at = rw before at })

@@ -1,0 +1,11 @@
+//! The writer of images: from an assembly as a tree to a PE32 image that reads as it (ECMA-335 II.22 to
+//! II.25).
+#![tactic(auto)]
+
+mod equality;
+mod found;
+mod hashing;
+mod heap_contents;
+mod known;
+mod row_set;
+mod tokens;
