@@ -1,0 +1,10 @@
+pub mod Faults
+pub mod Forest
+pub mod Items
+pub mod Names
+pub mod Nodes
+pub mod References
+pub mod Shapes
+pub mod Source
+pub mod Types
+pub mod Values

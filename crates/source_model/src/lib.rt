@@ -1,0 +1,6 @@
+//! What a source denotes.
+#![tactic(auto)]
+
+mod fault;
+
+pub use fault::NameClass;
