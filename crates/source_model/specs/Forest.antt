@@ -109,3 +109,9 @@ abbrev pub which : List ℕ → Forest → Option ℕ
 which sought none = None
 which sought (leaf token after) = which sought after
 which sought (branch p below after) = if is_among sought p then Some p else which sought after
+
+-- the trees at the top that have one of these productions
+abbrev pub chosen : List ℕ → Forest → Forest
+chosen sought none = none
+chosen sought (leaf token after) = chosen sought after
+chosen sought (branch p below after) = if is_among sought p then branch p below (chosen sought after) else chosen sought after
