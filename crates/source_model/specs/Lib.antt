@@ -9,6 +9,7 @@ pub mod Faults
 pub mod Flags
 pub mod Forest
 pub mod Items
+pub mod Laws
 pub mod Manifests
 pub mod Members
 pub mod Names
