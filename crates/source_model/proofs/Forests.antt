@@ -1,5 +1,5 @@
 -- Each derivation is the preorder of one forest.
-use Rattle.std.proofs.Common.{◌≡◌, ℕ, ◌+◌, List, [], ◌∷◌, ◌++◌, length, take, drop, ap, sym, ◌∙◌, refl, subst, arith}
+use Rattle.std.proofs.Common.{◌≡◌, ℕ, ◌+◌, ◌≤◌, List, [], ◌∷◌, ◌++◌, length, length-append, take, drop, ap, sym, ◌∙◌, refl, subst, arith}
 use Rattle.std.proofs.Math.Seq.{take-append_seam, drop-append_seam}
 use Rattle.ilasm_grammar.specs.Grammar.{Grammar, Derives, Derives.none, Derives.leaf, Derives.branch}
 use Rattle.ilasm_grammar.specs.declared.symbol.Symbol.{Symbol}
@@ -7,7 +7,7 @@ use Rattle.ilasm_grammar.specs.declared.tree.TreeNode.{TreeNode}
 use Rattle.ilasm_grammar.specs.declared.tree.TreeNode.TheVariants.{Branch, Leaf}
 use Rattle.source_model.specs.Forest as tree
 use Rattle.source_model.specs.Forest.{Forest, preorder}
-use Rattle.source_model.specs.Laws.{OneForest}
+use Rattle.source_model.specs.Laws.{BeginsWithBranch, BeginsWithLeaf, ForestOpens, OneForest}
 
 -- ---- there is one
 
@@ -71,3 +71,42 @@ same_forest (tree.branch p a b) (tree.branch q c d) e =
 
 pub one_forest : OneForest
 one_forest = record { some = λ g at symbols kinds nodes d. forest_from g d; one = same_forest }
+
+-- ---- how it opens
+
+opens_none : (f : Forest) → preorder f ≡ [] → f ≡ tree.none
+opens_none tree.none e = refl
+opens_none (tree.leaf a x) e = absurd (no_node _ _ (sym e))
+opens_none (tree.branch p a b) e = absurd (no_node _ _ (sym e))
+
+opens_leaf : (f : Forest) (token : ℕ) (nodes : List TreeNode) → preorder f ≡ Leaf token ∷ nodes → BeginsWithLeaf f token nodes
+opens_leaf tree.none token nodes e = absurd (no_node _ _ e)
+opens_leaf (tree.leaf a x) token nodes e =
+    let h = same_leaf a token (preorder x) nodes e in record { after = x; is = ap (λ k. tree.leaf k x) h.0; rest = h.1 }
+opens_leaf (tree.branch p a b) token nodes e = absurd (leaf_is_no_branch _ _ _ _ _ (sym e))
+
+front_of : (a b nodes : List TreeNode) (count : ℕ) → length a ≡ count → a ++ b ≡ nodes → a ≡ take count nodes
+front_of a b nodes count n e = sym (take-append_seam a b) ∙ ap (λ k. take k (a ++ b)) n ∙ ap (take count) e
+
+back_of : (a b nodes : List TreeNode) (count : ℕ) → length a ≡ count → a ++ b ≡ nodes → b ≡ drop count nodes
+back_of a b nodes count n e = sym (drop-append_seam a b) ∙ ap (λ k. drop k (a ++ b)) n ∙ ap (drop count) e
+
+fits_in : (a b nodes : List TreeNode) (count : ℕ) → length a ≡ count → a ++ b ≡ nodes → count ≤ length nodes
+fits_in a b nodes count n e = omega (arith, n, ap length e, length-append a b)
+
+opens_branch : (f : Forest) (p count : ℕ) (nodes : List TreeNode) → preorder f ≡ Branch p count ∷ nodes → BeginsWithBranch f p count nodes
+opens_branch tree.none p count nodes e = absurd (no_node _ _ e)
+opens_branch (tree.leaf a x) p count nodes e = absurd (leaf_is_no_branch _ _ _ _ _ e)
+opens_branch (tree.branch q a b) p count nodes e =
+    let h = same_branch q p (length (preorder a)) count (preorder a ++ preorder b) nodes e in
+    record {
+      below = a;
+      after = b;
+      is = ap (λ k. tree.branch k a b) h.0;
+      within = fits_in (preorder a) (preorder b) nodes count h.1 h.2;
+      inner = front_of (preorder a) (preorder b) nodes count h.1 h.2;
+      rest = back_of (preorder a) (preorder b) nodes count h.1 h.2;
+    }
+
+pub forest_opens : ForestOpens
+forest_opens = record { none = opens_none; leaf = opens_leaf; branch = opens_branch }

@@ -1,21 +1,53 @@
 -- What follows of the definitions.
-use Rattle.std.specs.Prelude.{◌≡◌, ℕ, ◌⊎◌, List}
+use Rattle.std.specs.Prelude.{◌≡◌, ℕ, ◌<◌, ◌≤◌, ◌⊎◌, false, List, [], ◌∷◌, ◌++◌, length, take, drop, slice_index_or, Contains, Option, None, Some}
 use Rattle.il_base.specs.declared.pos.Pos.{Pos}
 use Rattle.ilasm_grammar.specs.Grammar.{Grammar, Derives}
 use Rattle.ilasm_grammar.specs.declared.symbol.Symbol.{Symbol}
 use Rattle.ilasm_grammar.specs.declared.tree.TreeNode.{TreeNode}
+use Rattle.ilasm_grammar.specs.declared.tree.TreeNode.TheVariants.{Branch, Leaf}
 use Rattle.assembly_tree.specs.declared.assembly.Assembly.{Assembly}
 use Rattle.source_model.specs.declared.fault.NameClass.{NameClass}
 use Rattle.source_model.specs.Classes.{assembly}
 use Rattle.source_model.specs.Denotes.{Denotes, HasNameFault, IsRead}
-use Rattle.source_model.specs.Forest.{Forest, preorder}
+use Rattle.source_model.specs.Faults.{Broken, earlier, earliest, is_before}
+use Rattle.source_model.specs.Forest.{Forest, none, leaf, branch, preorder}
 use Rattle.source_model.specs.Source.{Source}
+
+-- a forest whose nodes begin with this branch: below it stand as many nodes as it says, and after it the others
+pub record BeginsWithBranch (f : Forest) (p count : ℕ) (nodes : List TreeNode) : Type 0 where
+  pub below : Forest
+  pub after : Forest
+  pub is : f ≡ branch p below after
+  pub within : count ≤ length nodes
+  pub inner : preorder below ≡ take count nodes
+  pub rest : preorder after ≡ drop count nodes
+
+-- a forest whose nodes begin with this leaf
+pub record BeginsWithLeaf (f : Forest) (token : ℕ) (nodes : List TreeNode) : Type 0 where
+  pub after : Forest
+  pub is : f ≡ leaf token after
+  pub rest : preorder after ≡ nodes
+
+-- What the nodes of a forest say of it, for whoever walks them.
+pub record ForestOpens : Type 0 where
+  pub none : (f : Forest) → preorder f ≡ [] → f ≡ none
+  pub leaf : (f : Forest) (token : ℕ) (nodes : List TreeNode) → preorder f ≡ Leaf token ∷ nodes → BeginsWithLeaf f token nodes
+  pub branch : (f : Forest) (p count : ℕ) (nodes : List TreeNode) →
+      preorder f ≡ Branch p count ∷ nodes → BeginsWithBranch f p count nodes
 
 -- the nodes of a derivation are the preorder of a forest, and of one forest alone
 pub record OneForest : Type 0 where
   pub some : (g : Grammar) (at : ℕ) (symbols : List Symbol) (kinds : List ℕ) (nodes : List TreeNode) →
       Derives g at symbols kinds nodes → (f : Forest) × (preorder f ≡ nodes)
   pub one : (f g : Forest) → preorder f ≡ preorder g → f ≡ g
+
+-- The first of what is broken is among it, nothing of it stands before it, and where there is none nothing is broken; and the
+-- first of two lists is the first of their firsts, so that rules can be asked one by one.
+pub record FirstIsLeast : Type 0 where
+  pub none : (all : List Broken) → earliest all ≡ None → all ≡ []
+  pub among : (all : List Broken) (x : Broken) → earliest all ≡ Some x → Contains all x
+  pub least : (all : List Broken) (x y : Broken) (k : ℕ) → earliest all ≡ Some x → k < length all → is_before (slice_index_or all k y) x ≡ false
+  pub joined : (xs ys : List Broken) → earliest (xs ++ ys) ≡ earlier (earliest xs) (earliest ys)
 
 -- a source denotes one assembly at most, has one fault at most, and not both
 pub record OneMeaning : Type 0 where

@@ -1,6 +1,6 @@
 //! What follows of the definitions: a law each, as the contract of a function.
 
-ghost use Rattle.source_model.specs.Laws.{HasMeaning, OneForest, OneMeaning};
+ghost use Rattle.source_model.specs.Laws.{FirstIsLeast, ForestOpens, HasMeaning, OneForest, OneMeaning};
 
 use il_lexer::lexes_in_one_way;
 use ilasm_grammar::one_derivation;
@@ -9,6 +9,17 @@ use ilasm_grammar::one_derivation;
 /// definitions speak of.
 pub fn derivations_are_forests()
     ensures { OneForest }
+{}
+
+/// What the nodes of a forest say of it: at a branch, what stands below it and after it; at a leaf, what stands after it.
+pub fn forests_open()
+    ensures { ForestOpens }
+{}
+
+/// The first rule that is broken is the one at the least token, and of several there the first of the table; and rules can be
+/// asked one by one, since the first of two lists is the first of their firsts.
+pub fn the_first_is_least()
+    ensures { FirstIsLeast }
 {}
 
 /// A source denotes one assembly at most and has one fault at most, and not both (II.5 to II.19, II.21).

@@ -6,4 +6,6 @@ mod fault;
 mod laws;
 
 pub use fault::NameClass;
-pub use laws::{derivations_are_forests, one_meaning, sources_have_a_meaning};
+pub use laws::{
+    derivations_are_forests, forests_open, one_meaning, sources_have_a_meaning, the_first_is_least,
+};
