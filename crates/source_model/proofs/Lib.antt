@@ -1,3 +1,4 @@
 pub mod Firsts
 pub mod Forests
+pub mod Joined
 pub mod Meanings

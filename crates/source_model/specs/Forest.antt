@@ -115,3 +115,9 @@ abbrev pub chosen : List ℕ → Forest → Forest
 chosen sought none = none
 chosen sought (leaf token after) = chosen sought after
 chosen sought (branch p below after) = if is_among sought p then branch p below (chosen sought after) else chosen sought after
+
+-- the trees of one forest and then those of another
+abbrev pub joined : Forest → Forest → Forest
+joined none g = g
+joined (leaf token after) g = leaf token (joined after g)
+joined (branch p below after) g = branch p below (joined after g)

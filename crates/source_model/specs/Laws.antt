@@ -10,7 +10,8 @@ use Rattle.source_model.specs.declared.fault.NameClass.{NameClass}
 use Rattle.source_model.specs.Classes.{assembly}
 use Rattle.source_model.specs.Denotes.{Denotes, HasNameFault, IsRead}
 use Rattle.source_model.specs.Faults.{Broken, earlier, earliest, is_before}
-use Rattle.source_model.specs.Forest.{Forest, none, leaf, branch, preorder}
+use Rattle.source_model.specs.Forest.{Forest, none, leaf, branch, preorder, tokens_of, leaves, parts_outside, joined}
+use Rattle.source_model.specs.Nodes.{Around, nodes_in}
 use Rattle.source_model.specs.Source.{Source}
 
 -- a forest whose nodes begin with this branch: below it stand as many nodes as it says, and after it the others
@@ -34,6 +35,16 @@ pub record ForestOpens : Type 0 where
   pub leaf : (f : Forest) (token : ℕ) (nodes : List TreeNode) → preorder f ≡ Leaf token ∷ nodes → BeginsWithLeaf f token nodes
   pub branch : (f : Forest) (p count : ℕ) (nodes : List TreeNode) →
       preorder f ≡ Branch p count ∷ nodes → BeginsWithBranch f p count nodes
+
+-- What is looked for in two forests, one after the other, is what is found in each. So whoever walks the nodes in preorder may
+-- go from a branch to the forest that stands below it, joined with that after it.
+pub record ForestsJoin : Type 0 where
+  pub nodes : (f g : Forest) → preorder (joined f g) ≡ preorder f ++ preorder g
+  pub tokens : (f g : Forest) → tokens_of (joined f g) ≡ tokens_of f ++ tokens_of g
+  pub leaves : (f g : Forest) → leaves (joined f g) ≡ leaves f ++ leaves g
+  pub parts : (shut sought : List ℕ) (f g : Forest) →
+      parts_outside shut sought (joined f g) ≡ parts_outside shut sought f ++ parts_outside shut sought g
+  pub productions : (s : Source) (a : Around) (f g : Forest) → nodes_in s a (joined f g) ≡ nodes_in s a f ++ nodes_in s a g
 
 -- the nodes of a derivation are the preorder of a forest, and of one forest alone
 pub record OneForest : Type 0 where

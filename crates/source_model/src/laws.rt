@@ -1,6 +1,6 @@
 //! What follows of the definitions: a law each, as the contract of a function.
 
-ghost use Rattle.source_model.specs.Laws.{FirstIsLeast, ForestOpens, HasMeaning, OneForest, OneMeaning};
+ghost use Rattle.source_model.specs.Laws.{FirstIsLeast, ForestOpens, ForestsJoin, HasMeaning, OneForest, OneMeaning};
 
 use il_lexer::lexes_in_one_way;
 use ilasm_grammar::one_derivation;
@@ -14,6 +14,12 @@ pub fn derivations_are_forests()
 /// What the nodes of a forest say of it: at a branch, what stands below it and after it; at a leaf, what stands after it.
 pub fn forests_open()
     ensures { ForestOpens }
+{}
+
+/// What is looked for in two forests, one after the other, is what is found in each. So whoever walks the nodes may go from a
+/// branch to what stands below it, with what stands after it behind.
+pub fn forests_join()
+    ensures { ForestsJoin }
 {}
 
 /// The first rule that is broken is the one at the least token, and of several there the first of the table; and rules can be

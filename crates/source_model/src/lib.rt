@@ -7,5 +7,6 @@ mod laws;
 
 pub use fault::NameClass;
 pub use laws::{
-    derivations_are_forests, forests_open, one_meaning, sources_have_a_meaning, the_first_is_least,
+    derivations_are_forests, forests_join, forests_open, one_meaning, sources_have_a_meaning,
+    the_first_is_least,
 };
