@@ -1,6 +1,8 @@
 pub mod Bodies
 pub mod BodyFaults
+pub mod BodyNumbers
 pub mod Classes
+pub mod Clauses
 pub mod Constants
 pub mod Data
 pub mod DeclaredTwice
@@ -8,12 +10,14 @@ pub mod Denotes
 pub mod Faults
 pub mod Flags
 pub mod Forest
+pub mod Instructions
 pub mod Items
 pub mod Laws
 pub mod Manifests
 pub mod Members
 pub mod Names
 pub mod Nodes
+pub mod Operands
 pub mod OutOfRange
 pub mod Parameters
 pub mod References
@@ -24,3 +28,4 @@ pub mod TypeRules
 pub mod Types
 pub mod Undeclared
 pub mod Values
+pub mod Variables
