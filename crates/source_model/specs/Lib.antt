@@ -24,6 +24,7 @@ pub mod References
 pub mod Shapes
 pub mod Signatures
 pub mod Source
+pub mod TokenOrder
 pub mod TypeRules
 pub mod Types
 pub mod Undeclared

@@ -4,9 +4,11 @@
 
 mod fault;
 mod laws;
+mod order;
 
 pub use fault::NameClass;
 pub use laws::{
     derivations_are_forests, forests_join, forests_open, one_meaning, sources_have_a_meaning,
     the_first_is_least,
 };
+pub use order::tokens_stand_in_order;
