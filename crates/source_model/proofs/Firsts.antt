@@ -1,6 +1,6 @@
 -- The first of what is broken: it is among it, nothing stands before it, and lists are joined by their firsts.
-use Rattle.std.proofs.Common.{◌≡◌, ℕ, ◌<◌, ◌≤◌, ◌⊎◌, inl, inr, List, [], ◌∷◌, ◌++◌, length, zero, suc, ap, sym, ◌∙◌, refl, subst, arith}
-use Rattle.std.specs.Prelude.{Bool, true, false, ◌==◌, ◌&&◌, ◌||◌, nat_lt, if◌then◌else◌, Option, Some, None, slice_index_or}
+use Rattle.std.proofs.Common.{◌≡◌, ℕ, ◌<◌, ◌⊎◌, inl, inr, List, [], ◌∷◌, ◌++◌, length, zero, suc, ap, sym, ◌∙◌, refl, subst, arith}
+use Rattle.std.specs.Prelude.{false, Option, Some, None, slice_index_or}
 use Rattle.source_model.specs.Faults.{Broken, earlier, earliest, is_before}
 use Rattle.source_model.specs.Laws.{FirstIsLeast}
 

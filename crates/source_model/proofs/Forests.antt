@@ -1,7 +1,7 @@
 -- Each derivation is the preorder of one forest.
-use Rattle.std.proofs.Common.{◌≡◌, ℕ, ◌+◌, ◌≤◌, List, [], ◌∷◌, ◌++◌, length, length-append, take, drop, ap, sym, ◌∙◌, refl, subst, arith}
+use Rattle.std.proofs.Common.{◌≡◌, ℕ, ◌≤◌, List, [], ◌∷◌, ◌++◌, length, length-append, take, drop, ap, sym, ◌∙◌, refl, arith}
 use Rattle.std.proofs.Math.Seq.{take-append_seam, drop-append_seam}
-use Rattle.ilasm_grammar.specs.Grammar.{Grammar, Derives, Derives.none, Derives.leaf, Derives.branch}
+use Rattle.ilasm_grammar.specs.Grammar.{Grammar, Derives}
 use Rattle.ilasm_grammar.specs.declared.symbol.Symbol.{Symbol}
 use Rattle.ilasm_grammar.specs.declared.tree.TreeNode.{TreeNode}
 use Rattle.ilasm_grammar.specs.declared.tree.TreeNode.TheVariants.{Branch, Leaf}

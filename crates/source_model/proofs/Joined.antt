@@ -1,8 +1,7 @@
 -- What is looked for in two forests, one after the other.
 use Rattle.std.proofs.Common.{◌≡◌, ℕ, List, [], ◌∷◌, ◌++◌, ap, sym, ◌∙◌, refl}
-use Rattle.std.specs.Prelude.{◌==◌, if◌then◌else◌, length}
+use Rattle.std.specs.Prelude.{if◌then◌else◌, length}
 use Rattle.std.proofs.lemmas.List.{append_assoc}
-use Rattle.ilasm_grammar.specs.declared.tree.TreeNode.{TreeNode}
 use Rattle.ilasm_grammar.specs.declared.tree.TreeNode.TheVariants.{Branch, Leaf}
 use Rattle.source_model.specs.Forest as tree
 use Rattle.source_model.specs.Forest.{Forest, Part, part, preorder, tokens_of, leaves, parts_outside, is_among, joined}

@@ -17,7 +17,7 @@ use Rattle.source_model.specs.Classes.{assembly}
 use Rattle.source_model.specs.Denotes.{broken, Denotes, HasNameFault, IsRead}
 use Rattle.source_model.specs.Faults.{AllBroken, Broken, earlier, earliest, IsFirstFault, IsFaultless}
 use Rattle.source_model.specs.Forest.{Forest, preorder}
-use Rattle.source_model.specs.Laws.{HasMeaning, HasSomeFault, OneForest, OneMeaning}
+use Rattle.source_model.specs.Laws.{HasMeaning, HasSomeFault, OneMeaning}
 use Rattle.source_model.specs.Source.{Source, place_at}
 use Rattle.source_model.proofs.Forests.{one_forest}
 

@@ -1,6 +1,6 @@
 -- The derivation of a source as a forest: trees one after another, each a token or a production with what it was
 -- applied to (ECMA-335 II.5.1).
-use Rattle.std.specs.Prelude.{ℕ, ◌==◌, Bool, if◌then◌else◌, List, [], ◌∷◌, ◌++◌, length, Option, Some, None, slice_index_or}
+use Rattle.std.specs.Prelude.{ℕ, ◌==◌, Bool, true, false, if◌then◌else◌, List, [], ◌∷◌, ◌++◌, length, Option, Some, None, slice_index_or}
 use Rattle.std.specs.List.{list_any}
 use Rattle.ilasm_grammar.specs.declared.tree.TreeNode.{TreeNode}
 use Rattle.ilasm_grammar.specs.declared.tree.TreeNode.TheVariants.{Branch, Leaf}
@@ -92,7 +92,8 @@ abbrev pub the : ℕ → Forest → Forest
 the p f = first_or none (each p f)
 
 abbrev pub is_any_part : List Part → Bool
-is_any_part ps = list_any (λ p. p.production == p.production) ps
+is_any_part [] = false
+is_any_part (p ∷ ps) = true
 
 -- there is a part of this production
 abbrev pub has : ℕ → Forest → Bool

@@ -63,10 +63,6 @@ plain_items =
 abbrev pub items : Forest → List Part
 items f = parts plain_items f
 
--- the instructions of a method, in order
-abbrev pub instructions : Forest → List Part
-instructions f = parts (ITEM_INSTRUCTION ∷ []) f
-
 -- ---- runs of attributes
 
 -- The same items, with the begin and the end of each `.try` and of each of its blocks among them, which end a run.

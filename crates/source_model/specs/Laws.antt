@@ -1,5 +1,5 @@
 -- What follows of the definitions.
-use Rattle.std.specs.Prelude.{◌≡◌, ℕ, ◌<◌, ◌≤◌, ◌⊎◌, false, List, [], ◌∷◌, ◌++◌, length, take, drop, slice_index_or, Contains, Option, None, Some}
+use Rattle.std.specs.Prelude.{◌≡◌, ℕ, ◌<◌, ◌≤◌, ◌⊎◌, false, List, [], ◌∷◌, ◌++◌, length, take, drop, slice_index_or, Contains, None, Some}
 use Rattle.il_base.specs.declared.pos.Pos.{Pos}
 use Rattle.ilasm_grammar.specs.Grammar.{Grammar, Derives}
 use Rattle.ilasm_grammar.specs.declared.symbol.Symbol.{Symbol}

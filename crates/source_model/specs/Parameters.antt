@@ -8,7 +8,7 @@ use Rattle.assembly_tree.specs.declared.members.Param.{Param}
 use Rattle.ilasm_grammar.specs.declared.productions.TheConstants.{DEF_ARG, DEF_ARGS_OPT_SOME, NAME_OPT_SOME, FLAGS, PARAM_OF_BRACKET, PARAM_OF_TYPE, MEMBER_PARAM, TYPAR_BOUNDS, TYPAR_KEY_BRACKET, TYPAR_KEY_NAME}
 use Rattle.source_model.specs.Constants.{constant_of}
 use Rattle.source_model.specs.Flags.{parameter_words, parameter_flags_in, flags_of, flags_number, typar_flags, without_bits}
-use Rattle.source_model.specs.Forest.{Forest, none, Part, each, has, the, child, leaf_at}
+use Rattle.source_model.specs.Forest.{Forest, none, each, has, the, child, leaf_at, is_any_part}
 use Rattle.source_model.specs.Items.{Run}
 use Rattle.source_model.specs.Manifests.{attributes}
 use Rattle.source_model.specs.Nodes.{Around, typars, typar_names}
@@ -73,12 +73,9 @@ line_constant s before r = later_constant before (constant_of s r.head.below)
 abbrev pub parameter_name : Source → Forest → List ℕ
 parameter_name s f = if has NAME_OPT_SOME f then name_text s (leaf_at 0 (child (NAME_OPT_SOME ∷ []) f)) else []
 
-abbrev pub is_some_part : List Part → Bool
-is_some_part ps = nat_lt 0 (length ps)
-
 -- a parameter of which more is said than its type: it has a name or a flag, or a line speaks of it
 abbrev pub has_row : List Run → Forest → Bool
-has_row lines f = has NAME_OPT_SOME f || is_some_part (parameter_flags_in f) || nat_lt 0 (length lines)
+has_row lines f = has NAME_OPT_SOME f || is_any_part (parameter_flags_in f) || nat_lt 0 (length lines)
 
 -- Its row. HasDefault isn't in the tree (ECMA-335 II.23.1.13).
 abbrev pub row : Source → Around → ℕ → Forest → List Run → Param
