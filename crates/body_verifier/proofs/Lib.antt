@@ -1,6 +1,9 @@
 pub mod LinkLemmas
 pub mod Monotone
 pub mod Orders
+pub mod PathsRight
 pub mod Reduced
 pub mod Refining
+pub mod Shapes
 pub mod SoundRows
+pub mod Targets

@@ -448,13 +448,13 @@ module _ (w : Hierarchy) (R : Stack → Stack → Type 0) (r : Refines w R) wher
 
   -- ---- stacks
 
-  each_length : (ss ts : List Stack) → Each R ss ts → length ss ≡ length ts
+  pub each_length : (ss ts : List Stack) → Each R ss ts → length ss ≡ length ts
   each_length [] [] h = refl
   each_length [] (t ∷ ts) h = absurd h
   each_length (s ∷ ss) [] h = absurd h
   each_length (s ∷ ss) (t ∷ ts) h = ap suc (each_length ss ts h.1)
 
-  each_append : (ss ts us vs : List Stack) → Each R ss ts → Each R us vs → Each R (ss ++ us) (ts ++ vs)
+  pub each_append : (ss ts us vs : List Stack) → Each R ss ts → Each R us vs → Each R (ss ++ us) (ts ++ vs)
   each_append [] [] us vs h k = k
   each_append [] (t ∷ ts) us vs h k = absurd h
   each_append (s ∷ ss) [] us vs h k = absurd h
@@ -478,19 +478,19 @@ module _ (w : Hierarchy) (R : Stack → Stack → Type 0) (r : Refines w R) wher
   each_bad zero = tt
   each_bad (suc n) = (r.itself bad, each_bad n)
 
-  operands_lower : (n : ℕ) (ss ts : List Stack) → Each R ss ts → Each R (operands_of n ss) (operands_of n ts)
+  pub operands_lower : (n : ℕ) (ss ts : List Stack) → Each R ss ts → Each R (operands_of n ss) (operands_of n ts)
   operands_lower n ss ts h =
       let P : ℕ → Type 0 = λ (m : ℕ). Each R (operands_of n ss) (replicate (n - m) bad ++ drop (m - n) ts) in
       subst P (each_length ss ts h)
       (each_append (replicate (n - length ss) bad) (replicate (n - length ss) bad) (drop (length ss - n) ss) (drop (length ss - n) ts)
       (each_bad (n - length ss)) (each_drop (length ss - n) ss ts h))
 
-  below_lower : (n : ℕ) (ss ts : List Stack) → Each R ss ts → Each R (below_operands n ss) (below_operands n ts)
+  pub below_lower : (n : ℕ) (ss ts : List Stack) → Each R ss ts → Each R (below_operands n ss) (below_operands n ts)
   below_lower n ss ts h =
       let P : ℕ → Type 0 = λ (m : ℕ). Each R (below_operands n ss) (take (m - n) ts) in
       subst P (each_length ss ts h) (each_take (length ss - n) ss ts h)
 
-  results_lower : (x : Row) (ss ts : List Stack) → Each R ss ts → Each R (results x ss) (results x ts)
+  pub results_lower : (x : Row) (ss ts : List Stack) → Each R ss ts → Each R (results x ss) (results x ts)
   results_lower x ss ts h = all_given x.pushed (taken x ss) (taken x ts) (operands_lower (length x.operands) ss ts h)
 
   effect_by : (x : Row) (ss ts : List Stack) → Each R ss ts → (b : Bool)

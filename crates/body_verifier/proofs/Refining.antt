@@ -171,7 +171,7 @@ module _ (w : Hierarchy) (height : SigType → ℕ) (g : IsGrounded w height) wh
     numeric = λ n h. absurd (no_numeric w e n b h);
   }
 
-  self_under : (s : Stack) → (s ≡ bad → ⊥) → Under w s s
+  pub self_under : (s : Stack) → (s ≡ bad → ⊥) → Under w s s
   self_under s h = assigned (same h)
 
   reduced_elements : (d e : SigType) → reduced_type w d ≡ reduced_type w e → LowerElement w (Under w) d e
@@ -237,7 +237,7 @@ module _ (w : Hierarchy) (height : SigType → ℕ) (g : IsGrounded w height) wh
   under_vector s (ptr t) e b h = absurd (let f : ⊥ = cc in f)
   under_vector s bad e b h = absurd (let f : ⊥ = cc in f)
 
-  under_itself : (s : Stack) → Under w s s
+  pub under_itself : (s : Stack) → Under w s s
   under_itself bad = under_bad
   under_itself i4 = self_under i4 (λ f. let x : ⊥ = cc in x)
   under_itself i8 = self_under i8 (λ f. let x : ⊥ = cc in x)

@@ -17,6 +17,10 @@ taken r s = operands_of (length r.operands) s
 abbrev pub results : Row → List Stack → List Stack
 results r s = map (given (taken r s)) r.pushed
 
--- the stack afterwards: the operands give way to the results
+-- the stack once the operands have given way to values
+abbrev pub left_with : Row → List Stack → List Stack → List Stack
+left_with r s values = if r.empties then [] else below_operands (length r.operands) s ++ values
+
+-- the stack afterwards
 abbrev pub effect : Row → List Stack → List Stack
-effect r s = if r.empties then [] else below_operands (length r.operands) s ++ results r s
+effect r s = left_with r s (results r s)

@@ -1,6 +1,8 @@
 -- Laws of demands and effects, and of least typings, over every hierarchy in which parents and interfaces come to an end.
-use Rattle.std.specs.Prelude.{◌≡◌, ℕ, ◌<◌, List, length, slice_get, Some}
+use Rattle.std.specs.Prelude.{◌≡◌, ℕ, ◌<◌, List, length, slice_get, Some, IsTrue}
+use Rattle.std.specs.List.{list_all}
 use Rattle.assembly_tree.specs.declared.body.Ins.{Ins}
+use Rattle.assembly_tree.specs.WellFormedBodies.{is_instruction, is_clause}
 use Rattle.assignability.specs.Hierarchy.{Hierarchy}
 use Rattle.assignability.specs.Stack.{Stack, bad}
 use Rattle.assignability.specs.Relations.{Assignable, Below}
@@ -9,7 +11,9 @@ use Rattle.body_verifier.specs.Stacks.{Each}
 use Rattle.body_verifier.specs.Demands.{Demand, Meets, MeetTogether}
 use Rattle.body_verifier.specs.Rows.{Row, row_of}
 use Rattle.body_verifier.specs.Effects.{results, effect}
-use Rattle.body_verifier.specs.Typings.{Typing, IsLeast}
+use Rattle.body_verifier.specs.Typings.{Typing, IsSolution, IsLeast}
+use Rattle.body_verifier.specs.Rules.{BreaksFirst}
+use Rattle.body_verifier.specs.Paths.{NeverWrong}
 
 -- a value of the first type may stand where the second is wanted, or the second is Bad
 pub data Under (w : Hierarchy) : Stack → Stack → Type 0 where
@@ -31,3 +35,19 @@ pub record AreMonotone (f : Frame) : Type 0 where
 -- two least typings are the same at each instruction
 abbrev pub HasOneLeast : Frame → Type 0
 HasOneLeast f = (x y : Typing) → IsLeast f x → IsLeast f y → (k : ℕ) → k < length f.code → x k ≡ y k
+
+-- ---- paths
+
+-- targets are instructions, and clauses lie in the code (as in each well-formed body)
+pub record IsFormed (f : Frame) : Type 0 where
+  pub some : 0 < length f.code
+  pub targets : IsTrue (list_all (is_instruction (length f.code)) f.code)
+  pub clauses : IsTrue (list_all (is_clause (length f.code)) f.clauses)
+
+-- no reached instruction breaks a rule
+abbrev pub BreaksNothing : Frame → Typing → Type 0
+BreaksNothing f typing = (k rule : ℕ) → k < length f.code → BreaksFirst f typing k rule → ⊥
+
+-- where nothing breaks a rule in a solution, no path goes wrong
+abbrev pub PathsAreRight : Frame → Type 0
+PathsAreRight f = (typing : Typing) → IsSolution f typing → BreaksNothing f typing → NeverWrong f

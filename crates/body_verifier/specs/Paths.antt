@@ -9,7 +9,7 @@ use Rattle.body_verifier.specs.Stacks.{Each}
 use Rattle.body_verifier.specs.Frames.{Frame}
 use Rattle.body_verifier.specs.Demands.{Demand, Meets, MeetTogether}
 use Rattle.body_verifier.specs.Rows.{Row, row_of}
-use Rattle.body_verifier.specs.Effects.{below_operands, taken, results}
+use Rattle.body_verifier.specs.Effects.{taken, results, left_with}
 use Rattle.body_verifier.specs.Edges.{Carries, flowing, stated, Edge}
 
 -- where control is, and the types of the values on the stack, the first that was pushed first
@@ -39,11 +39,11 @@ pub data StandsFor (w : Hierarchy) : Stack → Stack → Type 0 where
 abbrev pub StandFor : Hierarchy → List Stack → List Stack → Type 0
 StandFor w s t = Each (StandsFor w) s t
 
--- the stack after an instruction without `leave` and the end of a finally
+-- the stack after an instruction, whose results are these values
 pub record Flows (f : Frame) (r : Row) (before after : List Stack) : Type 0 where
   pub values : List Stack
   pub stand : StandFor f.types values (results r before)
-  pub is : after ≡ below_operands (length r.operands) before ++ values
+  pub is : after ≡ left_with r before values
 
 abbrev pub Becomes : Frame → Ins → Point → Carries → List Stack → Type 0
 Becomes f i p flowing after = Flows f (row_of f p.at i) p.stack after

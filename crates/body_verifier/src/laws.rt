@@ -2,7 +2,7 @@ ghost use Rattle.std.specs.Prelude.{ℕ};
 ghost use Rattle.type_terms.specs.declared.term.SigType.{SigType};
 ghost use Rattle.assignability.specs.Laws.{IsGrounded};
 ghost use Rattle.body_verifier.specs.Frames.{Frame};
-ghost use Rattle.body_verifier.specs.Laws.{AreMonotone, HasOneLeast};
+ghost use Rattle.body_verifier.specs.Laws.{AreMonotone, HasOneLeast, IsFormed, PathsAreRight};
 
 use assignability::{assignable_is_a_preorder, joins_are_least_upper_bounds};
 
@@ -20,4 +20,14 @@ pub fn a_body_has_one_least_typing()
     ensures { (f : Frame) (height : SigType → ℕ) → IsGrounded f.types height → HasOneLeast f }
 {
     joins_are_least_upper_bounds();
+}
+
+/// Where no reached instruction breaks a rule, every path of a well-formed body meets each demand on its
+/// operands, whatever types values have there that may stand where theirs are stated, and stays in the
+/// code. It does nothing when it is called.
+pub fn paths_are_right()
+    ensures { (f : Frame) (height : SigType → ℕ) → IsGrounded f.types height → IsFormed f → PathsAreRight f }
+{
+    assignable_is_a_preorder();
+    instructions_are_monotone();
 }

@@ -10,7 +10,7 @@ mod report;
 mod rule;
 mod worklist;
 
-pub use laws::{a_body_has_one_least_typing, instructions_are_monotone};
+pub use laws::{a_body_has_one_least_typing, instructions_are_monotone, paths_are_right};
 pub use report::{Failure, Report};
 pub use rule::rule_text;
 pub use worklist::Worklist;
