@@ -1,5 +1,8 @@
+pub mod Levels
 pub mod LinkLemmas
+pub mod Members
 pub mod Monotone
+pub mod Nesting
 pub mod Orders
 pub mod PathsRight
 pub mod Reduced

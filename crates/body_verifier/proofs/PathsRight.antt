@@ -1,29 +1,28 @@
 -- Every path of a body whose typing breaks no rule has the depth of the typing and types that may stand for its types, so
 -- that it meets each demand.
-use Rattle.std.proofs.Common.{◌≡◌, ◌⊎◌, inl, inr, ℕ, zero, suc, ◌+◌, ◌<◌, ◌≤◌, Bool, true, false, ◌||◌, List, [], ◌∷◌, ◌++◌, length, get_or, refl, sym, ◌∙◌, ap, subst, Option, None, Some, IsTrue, arith}
+use Rattle.std.proofs.Common.{◌≡◌, inl, inr, ℕ, zero, suc, ◌+◌, ◌<◌, Bool, true, false, List, [], ◌∷◌, ◌++◌, length, get_or, refl, sym, ◌∙◌, ap, subst, Option, None, Some, IsTrue, arith}
 use Rattle.std.specs.Prelude.{slice_get, is_some, if◌then◌else◌}
-use Rattle.std.proofs.lemmas.Bool.{cases_lt, cases_Bool}
+use Rattle.std.proofs.lemmas.Bool.{cases_lt}
 use Rattle.type_terms.specs.declared.term.SigType.{SigType}
-use Rattle.assembly_tree.specs.declared.body.Clause.{Clause}
 use Rattle.assembly_tree.specs.declared.body.Ins.{Ins}
 use Rattle.assignability.specs.Hierarchy.{Hierarchy, Up, itself, to_parent, Chain, alone, further}
 use Rattle.assignability.specs.Stack.{Stack, null, ref, boxed, bad}
 use Rattle.assignability.specs.Relations.{Assignable, same, null_ref, null_boxed, ref_up, boxed_parent, Below, equal, below_bad, null_below_ref, null_below_boxed, ref_chain, boxed_chain}
 use Rattle.assignability.specs.Laws.{IsGrounded, IsTransitive}
-use Rattle.body_verifier.specs.Demands.{Demand, nothing, any, number, integer, index, object, condition, comparable, exactly, one_of, to, object_pointer, vector, vector_of, object_vector, Together, apart, paired, stored, Pairing, referent, first, second, go_together, Meets, MeetTogether, StoredIn, HasWrongKind, FailsToAssign, AreMismatched, FailToStore, NotStored}
+use Rattle.body_verifier.specs.Demands.{Demand, nothing, any, number, integer, index, object, condition, comparable, exactly, one_of, to, object_pointer, vector, vector_of, object_vector, Together, stored, referent, first, second, go_together, Meets, MeetTogether, StoredIn, HasWrongKind, FailsToAssign, AreMismatched, FailToStore, NotStored}
 use Rattle.body_verifier.specs.Frames.{Frame}
 use Rattle.body_verifier.specs.Rows.{Row, row_of}
 use Rattle.body_verifier.specs.Stacks.{Each}
-use Rattle.body_verifier.specs.Effects.{taken, results, below_operands, left_with, effect}
-use Rattle.body_verifier.specs.Edges.{Does, falls, Carries, flowing, stated, Leaves, Edge, fall, branch, leave, leave_finally, next_finally, finally_left, catches, filters, filtered, finally, fault}
-use Rattle.body_verifier.specs.Typings.{State, unreached, stack, clash, Typing, AtMost, below_all, above_all, stacks, carried, stack_after, IsSolution}
-use Rattle.body_verifier.specs.Rules.{Breaks, v1, v2, v4, v5, v5_stored, v6, v7, BreaksFirst}
-use Rattle.body_verifier.specs.Paths.{Point, AreMet, IsWrong, past, too_few, unmet, StandsFor, for_bad, assigned as stands, Flows, Becomes, Steps, Reaches, start, step, NeverWrong}
-use Rattle.body_verifier.specs.Laws.{Under, assigned, under_bad, IsMonotone, AreMonotone, IsFormed, BreaksNothing}
+use Rattle.body_verifier.specs.Effects.{taken, results, below_operands, effect}
+use Rattle.body_verifier.specs.Edges.{Carries, flowing, stated, Edge, fall, branch, leave, leave_finally, next_finally, finally_left, catches, filters, filtered, finally, fault}
+use Rattle.body_verifier.specs.Typings.{State, unreached, stack, clash, Typing, AtMost, stacks, carried, stack_after, IsSolution}
+use Rattle.body_verifier.specs.Rules.{Breaks, v1, v2, v4, v5, v5_stored, v6, v7}
+use Rattle.body_verifier.specs.Paths.{Point, AreMet, IsWrong, past, too_few, unmet, StandsFor, for_bad, assigned as stands, Becomes, Steps, Reaches, start, step, NeverWrong}
+use Rattle.body_verifier.specs.Laws.{Under, assigned, under_bad, AreMonotone, IsFormed, BreaksNothing}
 use Rattle.body_verifier.proofs.Refining.{Refines, under_refines}
 use Rattle.body_verifier.proofs.Monotone.{each_length, each_append, operands_lower, below_lower}
 use Rattle.body_verifier.proofs.Shapes.{Shape, none, pair, store, shape_of}
-use Rattle.body_verifier.proofs.Targets.{target_within, ClauseWithin, clause_at, clause_in}
+use Rattle.body_verifier.proofs.Targets.{target_within, clause_at, clause_in}
 
 -- ---- relations after one another
 
@@ -200,14 +199,14 @@ module _ (f : Frame) (height : SigType → ℕ) (g : IsGrounded f.types height) 
   met_beside p b i at n =
       let r = row_of f p.at i in
       let e : Each (Under f.types) (taken r p.stack) (taken r b.types) =
-        operands_lower f.types (Under f.types) refines (length r.operands) p.stack b.types b.under in
+      operands_lower f.types (Under f.types) refines (length r.operands) p.stack b.types b.under in
       let m = mono.values p.at i in
       all_met f.types r.operands (λ n. get_or (taken r b.types) n bad) (no_unmet p.at i b.types b.below b.is at) (λ met.
-        no_mismatch p.at i b.types b.below b.is at met (λ both. n (record {
-          each = λ n d here. m.demands n d (get_or (taken r p.stack) n bad) (get_or (taken r b.types) n bad) here
-              (each_at f.types trans (taken r p.stack) (taken r b.types) e n) (met n d here);
-          together = m.together (taken r p.stack) (taken r b.types) e both;
-        })))
+      no_mismatch p.at i b.types b.below b.is at met (λ both. n (record {
+        each = λ n d here. m.demands n d (get_or (taken r p.stack) n bad) (get_or (taken r b.types) n bad) here
+            (each_at f.types trans (taken r p.stack) (taken r b.types) e n) (met n d here);
+        together = m.together (taken r p.stack) (taken r b.types) e both;
+      })))
 
   not_wrong : (p : Point) → Beside p → IsWrong f p → ⊥
   not_wrong p b (past h) = omega (arith, b.below)
@@ -220,9 +219,9 @@ module _ (f : Frame) (height : SigType → ℕ) (g : IsGrounded f.types height) 
 
   edge_within : (k t : ℕ) (c : Carries) (s : List Stack) → k < length f.code → typing k ≡ stack s → Edge f k t c → t < length f.code
   edge_within k t c s below is (fall d h e) = elim (cases_lt (k + 1) (length f.code)) [
-      | inl less ↦ omega (arith, e)
-      | inr far ↦ absurd (no_break k s below is 6 (v6 d h (omega arith)))
-    ]
+    | inl less ↦ omega (arith, e)
+    | inr far ↦ absurd (no_break k s below is 6 (v6 d h (omega arith)))
+  ]
   edge_within k t x s below is (branch {i = i} d h c) = target_within f formed k i t d.is c
   edge_within k t c s below is (leave l out) = target_within f formed k l.ins t l.is.is l.to
   edge_within k t c s below is (leave_finally {place = place} {c = d} x e) = omega (arith, e, (clause_at f formed place d x.crosses.is).handler)
@@ -240,17 +239,18 @@ module _ (f : Frame) (height : SigType → ℕ) (g : IsGrounded f.types height) 
   left_under r before types values h v true = tt
   left_under r before types values h v false =
       each_append f.types (Under f.types) refines (below_operands (length r.operands) before) (below_operands (length r.operands) types) values (results r types)
-          (below_lower f.types (Under f.types) refines (length r.operands) before types h) v
+      (below_lower f.types (Under f.types) refines (length r.operands) before types h) v
 
   carried_under : (p : Point) (b : Beside p) (i : Ins) → slice_get f.code p.at ≡ Some i → (c : Carries) (after : List Stack) → Becomes f i p c after
       → (x : List Stack) × (carried f p.at c (stack b.types) ≡ stack x) × Each (Under f.types) after x
   carried_under p b i at flowing after m =
       let r = row_of f p.at i in
       let mono_results = (mono.values p.at i).results p.stack b.types b.under in
-      let values = each_stands_under f.types trans m.values (results r p.stack) (results r b.types) m.stand mono_results in
-      (effect r b.types,
+      let values = each_stands_under f.types trans m.values (results r p.stack) (results r b.types) m.stand mono_results in (
+        effect r b.types,
         ap (λ (o : Option Ins). stack (stack_after f p.at o b.types)) at,
-        subst (λ (l : List Stack). Each (Under f.types) l (effect r b.types)) (sym m.is) (left_under r p.stack b.types m.values b.under values r.empties))
+        subst (λ (l : List Stack). Each (Under f.types) l (effect r b.types)) (sym m.is) (left_under r p.stack b.types m.values b.under values r.empties),
+      )
   carried_under p b i at (stated s) after m = (s, refl, each_stands f.types trans after s m)
 
   next_beside : (p q : Point) → Beside p → Steps f p q → Beside q

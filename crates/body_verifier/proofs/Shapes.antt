@@ -1,5 +1,5 @@
 -- Which demands stand beside one on operands together.
-use Rattle.std.proofs.Common.{◌≡◌, ℕ, List, [], ◌∷◌, refl, Option, None, Some}
+use Rattle.std.proofs.Common.{◌≡◌, ℕ, [], ◌∷◌, refl, Option, None, Some}
 use Rattle.type_terms.specs.declared.term.SigType.{SigType}
 use Rattle.assembly_tree.specs.declared.body.Ins.{Ins}
 use Rattle.assembly_tree.specs.declared.body.Operand as operand
@@ -8,7 +8,7 @@ use Rattle.body_verifier.specs.declared.operation.Operation.{Operation}
 use Rattle.body_verifier.specs.declared.operation.Operation.TheVariants as does
 use Rattle.body_verifier.specs.Frames.{Frame}
 use Rattle.body_verifier.specs.Operations.{operation}
-use Rattle.body_verifier.specs.Demands.{Demand, any, comparable, object_pointer, Together, apart, paired, stored, Pairing}
+use Rattle.body_verifier.specs.Demands.{any, comparable, object_pointer, apart, paired, stored, Pairing}
 use Rattle.body_verifier.specs.Rows.{Row, row_of, row_by, load_row, store_row, argument, local, named_field_row, method_row, constraint}
 
 pub data Shape (r : Row) : Type 0 where

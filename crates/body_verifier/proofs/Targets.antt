@@ -1,16 +1,16 @@
 -- Edges of a well-formed body lead to instructions.
-use Rattle.std.proofs.Common.{◌≡◌, ℕ, zero, suc, ◌+◌, ◌<◌, ◌≤◌, Bool, true, false, ◌&&◌, List, [], ◌∷◌, length, refl, sym, ◌∙◌, ap, subst, Option, None, Some, IsTrue, arith}
-use Rattle.std.specs.Prelude.{slice_get, nat_lt, nat_le, slice_index_or}
+use Rattle.std.proofs.Common.{◌≡◌, ℕ, zero, suc, ◌<◌, ◌≤◌, Bool, true, ◌&&◌, List, [], ◌∷◌, length, sym, ◌∙◌, ap, Some, arith}
+use Rattle.std.specs.Prelude.{slice_get, nat_lt, nat_le}
 use Rattle.std.specs.List.{Contains, list_all}
 use Rattle.std.proofs.lemmas.Bool.{and_parts, ltb-true, leb-true}
 use Rattle.assembly_tree.specs.declared.body.Clause.{Clause}
 use Rattle.assembly_tree.specs.declared.body.ClauseKind.{ClauseKind}
-use Rattle.assembly_tree.specs.declared.body.ClauseKind.TheVariants.{Catch, Filter, Finally, Fault}
+use Rattle.assembly_tree.specs.declared.body.ClauseKind.TheVariants.{Filter}
 use Rattle.assembly_tree.specs.declared.body.Ins.{Ins}
 use Rattle.assembly_tree.specs.declared.body.Operand as operand
 use Rattle.assembly_tree.specs.WellFormedBodies.{is_instruction, is_clause, are_targets, fits_kind, operand_kind, is_forward, is_inside, filter_before, is_filter_inside}
 use Rattle.body_verifier.specs.Frames.{Frame}
-use Rattle.body_verifier.specs.Edges.{Does, targets, Leaves, Guards}
+use Rattle.body_verifier.specs.Edges.{targets}
 use Rattle.body_verifier.specs.Laws.{IsFormed}
 
 pub all_at : {X : Type 0} (p : X → Bool) (xs : List X) (k : ℕ) (x : X) → list_all p xs ≡ true → slice_get xs k ≡ Some x → p x ≡ true

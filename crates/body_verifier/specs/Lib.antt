@@ -1,3 +1,4 @@
+pub mod BlockTests
 pub mod Blocks
 pub mod Demands
 pub mod Edges

@@ -1,6 +1,6 @@
 -- Single paths through a body with the types that values really have there (ECMA-335 I.12.3.2, III.1.5): nothing is merged,
 -- and a value may have any type that may stand where its type is stated.
-use Rattle.std.specs.Prelude.{◌≡◌, ℕ, ◌<◌, ◌≤◌, List, [], ◌++◌, length, get_or, slice_get, Some}
+use Rattle.std.specs.Prelude.{◌≡◌, ℕ, ◌<◌, ◌≤◌, List, [], length, get_or, slice_get, Some}
 use Rattle.assembly_tree.specs.declared.body.Ins.{Ins}
 use Rattle.assignability.specs.Hierarchy.{Hierarchy}
 use Rattle.assignability.specs.Stack.{Stack, bad}
