@@ -1,6 +1,6 @@
 -- The token of a term among entries with terms and tokens, and one entry more.
 use base.Stored.{Gv, gnil, gnum, gcons, Coded}
-use Rattle.std.proofs.Common.{◌≡◌, ap, refl, sym, ◌∙◌, subst, ℕ, zero, suc, ◌<◌, Bool, true, false, ◌&&◌, cond, List, [], ◌∷◌, ◌++◌, map, take, length, Option, Some, None, true≢false, nat_eq, inl, inr, arith}
+use Rattle.std.proofs.Common.{◌≡◌, ap, refl, sym, ◌∙◌, subst, ℕ, zero, suc, ◌<◌, true, ◌&&◌, cond, List, [], ◌∷◌, ◌++◌, map, take, length, Option, Some, None, true≢false, nat_eq, inl, inr, arith}
 use Rattle.std.specs.Prelude.{slice_get}
 use Rattle.std.specs.Cmp.{first_so, second_so}
 use Rattle.std.proofs.lemmas.List.{take_at, length-map}

@@ -1,4 +1,5 @@
 pub mod ChainLemmas
 pub mod FoundLemmas
 pub mod HashLemmas
+pub mod PathLemmas
 pub mod RowLemmas

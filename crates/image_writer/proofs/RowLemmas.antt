@@ -1,6 +1,7 @@
 -- Where cells stand among the rows of a set.
-use Rattle.std.proofs.Common.{◌≡◌, ap, refl, sym, ◌∙◌, subst, ℕ, zero, suc, ◌<◌, Bool, true, false, ◌||◌, ◌&&◌, List, [], ◌∷◌, ◌++◌, length, get_or, IfSome, IfNone, is_some, Option, Some, None, true≢false, nat_eq, arith}
+use Rattle.std.proofs.Common.{◌⊎◌, inl, inr, ◌-◌, ◌≡◌, ap, refl, sym, ◌∙◌, subst, ℕ, zero, suc, ◌<◌, Bool, true, false, ◌||◌, ◌&&◌, List, [], ◌∷◌, ◌++◌, length, get_or, Some, true≢false, nat_eq, arith}
 use Rattle.std.specs.Prelude.{slice_get}
+use Rattle.image_writer.specs.Rows.{IsRowAt, Lacks, AreDistinct}
 use Rattle.std.specs.Bool.{Decides}
 use Rattle.std.specs.Cmp.{first_so, second_so}
 use Rattle.std.specs.List.{position, list_any}
@@ -69,3 +70,28 @@ decides_cells a b = (
 pub last_row : (xs : List Cells) (x : Cells) → slice_get (xs ++ x ∷ []) (length xs) ≡ Some x
 last_row [] x = refl
 last_row (y ∷ xs) x = last_row xs x
+
+-- ---- distinct rows
+
+snoc_cases : (xs : List Cells) (x y : Cells) (k : ℕ) → slice_get (xs ++ x ∷ []) k ≡ Some y
+    → (slice_get xs k ≡ Some y) ⊎ ((k ≡ length xs) × (y ≡ x))
+snoc_cases [] x y zero h = inr (refl, cc)
+snoc_cases [] x y (suc k) h = absurd cc
+snoc_cases (z ∷ xs) x y zero h = inl h
+snoc_cases (z ∷ xs) x y (suc k) h = elim (snoc_cases xs x y k h) [ inl e ↦ inl e | inr e ↦ inr (ap suc e.0, e.1) ]
+
+pub distinct_more : (xs : List Cells) (x : Cells) → AreDistinct xs → Lacks xs x → AreDistinct (xs ++ x ∷ [])
+distinct_more xs x distinct lacks j k c p q = elim (snoc_cases xs x c j p) [
+  | inl old ↦ elim (snoc_cases xs x c k q) [
+    | inl also ↦ distinct j k c old also
+    | inr new ↦ absurd (lacks j (old ∙ ap Some new.1))
+  ]
+  | inr new ↦ elim (snoc_cases xs x c k q) [
+    | inl also ↦ absurd (lacks k (also ∙ ap Some new.1))
+    | inr too ↦ new.0 ∙ sym too.0
+  ]
+]
+
+-- a row is where it is found
+pub only_row : (xs : List Cells) (x : Cells) (row other : ℕ) → AreDistinct xs → IsRowAt xs x row → IsRowAt xs x other → row ≡ other
+only_row xs x row other distinct a b = let e = distinct (row - 1) (other - 1) x a.at b.at in let p = a.counted in let q = b.counted in omega arith

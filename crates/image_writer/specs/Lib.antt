@@ -4,4 +4,6 @@ pub mod Hashing
 pub mod Indexes
 pub mod KnownTokens
 pub mod Rows
+pub mod Texts
+pub mod TypePaths
 pub mod Units

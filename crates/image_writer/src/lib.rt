@@ -8,4 +8,6 @@ mod hashing;
 mod heap_contents;
 mod known;
 mod row_set;
+mod texts;
 mod tokens;
+mod type_paths;

@@ -1,5 +1,5 @@
 //! Rows that are found again by their cells.
-ghost use Rattle.std.specs.Prelude.{◌≡◌, ◌-◌, ◌^◌, ◌<◌, ◌++◌, ◌∷◌, ◌⊎◌, [], length, slice_get, Some, IfSome, IfNone, IfOk, OnOk, OnErr};
+ghost use Rattle.std.specs.Prelude.{◌≡◌, ℕ, ◌-◌, ◌^◌, ◌<◌, ◌++◌, ◌∷◌, ◌⊎◌, [], length, slice_get, Some, IfSome, IfNone, IfOk, OnOk, OnErr};
 
 use il_base::NoMemory;
 use indexmap::IndexSet;
@@ -28,11 +28,13 @@ impl Model for RowSet {
 
     ghost view = { λ r. r.rows.keys };
 
-    ghost invariant = { λ r. length r.rows.keys < 2 ^ 24 };
+    ghost use Rattle.image_writer.specs.Rows.{AreDistinct};
+
+    ghost invariant = { λ r. (length r.rows.keys < 2 ^ 24) × AreDistinct r.rows.keys };
 }
 
 impl RowSet {
-    ghost use Rattle.image_writer.specs.Rows.{IsRowAt, Lacks};
+    ghost use Rattle.image_writer.specs.Rows.{IsRowAt, Lacks, AreDistinct};
 
     /// No rows. Takes no memory.
     pub(crate) fn new(alloc: Global) -> RowSet
@@ -47,6 +49,7 @@ impl RowSet {
     pub(crate) fn len(&self) -> usize
         ensures len { result ≡ length self.now }
         ensures few { result < 2 ^ 24 }
+        ensures distinct { AreDistinct self.now }
     {
         self.rows.len()
     }
@@ -62,6 +65,7 @@ impl RowSet {
     /// The number of the row with these cells. Takes no memory.
     pub(crate) fn find(&self, cells: Cells) -> Option<u32>
         ensures found { IfSome result (IsRowAt self.now cells) }
+        ensures only { IfSome result (λ row. (other : ℕ) → IsRowAt self.now cells other → row ≡ other) }
         ensures none { IfNone result (Lacks self.now cells) }
         ensures few { IfSome result (λ row. row < 2 ^ 24) }
     {

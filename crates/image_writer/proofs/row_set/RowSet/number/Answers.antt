@@ -1,4 +1,4 @@
-use Rattle.std.proofs.Common.{◌≡◌, ◌∙◌, ap, ℕ, ◌+◌, ◌-◌, [], ◌∷◌, ◌++◌, length, Some, arith, if◌then◌else◌}
+use Rattle.std.proofs.Common.{◌≡◌, ◌∙◌, ap, ◌+◌, ◌-◌, [], ◌∷◌, ◌++◌, length, arith, if◌then◌else◌}
 use Rattle.std.proofs.lemmas.List.{length-append}
 use Rattle.image_writer.proofs.RowLemmas.{lacking, decides_cells, last_row}
 use Rattle.image_writer.proofs.row_set.RowSet.number.Goals as goal
