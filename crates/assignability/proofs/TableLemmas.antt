@@ -39,7 +39,7 @@ name_decides a b = Decides-like (same_name a b)
 
 -- ---- look-up
 
-test_false : (a b : TypeName) → (a ≡ b → ⊥) → same_name a b ≡ false
+pub test_false : (a b : TypeName) → (a ≡ b → ⊥) → same_name a b ≡ false
 test_false a b n = elim (cases_Bool (same_name a b)) [
   | inl e ↦ absurd (n ((name_decides a b).0 e))
   | inr e ↦ e

@@ -1,6 +1,7 @@
 -- What the assemblies of a world declare (ECMA-335 I.8.5.2, II.10, II.14.3, II.22.37), and the hierarchy that comes of it.
 use Rattle.std.specs.Prelude.{Bool, false, ◌&&◌, ◌||◌, not, nat_eq, bit_and, if◌then◌else◌, List, map, Option, None, Some, option_and_then}
 use Rattle.std.specs.List.{flat_map, filter_map, find}
+use Rattle.type_terms.specs.declared.name.Scope.{Scope}
 use Rattle.type_terms.specs.declared.name.TypeId.{TypeId}
 use Rattle.type_terms.specs.declared.name.TypeName.{TypeName}
 use Rattle.type_terms.specs.declared.term.Primitive.{Primitive}
@@ -10,6 +11,7 @@ use Rattle.type_terms.specs.declared.term.Owner.TheOpen.{SigType-F, Prim, Class,
 use Rattle.type_terms.specs.declared.term.SigType.{SigType, out-SigType}
 use Rattle.assembly_tree.specs.declared.members.Field.{Field}
 use Rattle.assembly_tree.specs.declared.typedef.TypeDef.{TypeDef}
+use Rattle.assembly_tree.specs.declared.typedef.TypeDef.TheOpen.{TypeDef-F}
 use Rattle.assembly_tree.specs.declared.typedef.TypeDef.TheViews.{out-TypeDef}
 use Rattle.assembly_tree.specs.DataSize.{type_at}
 use Rattle.assignability.specs.Names.{same_path, same_scope, is_among, the_object, the_value_type, the_enum, is_integral}
@@ -39,31 +41,37 @@ abbrev pub no_values : TypeName → Bool
 no_values name = false
 
 -- to normalise a base where only its name matters
-abbrev pub plain : Sources → Member → Reading
-plain s m = record { core = core_of s; scope = scope_in s m; is_value = no_values }
+abbrev pub plain_in : Scope → (Scope → Scope) → Reading
+plain_in core scope = record { core = core; scope = scope; is_value = no_values }
 
--- whether a name is that of a class of the core
+-- whether a name is that of a class of the core, which has that scope
+abbrev pub is_class_of : Scope → List TypeId → TypeName → Bool
+is_class_of core path name = same_scope name.scope core && same_path name.path path
+
 abbrev pub is_core_class : Sources → List TypeId → TypeName → Bool
-is_core_class s path name = same_scope name.scope (core_of s) && same_path name.path path
+is_core_class s path name = is_class_of (core_of s) path name
 
-abbrev pub layer_is_class : Sources → List TypeId → SigType-F Owner SigType → Bool
-layer_is_class s path (Class name) = is_core_class s path name
-layer_is_class s path (Prim p) = false
-layer_is_class s path (Value name) = false
-layer_is_class s path (Inst value name args) = false
-layer_is_class s path (Var n) = false
-layer_is_class s path (MVar n) = false
-layer_is_class s path (SzArray of) = false
-layer_is_class s path (Array of rank sizes lower) = false
-layer_is_class s path (ByRef of) = false
-layer_is_class s path (Pointer of) = false
-layer_is_class s path (Mod required by of) = false
-layer_is_class s path (Pinned of) = false
+abbrev pub layer_is_class : Scope → List TypeId → SigType-F Owner SigType → Bool
+layer_is_class core path (Class name) = is_class_of core path name
+layer_is_class core path (Prim p) = false
+layer_is_class core path (Value name) = false
+layer_is_class core path (Inst value name args) = false
+layer_is_class core path (Var n) = false
+layer_is_class core path (MVar n) = false
+layer_is_class core path (SzArray of) = false
+layer_is_class core path (Array of rank sizes lower) = false
+layer_is_class core path (ByRef of) = false
+layer_is_class core path (Pointer of) = false
+layer_is_class core path (Mod required by of) = false
+layer_is_class core path (Pinned of) = false
 
 -- whether a base is that class of the core
+abbrev pub base_is_in : Scope → (Scope → Scope) → List TypeId → Option Owner → Bool
+base_is_in core scope path None = false
+base_is_in core scope path (Some o) = layer_is_class core path (out-SigType (normal_owner (plain_in core scope) o))
+
 abbrev pub base_is : Sources → List TypeId → Member → Option Owner → Bool
-base_is s path m None = false
-base_is s path m (Some o) = layer_is_class s path (out-SigType (normal_owner (plain s m) o))
+base_is s path m o = base_is_in (core_of s) (scope_in s m) path o
 
 -- whether a type is declared with that class of the core as its base
 abbrev pub has_base : Sources → List TypeId → Option Place → Bool
@@ -111,11 +119,6 @@ abbrev pub base_in : Reading → Option Owner → Option SigType
 base_in r None = None
 base_in r (Some o) = Some (counted (normal_owner r o))
 
--- the core's Object has no base, whatever its declaration says
-abbrev pub base_of : Sources → TypeName → Place → Option SigType
-base_of s name p =
-    if is_core_class s the_object name then None else base_in (reading s p.member) (out-TypeDef p.typedef).extends
-
 -- an interface that is neither a name nor an instantiation counts as none
 abbrev pub interface_layer : SigType → SigType-F Owner SigType → Option SigType
 interface_layer t (Class name) = Some t
@@ -134,8 +137,8 @@ interface_layer t (Pinned of) = None
 abbrev pub interface_in : Reading → Owner → Option SigType
 interface_in r o = interface_layer (normal_owner r o) (out-SigType (normal_owner r o))
 
-abbrev pub interfaces_in : Sources → Place → List SigType
-interfaces_in s p = filter_map (interface_in (reading s p.member)) (out-TypeDef p.typedef).implements
+abbrev pub interfaces_in : Reading → List Owner → List SigType
+interfaces_in r owners = filter_map (interface_in r) owners
 
 -- ---- enums
 
@@ -162,17 +165,20 @@ abbrev pub field_type : Reading → Option Field → Option Primitive
 field_type r None = None
 field_type r (Some f) = integral_layer (out-SigType (normal r f.of))
 
--- of a declared value type with the core's Enum as its base: the type of its first field that isn't static
-abbrev pub underlying_of : Sources → TypeName → Place → Option Primitive
-underlying_of s name p =
-    if is_value_type s name && has_base s the_enum (Some p)
-    then field_type (reading s p.member) (find is_of_instances (out-TypeDef p.typedef).fields)
-    else None
-
 -- ---- the hierarchy
 
+-- What a type's declaration says. The core's Object has no base, whatever its declaration says. A declared value type with
+-- the core's Enum as its base is an enum; the type of its values is that of its first field that isn't static
+abbrev pub declaration_by : Reading → Bool → Bool → TypeDef-F TypeDef → Declaration
+declaration_by r is_object is_enum t = record {
+  base = if is_object then None else base_in r t.extends;
+  interfaces = interfaces_in r t.implements;
+  underlying = if is_enum then field_type r (find is_of_instances t.fields) else None;
+}
+
 abbrev pub declaration_at : Sources → TypeName → Place → Declaration
-declaration_at s name p = record { base = base_of s name p; interfaces = interfaces_in s p; underlying = underlying_of s name p }
+declaration_at s name p =
+    declaration_by (reading s p.member) (is_core_class s the_object name) (is_value_type s name && has_base s the_enum (Some p)) (out-TypeDef p.typedef)
 
 unfoldable pub declaration_of : Sources → TypeName → Option Declaration
 declaration_of s name = option_and_then (λ (p : Place). Some (declaration_at s name p)) (place_of s name)

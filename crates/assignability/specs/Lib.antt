@@ -5,6 +5,7 @@ pub mod Arrays
 pub mod Chains
 pub mod Common
 pub mod Declarations
+pub mod Gathered
 pub mod Hierarchy
 pub mod Joining
 pub mod Keys
@@ -15,6 +16,7 @@ pub mod Names
 pub mod Normal
 pub mod Pooled
 pub mod Queues
+pub mod Reading
 pub mod Relations
 pub mod Scopes
 pub mod Stack

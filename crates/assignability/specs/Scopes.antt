@@ -30,7 +30,7 @@ abbrev pub members_from : ℕ → List (List ℕ) → List Assembly → List Mem
 members_from k before [] = []
 members_from k before (r ∷ rs) =
     if list_any (same_text (name_of r)) before then members_from (k + 1) before rs
-    else record { number = k; assembly = r } ∷ members_from (k + 1) (name_of r ∷ before) rs
+    else record { number = k; assembly = r } ∷ members_from (k + 1) (before ++ name_of r ∷ []) rs
 
 -- the references, but for each whose name is that of an assembly before it
 abbrev pub given : Sources → List Member
@@ -45,7 +45,7 @@ members s = record { number = 0; assembly = s.image } ∷ given s
 abbrev pub new_names : List (List ℕ) → List (List ℕ) → List (List ℕ)
 new_names before [] = []
 new_names before (name ∷ names) =
-    if list_any (same_text name) before then new_names before names else name ∷ new_names (name ∷ before) names
+    if list_any (same_text name) before then new_names before names else name ∷ new_names (before ++ name ∷ []) names
 
 -- the names of a reference and of its externs
 abbrev pub names_in : Member → List (List ℕ)
@@ -107,20 +107,11 @@ scope_in s m scope = if nat_eq m.number 0 then image_scope s scope else referenc
 
 -- ---- where a scope's types are declared
 
-abbrev pub has_name : List ℕ → Member → Bool
-has_name name m = same_text name (name_of m.assembly)
+-- the scope that an assembly of the world has in it
+abbrev pub own_scope : Sources → Member → Scope
+own_scope s m = scope_in s m Here
 
-abbrev pub has_core_name : Member → Bool
-has_core_name m = is_core_name (name_of m.assembly)
-
-abbrev pub member_named : Sources → Option (List ℕ) → Option Member
-member_named s None = None
-member_named s (Some name) = find (has_name name) (given s)
-
--- the assembly that a scope of this world means, where it is in the world. A core that is an extern is the first reference
--- with a core name
+-- the assembly that a scope of this world means, where it is in the world: the first that has it. Of references with a core
+-- name, which all mean the core, the first is it
 unfoldable pub member_of : Sources → Scope → Option Member
-member_of s Here = Some (record { number = 0; assembly = s.image })
-member_of s (Extern k) =
-    if same_scope (Extern k) (core_of s) then find has_core_name (given s)
-    else member_named s (slice_get (entries s) k)
+member_of s scope = find (λ (m : Member). same_scope (own_scope s m) scope) (members s)

@@ -3,6 +3,7 @@ ghost use Rattle.std.specs.Prelude.{◌≡◌, length, IfOk, unwrap_or};
 ghost use Rattle.std.specs.Option.{option_copied};
 ghost use Rattle.sig_pool.specs.Pool.{Extends, Has};
 ghost use Rattle.assignability.specs.Above.{path_of, path_above, name_above};
+ghost use Rattle.assignability.specs.Declarations.{is_class_of};
 ghost use Rattle.assignability.specs.Names.{full_name, system, same_path, class_of};
 ghost use Rattle.assignability.specs.Hierarchy.{object, named_by, named, core_name, chain_above, chained_in, as_parent, chain_parent, parent_by};
 ghost use Rattle.assignability.specs.Tables.{hierarchy_in, declaration_in};
@@ -40,7 +41,7 @@ pub fn object_id(pool: &mut SigPool) -> Result<SigId, NoMemory>
 }
 
 /// The type of a name, by whether it is a value type.
-fn named(is_value: bool, name: TypeName) -> SigType
+pub fn named(is_value: bool, name: TypeName) -> SigType
     ensures { result ≡ named_by is_value name }
 {
     if is_value {
@@ -76,13 +77,20 @@ pub enum Above {
 }
 
 /// Whether a path is that of the top-level class `name` of the space `System`.
-fn is_system(path: &[TypeId], name: &str) -> bool
+pub fn is_system(path: &[TypeId], name: &str) -> bool
     ensures { result ≡ same_path path.now (system name.now) }
 {
     match path {
         [id] => id.name.as_bytes() == name.as_bytes() && id.space.as_bytes() == "System".as_bytes(),
         _ => false,
     }
+}
+
+/// Whether the name of `path` in `scope` is that of the core's top-level class `name` of the space `System`.
+pub fn is_class_of(core: Scope, scope: Scope, path: &[TypeId], name: &str) -> bool
+    ensures { result ≡ is_class_of core (system name.now) (full_name scope path.now) }
+{
+    scope == core && is_system(path, name)
 }
 
 /// The class above that of a path in its core chain.
@@ -192,7 +200,7 @@ pub fn class_name(alloc: Global, core: Scope, prim: Prim) -> Result<TypeName, No
 }
 
 /// What a primitive type's class is called.
-fn class_word(prim: Prim) -> &'static str
+pub fn class_word(prim: Prim) -> &'static str
     ensures { system result.now ≡ class_of prim }
 {
     match prim {

@@ -5,13 +5,16 @@ mod above;
 mod arrays;
 mod common;
 mod core_types;
+mod declaring;
 mod fits;
 mod interfaces;
 mod joining;
 mod kept;
 mod keys;
 mod laws;
+mod meanings;
 mod names;
+mod normal;
 mod order;
 mod parents;
 mod queue;
@@ -21,6 +24,8 @@ mod stack_type;
 mod tables;
 mod terms;
 pub mod types;
+mod value_names;
+mod values;
 
 pub use keys::{
     boxed_of, core_scope, element_of, interfaces_of, is_value, pointer_to, st_of, term_of,

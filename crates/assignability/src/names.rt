@@ -4,7 +4,7 @@ ghost use Rattle.std.specs.Prelude.{◌≡◌, ◌<◌, ◌++◌, ◌∷◌, ◌
 ghost use Rattle.indexmap.specs.IndexMap.{get};
 ghost use Rattle.type_terms.specs.declared.name.TypeName.{TypeName};
 ghost use Rattle.assignability.specs.NameHash.{mix, mix_text, mix_id, mix_path, mix_scope, name_hash};
-ghost use Rattle.assignability.specs.Names.{full_name};
+ghost use Rattle.assignability.specs.Names.{full_name, is_among};
 
 use il_lists::{Items, NoMemory};
 use indexmap::IndexMap;
@@ -61,6 +61,13 @@ impl Names {
             at = *self.nexts.at(place);
         }
         None
+    }
+
+    /// Whether the name of `path` in `scope` is there. Takes no memory.
+    pub fn has(&self, scope: Scope, path: &[TypeId]) -> bool
+        ensures { result ≡ is_among self.now (full_name scope path.now) }
+    {
+        self.find(scope, path).is_some()
     }
 
     /// Adds a name, which isn't there, at the end.
