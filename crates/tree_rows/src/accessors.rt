@@ -1,8 +1,10 @@
 //! Properties and events of a class, and their accessors.
 
-use crate::changes::{Change, all_hold};
+use crate::changes::{Change, all_hold, all_weigh};
 use crate::parts::{class, id, method, outside, signature};
-use assembly_tree::{Accessor, Accessors, Assembly, Event, Events, Methods, Properties, Property};
+use assembly_tree::{
+    Accessor, Accessors, Assembly, Constant, Event, Events, Methods, Properties, Property,
+};
 use il_lists::{Items, NoMemory, Text};
 use std::alloc::Global;
 use std::test::Fail;
@@ -37,7 +39,7 @@ fn property(alloc: Global, name: Text, sig: MethodSig, accessors: Accessors) -> 
         name,
         flags: 0,
         sig,
-        constant: None,
+        constant: Some(Constant::Null),
         accessors,
         attributes: Items::new(alloc),
     }
@@ -181,7 +183,27 @@ fn properties_and_events_twice(rt: HostRuntime) -> Result<(), Fail> {
         (Twice("p", "q", "p", "q"), true),
         (Twice("p", "p", "p", "q"), false),
         (Twice("p", "q", "q", "q"), false),
+        (Twice("p", "", "p", "q"), false),
+        (Twice("p", "q", "p", ""), false),
     ];
     assert!(rt; all_hold(rt.alloc(), &rows)?);
+    Ok(())
+}
+
+/// The class weighs 103 and its method 97; a property 64, its name, its signature, 64 for its constant and 64 for each
+/// accessor; an event 64, its name, its type and 64 for each accessor.
+#[test]
+fn weights(rt: HostRuntime) -> Result<(), Fail> {
+    let alloc = rt.alloc();
+    assert!(rt;
+        all_weigh(
+            alloc,
+            &[
+                (Accessed::Property(1, 0), 425),
+                (Accessed::Event(8, 0), 368)
+            ]
+        )?
+    );
+    assert!(rt; all_weigh(alloc, &[(Twice("p", "qq", "e", "ff"), 732)])?);
     Ok(())
 }

@@ -1,13 +1,13 @@
 //! Operands, branches and clauses.
 
-use crate::changes::{Change, all_hold};
-use crate::parts::{method, outside};
+use crate::changes::{Change, all_hold, all_weigh};
+use crate::parts::{letters, method, numbers, outside};
 use assembly_tree::{Assembly, Body, Clause, ClauseKind, Clauses, Code, Ins, Operand};
 use il_lists::{Items, NoMemory, Text};
 use opcode_table::Op;
 use std::alloc::Global;
 use std::test::Fail;
-use type_terms::{FieldRef, Prim, SigType};
+use type_terms::{FieldRef, Prim, SigType, Types};
 
 /// Adds so many `nop`.
 fn push_nops(code: &mut Code, count: usize) -> Result<(), NoMemory> {
@@ -24,6 +24,7 @@ fn push_nops(code: &mut Code, count: usize) -> Result<(), NoMemory> {
 fn push_method(
     a: &mut Assembly,
     alloc: Global,
+    locals: Types,
     code: Code,
     clauses: Clauses,
 ) -> Result<(), NoMemory> {
@@ -32,7 +33,7 @@ fn push_method(
     of.body = Some(Body {
         bound: 8,
         init: false,
-        locals: Items::new(alloc),
+        locals,
         code,
         clauses,
     });
@@ -44,7 +45,7 @@ pub fn push_body(a: &mut Assembly, alloc: Global, ins: Ins) -> Result<(), NoMemo
     let mut code = Items::new(alloc);
     code.push(ins)?;
     push_nops(&mut code, 1)?;
-    push_method(a, alloc, code, Items::new(alloc))
+    push_method(a, alloc, Items::new(alloc), code, Items::new(alloc))
 }
 
 /// An instruction with a number, of which the body's other one is a `nop`.
@@ -56,8 +57,12 @@ enum Numbered {
     Nothing(Op),
     /// A switch to the first instruction and that one.
     Switch(u32),
-    /// The field of another assembly, by its token.
+    /// The field of another assembly.
     Field(Op),
+    /// The type of that name in another assembly.
+    Of(Op, &'static str),
+    /// A text of so many units.
+    Text(usize),
 }
 
 impl Change for Numbered {
@@ -81,6 +86,8 @@ impl Change for Numbered {
             },
             Numbered::Switch(to) => switch(alloc, to)?,
             Numbered::Field(op) => of_field(alloc, op)?,
+            Numbered::Of(op, name) => of_type(alloc, op, name)?,
+            Numbered::Text(count) => of_text(alloc, count)?,
         };
         push_body(a, alloc, ins)
     }
@@ -105,6 +112,22 @@ fn of_field(alloc: Global, op: Op) -> Result<Ins, NoMemory> {
     Ok(Ins {
         op,
         operand: Operand::Field(field),
+    })
+}
+
+fn of_type(alloc: Global, op: Op, name: &str) -> Result<Ins, NoMemory> {
+    let of = outside(alloc, name)?;
+    Ok(Ins {
+        op,
+        operand: Operand::Of(of),
+    })
+}
+
+fn of_text(alloc: Global, count: usize) -> Result<Ins, NoMemory> {
+    let units = letters(alloc, count)?;
+    Ok(Ins {
+        op: Op::Ldstr,
+        operand: Operand::Text(units),
     })
 }
 
@@ -140,6 +163,8 @@ fn other_operands(rt: HostRuntime) -> Result<(), Fail> {
         (Numbered::Field(Op::Ldtoken), true),
         (Numbered::Field(Op::Ldfld), true),
         (Numbered::Field(Op::Call), false),
+        (Numbered::Of(Op::Castclass, "X"), true),
+        (Numbered::Of(Op::Castclass, ""), false),
     ];
     assert!(rt; all_hold(rt.alloc(), &rows)?);
     Ok(())
@@ -172,7 +197,7 @@ impl Change for Branch {
             operand: Operand::Target(self.3),
         })?;
         push_nops(&mut code, self.2)?;
-        push_method(a, alloc, code, Items::new(alloc))
+        push_method(a, alloc, Items::new(alloc), code, Items::new(alloc))
     }
 }
 
@@ -212,7 +237,7 @@ impl Change for Guarded {
             handler_start: self.2.0,
             handler_end: self.2.1,
         })?;
-        push_method(a, alloc, code, clauses)
+        push_method(a, alloc, Items::new(alloc), code, clauses)
     }
 }
 
@@ -233,21 +258,75 @@ fn clauses(rt: HostRuntime) -> Result<(), Fail> {
     Ok(())
 }
 
-/// A body of so many `nop` and nothing else.
+/// A body of so many `nop` with so many locals and clauses, each of which catches the type of that name in another
+/// assembly.
 #[derive(Clone, Copy)]
-struct Nops(usize);
+struct Counts(usize, usize, usize, &'static str);
 
-impl Change for Nops {
+impl Change for Counts {
     fn change(&self, alloc: Global, a: &mut Assembly) -> Result<(), NoMemory> {
         let mut code = Items::new(alloc);
         push_nops(&mut code, self.0)?;
-        push_method(a, alloc, code, Items::new(alloc))
+        let locals = numbers(alloc, self.1)?;
+        let mut clauses = Items::new(alloc);
+        for _ in 0..self.2 {
+            push_catch(&mut clauses, alloc, self.3)?;
+        }
+        push_method(a, alloc, locals, code, clauses)
     }
 }
 
+fn push_catch(clauses: &mut Clauses, alloc: Global, name: &str) -> Result<(), NoMemory> {
+    let owner = outside(alloc, name)?;
+    clauses.push(Clause {
+        kind: ClauseKind::Catch(owner),
+        try_start: 0,
+        try_end: 1,
+        handler_start: 1,
+        handler_end: 2,
+    })
+}
+
 #[test]
-fn no_code(rt: HostRuntime) -> Result<(), Fail> {
-    let rows = [(Nops(1), true), (Nops(0), false)];
+fn counts_of_bodies(rt: HostRuntime) -> Result<(), Fail> {
+    let rows = [
+        (Counts(1, 0, 0, ""), true),
+        (Counts(0, 0, 0, ""), false),
+        (Counts(1, 65_535, 0, ""), true),
+        (Counts(1, 65_536, 0, ""), false),
+        (Counts(2, 0, 65_535, "X"), true),
+        (Counts(2, 0, 65_536, "X"), false),
+        (Counts(2, 0, 1, ""), false),
+    ];
     assert!(rt; all_hold(rt.alloc(), &rows)?);
+    Ok(())
+}
+
+/// A method weighs 97, an instruction 16 with 4 for each target of a switch, 2 for each unit of a text, and the names and
+/// types in it; a local 64 and its type; a clause 64 and what it catches.
+#[test]
+fn weights(rt: HostRuntime) -> Result<(), Fail> {
+    let alloc = rt.alloc();
+    assert!(rt;
+        all_weigh(
+            alloc,
+            &[
+                (Numbered::Nothing(Op::Ret), 129),
+                (Numbered::Int(Op::LdcI8, -1), 129),
+                (Numbered::Switch(1), 137),
+                (Numbered::Field(Op::Ldfld), 259),
+                (Numbered::Of(Op::Castclass, "X"), 162),
+                (Numbered::Text(5), 139),
+            ]
+        )?
+    );
+    assert!(rt; all_weigh(alloc, &[(Branch(Op::Br, 1, 1, 0), 145)])?);
+    assert!(rt; all_weigh(alloc, &[(Guarded(4, (0, 1), (2, 4), Some(1)), 225)])?);
+    assert!(rt;
+        all_weigh(
+            alloc,
+            &[(Counts(1, 2, 0, ""), 305), (Counts(1, 0, 2, "X"), 307)]
+        )?
+    );
     Ok(())
 }

@@ -1,9 +1,9 @@
 //! The manifest and externs.
 
-use crate::changes::{Change, all_hold};
-use crate::parts::push_extern;
+use crate::changes::{Change, all_hold, all_weigh};
+use crate::parts::{external, push_extern};
 use assembly_tree::Assembly;
-use il_lists::{NoMemory, Text};
+use il_lists::{Items, NoMemory, Text};
 use std::alloc::Global;
 use std::test::Fail;
 
@@ -15,8 +15,12 @@ enum Said {
     Base(u32),
     Alignment(u32),
     Flags(u32),
+    /// The public key, as the bytes of a text.
+    Key(&'static str),
     /// An extern of that name and culture.
     Extern(&'static str, &'static str),
+    /// An extern `B` with that key and hash, as the bytes of texts.
+    Keyed(&'static str, &'static str),
 }
 
 impl Change for Said {
@@ -28,10 +32,20 @@ impl Change for Said {
             Said::Base(base) => a.manifest.image_base = base,
             Said::Alignment(alignment) => a.manifest.file_alignment = alignment,
             Said::Flags(flags) => a.manifest.cor_flags = flags,
+            Said::Key(text) => a.manifest.key.extend(text.as_bytes())?,
+            Said::Keyed(key, hash) => push_keyed(a, alloc, key, hash)?,
             Said::Extern(name, culture) => push_extern(&mut a.externs, alloc, name, culture)?,
         }
         Ok(())
     }
+}
+
+fn push_keyed(a: &mut Assembly, alloc: Global, key: &str, hash: &str) -> Result<(), NoMemory> {
+    let name = Text::new(alloc, "B")?;
+    let culture = Text::new(alloc, "")?;
+    let key = Items::from_slice(alloc, key.as_bytes())?;
+    let hash = Items::from_slice(alloc, hash.as_bytes())?;
+    a.externs.push(external(name, culture, key, hash))
 }
 
 #[test]
@@ -71,5 +85,21 @@ fn numbers_of_manifests(rt: HostRuntime) -> Result<(), Fail> {
         (Said::Flags(0x11), false),
     ];
     assert!(rt; all_hold(rt.alloc(), &rows)?);
+    Ok(())
+}
+
+/// Each byte of a text, a key and a hash weighs 1, and an extern 64.
+#[test]
+fn weights(rt: HostRuntime) -> Result<(), Fail> {
+    let rows = [
+        (Said::Base(0x1_0000), 0),
+        (Said::Culture("en"), 2),
+        (Said::Name("AB"), 1),
+        (Said::Module("A.module"), 3),
+        (Said::Key("abc"), 3),
+        (Said::Extern("B", "en"), 67),
+        (Said::Keyed("abcdefgh", "hash"), 77),
+    ];
+    assert!(rt; all_weigh(rt.alloc(), &rows)?);
     Ok(())
 }

@@ -1,7 +1,7 @@
 //! Fields with their constants and data.
 
-use crate::changes::{Change, all_hold};
-use crate::parts::field;
+use crate::changes::{Change, all_hold, all_weigh};
+use crate::parts::{field, letters};
 use assembly_tree::{Assembly, Constant};
 use il_lists::{Bytes, Items, NoMemory, Text};
 use std::alloc::Global;
@@ -116,6 +116,33 @@ fn numbers_out_of_their_ranges(rt: HostRuntime) -> Result<(), Fail> {
         (Number(Prim::NInt, 0), false),
     ];
     assert!(rt; all_hold(rt.alloc(), &rows)?);
+    Ok(())
+}
+
+/// A field with a text of so many units as its constant, and that place in its class.
+#[derive(Clone, Copy)]
+struct Worded(usize, Option<u32>);
+
+impl Change for Worded {
+    fn change(&self, alloc: Global, a: &mut Assembly) -> Result<(), NoMemory> {
+        let name = Text::new(alloc, "f")?;
+        let units = letters(alloc, self.0)?;
+        let mut of = field(alloc, name, SigType::Prim(Prim::I4));
+        of.constant = Some(Constant::Str(units));
+        of.offset = self.1;
+        a.fields.push(of)
+    }
+}
+
+/// A field weighs 64, its name and its type, and 64 more for each of an offset, data and a constant, with the bytes of
+/// the data and 2 for each unit of a text.
+#[test]
+fn weights(rt: HostRuntime) -> Result<(), Fail> {
+    let alloc = rt.alloc();
+    assert!(rt; all_weigh(alloc, &[(Named("field", 0), 101)])?);
+    assert!(rt; all_weigh(alloc, &[(Data(Prim::I4, 0), 161), (Data(Prim::I4, 3), 164)])?);
+    assert!(rt; all_weigh(alloc, &[(Number(Prim::I1, 0), 161)])?);
+    assert!(rt; all_weigh(alloc, &[(Worded(2, None), 165), (Worded(0, Some(8)), 225)])?);
     Ok(())
 }
 

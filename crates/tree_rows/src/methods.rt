@@ -1,8 +1,8 @@
 //! Methods, their generic parameters and parameters, and the entry point.
 
-use crate::changes::{Change, all_hold};
-use crate::parts::{method, numbers};
-use assembly_tree::{Assembly, Generic, Generics, Method, Param, Params};
+use crate::changes::{Change, all_hold, all_weigh};
+use crate::parts::{method, numbers, outside};
+use assembly_tree::{Assembly, Constant, Generic, Generics, Method, Param, Params};
 use il_lists::{Items, NoMemory, Text};
 use std::alloc::Global;
 use std::test::Fail;
@@ -34,14 +34,14 @@ fn implementation_flags(rt: HostRuntime) -> Result<(), Fail> {
     Ok(())
 }
 
-/// A method whose signature has the first number of generic parameters and which has the second.
+/// A method whose signature has the first number of generic parameters and which has the second, of that name.
 #[derive(Clone, Copy)]
-struct GenericParams(u32, usize);
+struct GenericParams(u32, usize, &'static str);
 
 impl Change for GenericParams {
     fn change(&self, alloc: Global, a: &mut Assembly) -> Result<(), NoMemory> {
         let name = Text::new(alloc, "m")?;
-        let generics = generics(alloc, self.1)?;
+        let generics = generics(alloc, self.1, self.2)?;
         let mut of = method(alloc, name);
         of.sig.generic = self.0;
         of.generics = generics;
@@ -49,27 +49,35 @@ impl Change for GenericParams {
     }
 }
 
-fn generics(alloc: Global, count: usize) -> Result<Generics, NoMemory> {
+fn generics(alloc: Global, count: usize, name: &str) -> Result<Generics, NoMemory> {
     let mut all = Items::new(alloc);
     for _ in 0..count {
-        let name = Text::new(alloc, "T")?;
-        all.push(Generic {
-            name,
-            flags: 0,
-            bounds: Items::new(alloc),
-            attributes: Items::new(alloc),
-        })?;
+        push_generic(&mut all, alloc, name)?;
     }
     Ok(all)
+}
+
+/// Adds a generic parameter with the one bound `X`.
+fn push_generic(all: &mut Generics, alloc: Global, name: &str) -> Result<(), NoMemory> {
+    let name = Text::new(alloc, name)?;
+    let mut bounds = Items::new(alloc);
+    bounds.push(outside(alloc, "X")?)?;
+    all.push(Generic {
+        name,
+        flags: 0,
+        bounds,
+        attributes: Items::new(alloc),
+    })
 }
 
 #[test]
 fn generic_parameters(rt: HostRuntime) -> Result<(), Fail> {
     let rows = [
-        (GenericParams(0, 0), true),
-        (GenericParams(1, 1), true),
-        (GenericParams(1, 0), false),
-        (GenericParams(0, 1), false),
+        (GenericParams(0, 0, "T"), true),
+        (GenericParams(1, 1, "T"), true),
+        (GenericParams(1, 0, "T"), false),
+        (GenericParams(0, 1, "T"), false),
+        (GenericParams(1, 1, ""), false),
     ];
     assert!(rt; all_hold(rt.alloc(), &rows)?);
     Ok(())
@@ -115,7 +123,7 @@ fn push_param(
         number,
         flags,
         name,
-        constant: None,
+        constant: Some(Constant::Null),
         attributes: Items::new(alloc),
     })
 }
@@ -178,7 +186,33 @@ fn sentinels_and_entries(rt: HostRuntime) -> Result<(), Fail> {
         (Two("n", true, false), true),
         (Two("n", true, true), false),
         (Two("m", false, false), false),
+        (Two("", false, false), false),
     ];
     assert!(rt; all_hold(rt.alloc(), &rows)?);
+    Ok(())
+}
+
+/// A method weighs 64, its name and its signature; a generic parameter 64, its name and 64 and the weight of each bound;
+/// a parameter 64, its name and 64 for its constant.
+#[test]
+fn weights(rt: HostRuntime) -> Result<(), Fail> {
+    let alloc = rt.alloc();
+    assert!(rt; all_weigh(alloc, &[(Flags(0), 97)])?);
+    assert!(rt;
+        all_weigh(
+            alloc,
+            &[
+                (GenericParams(1, 1, "T"), 259),
+                (GenericParams(2, 2, "Ty"), 423)
+            ]
+        )?
+    );
+    assert!(rt;
+        all_weigh(
+            alloc,
+            &[(Said(1, "a", 0, None), 290), (Said(0, "", 0, Some(2)), 417)]
+        )?
+    );
+    assert!(rt; all_weigh(alloc, &[(Two("mm", true, false), 195)])?);
     Ok(())
 }

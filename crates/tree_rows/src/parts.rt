@@ -3,7 +3,7 @@
 use assembly_tree::{
     Assembly, ExternAssembly, Externs, Field, Manifest, Method, TypeDef, TypeDefs,
 };
-use il_lists::{Items, NoMemory, Text};
+use il_lists::{Bytes, Items, NoMemory, Text, Units};
 use std::alloc::Global;
 use type_terms::{
     MethodRef, MethodSig, Owner, Path, Prim, Scope, SigType, TypeId, TypeName, Types,
@@ -38,6 +38,15 @@ pub fn signature(alloc: Global) -> MethodSig {
         params: Items::new(alloc),
         sentinel: None,
     }
+}
+
+/// A text of so many letters `a`.
+pub fn letters(alloc: Global, count: usize) -> Result<Units, NoMemory> {
+    let mut units = Items::new(alloc);
+    for _ in 0..count {
+        units.push(0x61)?;
+    }
+    Ok(units)
 }
 
 /// So many times int32.
@@ -126,14 +135,18 @@ pub fn push_extern(
 ) -> Result<(), NoMemory> {
     let name = Text::new(alloc, name)?;
     let culture = Text::new(alloc, culture)?;
-    externs.push(ExternAssembly {
+    externs.push(external(name, culture, Items::new(alloc), Items::new(alloc)))
+}
+
+pub fn external(name: Text, culture: Text, key: Bytes, hash: Bytes) -> ExternAssembly {
+    ExternAssembly {
         name,
         version: [4, 0, 0, 0],
         flags: 0,
-        key: Items::new(alloc),
+        key,
         culture,
-        hash: Items::new(alloc),
-    })
+        hash,
+    }
 }
 
 fn manifest(alloc: Global) -> Result<Manifest, NoMemory> {

@@ -1,8 +1,8 @@
 //! Signatures and references, as those that a body calls and that an attribute is made by.
 
 use crate::bodies::push_body;
-use crate::changes::{Change, all_hold};
-use crate::parts::{method_ref, named, numbers, signature};
+use crate::changes::{Change, all_hold, all_weigh};
+use crate::parts::{method, method_ref, named, numbers, signature};
 use assembly_tree::{Assembly, Attribute, Ins, Operand};
 use il_lists::{Items, NoMemory, Text};
 use opcode_table::Op;
@@ -88,23 +88,76 @@ fn arguments(rt: HostRuntime) -> Result<(), Fail> {
     Ok(())
 }
 
-/// An attribute of the assembly whose constructor has that generic number and so many arguments.
+/// A method that overrides the method `X::m` of that generic number with so many arguments.
 #[derive(Clone, Copy)]
-struct Attributed(u32, Option<usize>);
+struct Overriding(u32, Option<usize>);
+
+impl Change for Overriding {
+    fn change(&self, alloc: Global, a: &mut Assembly) -> Result<(), NoMemory> {
+        let name = Text::new(alloc, "m")?;
+        let mut overrides = Items::new(alloc);
+        overrides.push(Called(true, false, self.0, 0, None, self.1).reference(alloc)?)?;
+        let mut of = method(alloc, name);
+        of.overrides = overrides;
+        a.methods.push(of)
+    }
+}
+
+/// An attribute of the assembly, or of its module, whose constructor has that generic number and so many arguments.
+#[derive(Clone, Copy)]
+struct Attributed(bool, u32, Option<usize>);
 
 impl Change for Attributed {
     fn change(&self, alloc: Global, a: &mut Assembly) -> Result<(), NoMemory> {
-        let constructor = Called(true, false, self.0, 0, None, self.1).reference(alloc)?;
-        a.manifest.attributes.push(Attribute {
-            constructor,
-            value: Items::new(alloc),
-        })
+        let value = Items::from_slice(alloc, &[1, 0])?;
+        let constructor = Called(true, false, self.1, 0, None, self.2).reference(alloc)?;
+        let attribute = Attribute { constructor, value };
+        if self.0 {
+            a.manifest.module_attributes.push(attribute)
+        } else {
+            a.manifest.attributes.push(attribute)
+        }
     }
 }
 
 #[test]
-fn constructors(rt: HostRuntime) -> Result<(), Fail> {
-    let rows = [(Attributed(0, None), true), (Attributed(1, Some(1)), false)];
-    assert!(rt; all_hold(rt.alloc(), &rows)?);
+fn overrides_and_constructors(rt: HostRuntime) -> Result<(), Fail> {
+    let alloc = rt.alloc();
+    let overrides = [(Overriding(0, None), true), (Overriding(1, Some(1)), false)];
+    assert!(rt; all_hold(alloc, &overrides)?);
+    let rows = [
+        (Attributed(false, 0, None), true),
+        (Attributed(true, 0, None), true),
+        (Attributed(false, 1, Some(1)), false),
+        (Attributed(true, 1, Some(1)), false),
+    ];
+    assert!(rt; all_hold(alloc, &rows)?);
+    Ok(())
+}
+
+/// A reference weighs 64, its owner, its name, its signature and its arguments; an override 64 more, and an attribute 64
+/// and its value.
+#[test]
+fn weights(rt: HostRuntime) -> Result<(), Fail> {
+    let alloc = rt.alloc();
+    assert!(rt;
+        all_weigh(
+            alloc,
+            &[
+                (Called(false, false, 0, 2, None, None), 323),
+                (Called(false, false, 1, 0, None, Some(1)), 291),
+            ]
+        )?
+    );
+    assert!(rt; all_weigh(alloc, &[(Overriding(0, None), 291)])?);
+    assert!(rt;
+        all_weigh(
+            alloc,
+            &[
+                (Attributed(false, 0, None), 196),
+                (Attributed(true, 0, None), 196),
+            ]
+        )?
+    );
     Ok(())
 }

@@ -1,6 +1,6 @@
 //! Names of types and types, as those of a field.
 
-use crate::changes::{Change, all_hold};
+use crate::changes::{Change, all_hold, all_weigh};
 use crate::parts::{field, id, named, numbers};
 use assembly_tree::Assembly;
 use il_lists::{Boxed, Items, NoMemory, Text};
@@ -179,5 +179,26 @@ fn numbers_of_types(rt: HostRuntime) -> Result<(), Fail> {
         (Counted::Deep(100), false),
     ];
     assert!(rt; all_hold(rt.alloc(), &rows)?);
+    Ok(())
+}
+
+/// A field weighs 65 and its type: 32 for each node and each name in a path, the names' bytes, and 8 for each number of
+/// a shape.
+#[test]
+fn weights(rt: HostRuntime) -> Result<(), Fail> {
+    let alloc = rt.alloc();
+    assert!(rt; all_weigh(alloc, &[(Named(Scope::Here, "Sp", "C"), 132)])?);
+    assert!(rt; all_weigh(alloc, &[(Inner(Scope::Here, "In", 2), 198)])?);
+    assert!(rt; all_weigh(alloc, &[(Shape(3, (2, 4), (1, 1)), 153)])?);
+    assert!(rt;
+        all_weigh(
+            alloc,
+            &[
+                (Counted::Var(0), 97),
+                (Counted::Args(2), 194),
+                (Counted::Deep(2), 161),
+            ]
+        )?
+    );
     Ok(())
 }

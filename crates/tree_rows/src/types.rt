@@ -1,6 +1,6 @@
 //! Classes: where they stand, their bases, layouts and interfaces.
 
-use crate::changes::{Change, all_hold};
+use crate::changes::{Change, all_hold, all_weigh};
 use crate::parts::{class, id, outside, push_class};
 use assembly_tree::{Assembly, Layout, TypeDefs};
 use il_lists::{Items, NoMemory};
@@ -149,7 +149,34 @@ fn layouts_and_interfaces(rt: HostRuntime) -> Result<(), Fail> {
         (Said::Interfaces("I", "J"), true),
         (Said::Interfaces("J", "I"), false),
         (Said::Interfaces("I", "I"), false),
+        (Said::Interfaces("", "I"), false),
     ];
     assert!(rt; all_hold(rt.alloc(), &rows)?);
+    Ok(())
+}
+
+/// A class with the base `Object` weighs 64, its texts and 38; a layout 64, an interface 64 and its name; and a class what
+/// it nests.
+#[test]
+fn weights(rt: HostRuntime) -> Result<(), Fail> {
+    let alloc = rt.alloc();
+    assert!(rt;
+        all_weigh(
+            alloc,
+            &[
+                (Declared("Sp", "C", 0, true, false), 105),
+                (Declared("", "C", 0x20, false, false), 65),
+                (Declared("", "C", 0, true, true), 206),
+            ]
+        )?
+    );
+    assert!(rt; all_weigh(alloc, &[(Nested("X", "YY"), 310)])?);
+    assert!(rt; all_weigh(alloc, &[(Levels(3), 309)])?);
+    assert!(rt;
+        all_weigh(
+            alloc,
+            &[(Said::Pack(1), 167), (Said::Interfaces("I", "JJ"), 298)]
+        )?
+    );
     Ok(())
 }
