@@ -1,6 +1,6 @@
 -- What is spelled with tokens is spelled with the names that they stand for.
-use Rattle.std.proofs.Common.{◌≡◌, ◌∙◌, ◌⊎◌, inl, inr, ℕ, List, ap, refl, sym, subst, Option, None, Some}
-use Rattle.std.specs.Option.{option_map, option_or}
+use Rattle.std.proofs.Common.{◌≡◌, inl, inr, ℕ, List, ap, refl, sym, subst, Some}
+use Rattle.std.specs.Option.{option_map}
 use Rattle.type_terms.specs.declared.term.SigType.{SigType}
 use Rattle.opcode_table.specs.declared.kind.OperandKind.{OperandKind}
 use Rattle.opcode_table.specs.declared.kind.OperandKind.TheVariants as kinds

@@ -1,15 +1,15 @@
 -- Code that is written spells its instructions.
-use Rattle.std.proofs.Common.{◌≡◌, ◌∙◌, ℕ, zero, suc, ◌<◌, ◌≤◌, ◌+◌, ◌^◌, ℤ, pos, ◌-ℤ◌, List, [], ◌∷◌, ◌++◌, length, take, get_or, ap, refl, sym, subst, arith, add-one}
+use Rattle.std.proofs.Common.{◌≡◌, ◌∙◌, ℕ, zero, suc, ◌<◌, ◌≤◌, ◌+◌, ◌^◌, pos, ◌-ℤ◌, List, length, take, get_or, ap, refl, sym, subst, arith, add-one}
 use Rattle.std.specs.List.{All}
 use Rattle.std.proofs.lemmas.List.{length-append}
 use Rattle.opcode_table.specs.declared.op.Op.TheVariants.{Nop}
 use Rattle.assembly_tree.specs.declared.body.Ins.{Ins}
 use Rattle.assembly_tree.specs.declared.body.Operand as operand
 use Rattle.body_codec.specs.Instruction.{Piece, IsWhole, bytes_of_pieces, kind, opcode_bytes, piece_bytes, place}
-use Rattle.body_codec.specs.Names.{TokenMap, token_of, writing}
+use Rattle.body_codec.specs.Names.{TokenMap, writing}
 use Rattle.body_codec.specs.Spelling.{LeadsTo, SpellsCode, SpellsIns}
 use Rattle.body_codec.specs.Encoding.{OperandFits, ins_size, offset, size_of}
-use Rattle.body_codec.specs.Written.{AreOffsets, HasToken, Reaches, code_bytes, far_from, or_zero, piece_of, pieces_from}
+use Rattle.body_codec.specs.Written.{AreOffsets, HasToken, Reaches, code_bytes, far_from, piece_of, pieces_from}
 use Rattle.body_codec.proofs.Offsets.{offset_more, offset_none, offset_within}
 use Rattle.body_codec.proofs.CodePieces.{first_piece, length-pieces, pieces_all, pieces_more}
 use Rattle.body_codec.proofs.Tails.{tail_size, tail_spelled, tail_whole}

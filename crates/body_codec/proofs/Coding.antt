@@ -1,22 +1,9 @@
 -- One more instruction of code that is written.
-use Rattle.std.proofs.Common.{◌≡◌, ◌∙◌, ℕ, ◌<◌, ◌≤◌, ◌+◌, List, ◌++◌, length, take, get_or, ap, sym, subst, arith, below_more}
-use Rattle.std.proofs.lemmas.List.{append_assoc, get_or_default}
+use Rattle.std.proofs.Common.{◌≡◌, ◌∙◌, ℕ, ◌<◌, ◌≤◌, ◌+◌, List, length, get_or, sym, subst, arith, below_more}
+use Rattle.std.proofs.lemmas.List.{get_or_default}
 use Rattle.assembly_tree.specs.declared.body.Ins.{Ins}
 use Rattle.assembly_tree.specs.declared.body.Operand as operand
-use Rattle.body_codec.specs.Instruction.{bytes_of_pieces, piece_bytes}
-use Rattle.body_codec.specs.Names.{TokenMap}
-use Rattle.body_codec.specs.Written.{AreWithin, piece_of, pieces_from}
-use Rattle.body_codec.proofs.CodePieces.{pieces_more}
-
-pub code_more : (numbers : TokenMap) (os : List ℕ) (code : List Ins) (old out new : List ℕ) (k : ℕ) (ins : Ins) → k < length code → ins ≡ get_or code k ins
-    → out ≡ old ++ bytes_of_pieces (take k (pieces_from numbers os 0 code)) → new ≡ out ++ piece_bytes (piece_of numbers os k ins)
-    → new ≡ old ++ bytes_of_pieces (take (k + 1) (pieces_from numbers os 0 code))
-code_more numbers os code old out new k ins h is before now =
-    let done : List ℕ = bytes_of_pieces (take k (pieces_from numbers os 0 code)) in
-    now ∙ ap (λ (bs : List ℕ). bs ++ piece_bytes (piece_of numbers os k ins)) before
-    ∙ append_assoc old done (piece_bytes (piece_of numbers os k ins))
-    ∙ ap (λ (i : Ins). old ++ (done ++ piece_bytes (piece_of numbers os k i))) is
-    ∙ ap (λ (bs : List ℕ). old ++ bs) (sym (pieces_more numbers os code k ins h))
+use Rattle.body_codec.specs.Written.{AreWithin}
 
 -- what holds of each instruction before one, and of it
 pub each_more : (Q : ℕ → Ins → Type 0) (code : List Ins) (k : ℕ) (ins : Ins) → k < length code → ins ≡ get_or code k ins

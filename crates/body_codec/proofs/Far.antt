@@ -1,8 +1,7 @@
 -- Which short branch is the first that doesn't reach.
-use Rattle.std.proofs.Common.{◌≡◌, ◌∙◌, ◌⊎◌, inl, inr, Result, Err, ℕ, suc, ◌<◌, ◌≤◌, ◌+◌, ℤ, pos, ◌-ℤ◌, List, length, get_or, ap, refl, sym, subst, arith}
+use Rattle.std.proofs.Common.{◌≡◌, ◌∙◌, inl, inr, Result, Err, ℕ, ◌<◌, ◌+◌, ℤ, pos, ◌-ℤ◌, List, length, get_or, ap, refl, subst, arith}
 use Rattle.std.specs.List.{All}
 use Rattle.std.proofs.lemmas.Bool.{cases_order}
-use Rattle.std.proofs.lemmas.List.{get_or_default}
 use Rattle.opcode_table.specs.declared.op.Op.TheVariants.{Nop}
 use Rattle.assembly_tree.specs.declared.body.Body.{Body}
 use Rattle.assembly_tree.specs.declared.body.ClauseKind as handled
@@ -16,7 +15,7 @@ use Rattle.body_codec.specs.declared.fault.BodyFault.{BodyFault}
 use Rattle.body_codec.specs.declared.fault.BodyFault.TheVariants as faults
 use Rattle.body_codec.specs.Instruction.{kind}
 use Rattle.body_codec.specs.Encoding.{CanBeWritten, FitsBytes, IsFar, IsFarFault, IsFirstFar, KindFits, OperandFits, distance, offset}
-use Rattle.body_codec.specs.Written.{AreOffsets, AreRangesWithin, AreWithin, GoesFar, Reaches, StopsAt, far_from}
+use Rattle.body_codec.specs.Written.{AreOffsets, AreRangesWithin, AreWithin, Reaches, far_from}
 
 -- a displacement by offsets is the distance by instructions
 pub far_is : (code : List Ins) (os : List ℕ) (k t : ℕ) → AreOffsets code os → k < length code → t < length code → far_from os (get_or os (k + 1) 0) t ≡ distance code k t
@@ -24,24 +23,7 @@ far_is code os k t o h w =
     ap (λ n. pos n -ℤ pos (get_or os (k + 1) 0)) (o.each t (omega arith))
     ∙ ap (λ n. pos (offset code t) -ℤ pos n) (o.each (k + 1) (omega arith))
 
--- what goes too far is a short branch
-pub record Short (code : List Ins) (k : ℕ) (kd : OperandKind) (value : operand.Operand) : Type 0 where
-  pub short : kd ≡ kinds.Branch8
-  pub to : ℕ
-  pub branch : value ≡ operand.TheVariants.Target to
-  pub far : FitsBytes 1 (distance code k to) → ⊥
-
-short_of : (code : List Ins) (os : List ℕ) (k : ℕ) → AreOffsets code os → k < length code → (kd : OperandKind) (value : operand.Operand)
-    → AreWithin (length code) value → GoesFar os (get_or os (k + 1) 0) kd value → Short code k kd value
-short_of code os k o h kinds.Branch8 (operand.TheVariants.Target t) w g = record {
-  short = refl;
-  to = t;
-  branch = refl;
-  far = λ f. let P : ℤ → Type 0 = FitsBytes 1 in g (subst P (sym (far_is code os k t o h w)) f);
-}
-short_of code os k o h kd value w g = absurd g
-
--- and what reaches isn't
+-- what reaches isn't too far
 not_far : (code : List Ins) (os : List ℕ) (k : ℕ) → AreOffsets code os → k < length code → (kd : OperandKind) (value : operand.Operand)
     → AreWithin (length code) value → Reaches os (get_or os (k + 1) 0) kd value → (to : ℕ) → kd ≡ kinds.Branch8 → value ≡ operand.TheVariants.Target to → FitsBytes 1 (distance code k to)
 not_far code os k o h kd value w r to e f =
@@ -55,32 +37,6 @@ pub is_not_far : (code : List Ins) (os : List ℕ) (k : ℕ) → AreOffsets code
     → AreWithin (length code) ins.operand → Reaches os (get_or os (k + 1) 0) (kind ins.op) ins.operand → IsFar code k ins → ⊥
 is_not_far code os k o h ins w r far =
     far.far (not_far code os k o h (kind ins.op) ins.operand w r far.to far.short far.branch)
-
-pub is_far : (code : List Ins) (os : List ℕ) (k : ℕ) → AreOffsets code os → k < length code → (ins : Ins)
-    → AreWithin (length code) ins.operand → GoesFar os (get_or os (k + 1) 0) (kind ins.op) ins.operand → IsFar code k ins
-is_far code os k o h ins w g =
-    let s = short_of code os k o h (kind ins.op) ins.operand w g in
-    record { short = s.short; to = s.to; branch = s.branch; far = s.far }
-
--- where all before an instruction reach, and it doesn't, it is the first
-pub first_far : (code : List Ins) (os : List ℕ) (k : ℕ) → AreOffsets code os → k < length code
-    → ((j : ℕ) (i : Ins) → j < length code → AreWithin (length code) (get_or code j i).operand)
-    → ((j : ℕ) (i : Ins) → j < k → Reaches os (get_or os (j + 1) 0) (kind (get_or code j i).op) (get_or code j i).operand)
-    → (ins : Ins) → ins ≡ get_or code k ins
-    → (fault : BodyFault) → StopsAt k (GoesFar os (get_or os (k + 1) 0) (kind ins.op) ins.operand) fault → IsFarFault code fault
-first_far code os k o h within before ins e (faults.Far at) (same, g) =
-    let P : Ins → Type 0 = IsFar code k in
-    let W : Ins → Type 0 = λ i. AreWithin (length code) i.operand in
-    let Q : ℕ → Type 0 = λ n. IsFirstFar code n in
-    let found : IsFar code k ins = is_far code os k o h ins (subst W (sym e) (within k ins h)) g in
-    let first : IsFirstFar code k = record {
-      within = h;
-      before = λ j i l far. let m : j < length code = omega arith in is_not_far code os j o m (get_or code j i) (within j i m) (before j i l) far;
-      far = λ d. subst P (e ∙ get_or_default code k ins d h) found;
-    } in
-    subst Q (sym same) first
-first_far code os k o h within before ins e faults.NoMemory s = tt
-first_far code os k o h within before ins e fault s = absurd s
 
 -- only one is the first
 pub first_unique : (code : List Ins) (a b : ℕ) → IsFirstFar code a → IsFirstFar code b → a ≡ b
@@ -112,6 +68,9 @@ within_of : (numbers : TokenMap) (count : ℕ) (kd : OperandKind) (value : opera
 within_of numbers count kd (operand.TheVariants.Target t) fit = fit.1
 within_of numbers count kd (operand.TheVariants.Targets ts) fit = fit.1
 within_of numbers count kd value fit = tt
+
+pub code_within : (numbers : TokenMap) (code : List Ins) → All (λ ins. OperandFits numbers (length code) (kind ins.op) ins.operand) code → All (λ ins. AreWithin (length code) ins.operand) code
+code_within numbers code fits k d h = within_of numbers (length code) (kind (get_or code k d).op) (get_or code k d).operand (fits k d h)
 
 pub operands_within : (numbers : TokenMap) (body : Body) → CanBeWritten numbers body → All (λ ins. AreWithin (length body.code) ins.operand) body.code
 operands_within numbers body can k d h = within_of numbers (length body.code) (kind (get_or body.code k d).op) (get_or body.code k d).operand (can.operands k d h)

@@ -1,10 +1,9 @@
 -- The bytes that are written are the body's.
-use Rattle.std.proofs.Common.{◌≡◌, ◌≢◌, ◌∙◌, ◌⊎◌, inl, inr, ℕ, zero, suc, ◌<◌, ◌≤◌, ◌+◌, ◌*◌, ◌-◌, ◌^◌, Bool, true, false, not, ◌&&◌, cond, if◌then◌else◌, nat_eq, nat_lt, nat_le, List, [], ◌∷◌, ◌++◌, length, map, get_or, ap, refl, sym, subst, arith, Option, None, Some, IsSome}
+use Rattle.std.proofs.Common.{◌≡◌, ◌≢◌, ◌∙◌, inl, inr, ℕ, zero, suc, ◌<◌, ◌≤◌, ◌+◌, ◌*◌, ◌-◌, ◌^◌, Bool, true, false, not, ◌&&◌, if◌then◌else◌, nat_eq, nat_lt, nat_le, List, [], ◌∷◌, ◌++◌, length, map, get_or, ap, refl, sym, subst, arith, Option, None, Some, IsSome}
 use Rattle.std.specs.List.{All, list_all}
 use Rattle.std.proofs.lemmas.List.{length-append, length-map, get_or-map}
 use Rattle.std.proofs.lemmas.Bool.{and_parts, cases_Bool, ltb-true, eqb-true, not-true, lt-ltb, ne_eqb}
 use Rattle.type_terms.specs.declared.term.SigType.{SigType}
-use Rattle.type_terms.specs.declared.term.Owner.{Owner}
 use Rattle.assembly_tree.specs.declared.body.Body.{Body}
 use Rattle.assembly_tree.specs.declared.body.Clause.{Clause}
 use Rattle.assembly_tree.specs.declared.body.ClauseKind as handled
@@ -12,12 +11,12 @@ use Rattle.assembly_tree.specs.declared.body.Ins.{Ins}
 use Rattle.body_codec.specs.declared.decoding.sections.ClauseRow.{ClauseRow}
 use Rattle.body_codec.specs.Instruction.{Piece, kind, place}
 use Rattle.body_codec.specs.Names.{TokenMap, writing}
-use Rattle.body_codec.specs.Header.{HasHeader, SpellsLocals, bound_of, code_end, code_size, code_of, has_sections, header_size, inits, is_tiny, locals_token, number_at}
-use Rattle.body_codec.specs.Sections.{IsRange, SpellsClause, SpellsClauses, SpellsKind, clause_rows, padded}
+use Rattle.body_codec.specs.Header.{HasHeader, SpellsLocals, code_end, code_size, is_tiny, number_at}
+use Rattle.body_codec.specs.Sections.{IsRange, SpellsClause, SpellsClauses, SpellsKind, padded}
 use Rattle.body_codec.specs.Spelling.{SpellsCode}
 use Rattle.body_codec.specs.Bodies.{Spells}
-use Rattle.body_codec.specs.Encoding.{CanBeWritten, ClauseFits, HasSection, IsCompact, IsWritten, KindFits, fat_flags, fits_small, fits_tiny, is_small, offset}
-use Rattle.body_codec.specs.Written.{AreOffsets, HasToken, Reaches, all_small, body_bytes, class_or_filter, code_bytes, fat_header, front_bytes, header_bytes, kind_number, locals_number, number_bytes, or_zero, pieces_from, row_of, serves_small, serves_tiny, tail_bytes}
+use Rattle.body_codec.specs.Encoding.{CanBeWritten, ClauseFits, HasSection, IsCompact, IsWritten, KindFits, fat_flags, fits_small, is_small}
+use Rattle.body_codec.specs.Written.{AreOffsets, HasToken, Reaches, all_small, body_bytes, class_or_filter, code_bytes, fat_header, front_bytes, kind_number, locals_number, number_bytes, or_zero, pieces_from, row_of, serves_small, serves_tiny, tail_bytes}
 use Rattle.body_codec.proofs.Heads.{Says, fat_says, flags, tiny_says}
 use Rattle.body_codec.proofs.Offsets.{count_within, offset_rises, offset_within}
 use Rattle.body_codec.proofs.CodePieces.{length-pieces}

@@ -1,10 +1,9 @@
 -- Headers that are written, and what they say.
-use Rattle.std.proofs.Common.{◌≡◌, ◌∙◌, ℕ, ◌<◌, ◌≤◌, ◌+◌, ◌*◌, ◌/◌, ◌%◌, ◌^◌, Bool, true, false, not, ◌&&◌, ◌||◌, cond, nat_eq, List, [], ◌∷◌, ◌++◌, length, take, drop, ap, refl, sym, arith, if◌then◌else◌, slice_index}
-use Rattle.std.proofs.lemmas.List.{length-append, take_at}
-use Rattle.byteorder.specs.Endian.{little_number}
-use Rattle.body_codec.specs.Header.{number_at, is_tiny, is_fat, header_size, code_size, bound_of, inits, has_sections, locals_token, code_end, code_of}
+use Rattle.std.proofs.Common.{◌≡◌, ◌∙◌, ℕ, ◌<◌, ◌+◌, ◌*◌, ◌/◌, ◌%◌, ◌^◌, Bool, true, false, not, ◌||◌, nat_eq, List, [], ◌∷◌, ◌++◌, length, take, drop, ap, refl, arith, if◌then◌else◌}
+use Rattle.std.proofs.lemmas.List.{take_at}
+use Rattle.body_codec.specs.Header.{number_at, is_tiny, is_fat, header_size, code_size, bound_of, inits, has_sections, locals_token, code_of}
 use Rattle.body_codec.specs.Written.{number_bytes}
-use Rattle.body_codec.proofs.Numbers.{little_back, length-number}
+use Rattle.body_codec.proofs.Numbers.{little_back}
 
 -- ---- the flags of a fat header
 

@@ -16,6 +16,9 @@ pub mod Outlines
 pub mod NamedDecoded
 pub mod Tokens
 pub mod Back
+pub mod Links
+pub mod Drafts
+pub mod Written
 pub mod CodePieces
 pub mod CodeSpelled
 pub mod Coding

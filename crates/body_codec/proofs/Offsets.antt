@@ -1,7 +1,7 @@
 -- Where instructions begin.
-use Rattle.std.proofs.Common.{◌≡◌, ◌∙◌, ℕ, ◌<◌, ◌≤◌, ◌+◌, List, [], ◌∷◌, ◌++◌, length, take, get_or, refl, sym, arith, below_more, Option, None, Some}
+use Rattle.std.proofs.Common.{◌≡◌, ℕ, ◌<◌, ◌≤◌, ◌+◌, List, [], ◌∷◌, length, take, get_or, refl, sym, arith, Option, None, Some}
 use Rattle.std.specs.List.{sum_by}
-use Rattle.std.proofs.lemmas.List.{take_all, take-take, get_or_append_left, get_or_push}
+use Rattle.std.proofs.lemmas.List.{take_all, take-take}
 use Rattle.std.proofs.lemmas.List.Sums.{sum_by-cons, sum_by_more, sum_by-take-le}
 use Rattle.opcode_table.specs.Opcodes.{bytes_of}
 use Rattle.assembly_tree.specs.declared.body.Ins.{Ins}
@@ -20,13 +20,6 @@ offset_more code k d h = sum_by_more ins_size code k d h
 pub offset_within : (code : List Ins) (k : ℕ) → offset code k ≤ offset code (length code)
 unfolding offset
 offset_within code k = rw (take_all (length code) code (omega arith)) (sum_by-take-le ins_size code k)
-
--- one more offset
-pub offsets_more : (code : List Ins) (os : List ℕ) (i at : ℕ) → length os ≡ i → at ≡ offset code i → ((k : ℕ) → k < i → get_or os k 0 ≡ offset code k) → (k : ℕ) → k < i + 1 → get_or (os ++ at ∷ []) k 0 ≡ offset code k
-offsets_more code os i at n e each =
-    below_more (λ k. get_or (os ++ at ∷ []) k 0 ≡ offset code k) i
-    (λ k h. let f : k < length os = omega arith in get_or_append_left os (at ∷ []) 0 k f ∙ each k h)
-    (get_or_push os at 0 i n ∙ e)
 
 front_some : (first : ℕ) (second : Option ℕ) → 1 ≤ length (joined first second)
 front_some first None = omega arith

@@ -1,6 +1,6 @@
 -- Sections that are written, and what they say.
-use Rattle.std.proofs.Common.{◌≡◌, ◌∙◌, ℕ, zero, suc, ◌<◌, ◌≤◌, ◌+◌, ◌*◌, ◌-◌, ◌/◌, ◌%◌, ◌^◌, max, Bool, true, false, ◌&&◌, if◌then◌else◌, leb, List, [], ◌∷◌, ◌++◌, length, map, drop, take, replicate, get_or, ap, refl, sym, arith}
-use Rattle.std.specs.List.{flat_map, range_with_len, All}
+use Rattle.std.proofs.Common.{◌≡◌, ◌∙◌, ℕ, zero, suc, ◌<◌, ◌≤◌, ◌+◌, ◌*◌, ◌-◌, ◌%◌, ◌^◌, Bool, true, false, if◌then◌else◌, List, [], ◌∷◌, ◌++◌, length, drop, take, replicate, get_or, ap, refl, sym, arith}
+use Rattle.std.specs.List.{flat_map, All}
 use Rattle.std.proofs.lemmas.List.{length-append, length-take, drop_at, drop-drop, get_or-drop}
 use Rattle.std.proofs.lemmas.List.FromFn.{fill_by_all}
 use Rattle.std.proofs.lemmas.Bool.{le-leb}
@@ -9,7 +9,7 @@ use Rattle.body_codec.specs.declared.decoding.sections.ClauseRow.{ClauseRow}
 use Rattle.body_codec.specs.Header.{number_at}
 use Rattle.body_codec.specs.Sections.{padded, section_kind, is_fat_section, has_more, said_size, clause_size, clause_count, section_end, can_be_read, sections_from, small_row, fat_row, row_in, rows_in}
 use Rattle.body_codec.specs.Written.{number_bytes, small_bytes, fat_bytes, padding}
-use Rattle.body_codec.proofs.Numbers.{little_back, length-number}
+use Rattle.body_codec.proofs.Numbers.{little_back}
 use Rattle.body_codec.proofs.Tails.{one_of, all_of}
 
 -- ---- rows

@@ -1,6 +1,6 @@
 -- The operands of code that is written: their sizes, and what they are read as.
-use Rattle.std.proofs.Common.{◌≡◌, ◌∙◌, ◌⊎◌, inl, inr, ℕ, zero, suc, ◌<◌, ◌≤◌, ◌+◌, ◌*◌, ◌^◌, ℤ, pos, ◌-ℤ◌, List, [], ◌∷◌, ◌++◌, length, drop, get_or, ap, refl, sym, subst, arith, Option, None, Some, IsSome}
-use Rattle.std.specs.List.{flat_map, All}
+use Rattle.std.proofs.Common.{◌≡◌, ◌∙◌, ◌⊎◌, inl, inr, ℕ, zero, suc, ◌<◌, ◌+◌, ◌*◌, ◌^◌, ℤ, pos, List, [], ◌∷◌, ◌++◌, length, drop, get_or, ap, refl, sym, subst, arith, Option, None, Some, IsSome}
+use Rattle.std.specs.List.{flat_map}
 use Rattle.std.proofs.lemmas.List.{length-append, drop_at, drop-drop}
 use Rattle.std.proofs.lemmas.Int.{ints}
 use Rattle.byteorder.specs.Endian.{little_number, twos_complement}
@@ -8,8 +8,8 @@ use Rattle.opcode_table.specs.declared.kind.OperandKind.{OperandKind}
 use Rattle.opcode_table.specs.declared.kind.OperandKind.TheVariants as kinds
 use Rattle.assembly_tree.specs.declared.body.Operand as operand
 use Rattle.body_codec.specs.Instruction.{Piece, operand_size, number, signed, displacement}
-use Rattle.body_codec.specs.Names.{TokenMap, Suits, token_of, writing}
-use Rattle.body_codec.specs.Spelling.{Form, nothing, variable, integer, byte, real, target, targets, token, form, IsInteger, LeadsTo, SpellsOperand, SpellsTargets, SpellsToken}
+use Rattle.body_codec.specs.Names.{TokenMap, token_of, writing}
+use Rattle.body_codec.specs.Spelling.{nothing, target, targets, token, form, IsInteger, LeadsTo, SpellsOperand}
 use Rattle.body_codec.specs.Encoding.{FitsBytes, IntegerFits, OperandFits, size_of}
 use Rattle.body_codec.specs.Written.{HasToken, Reaches, far_from, number_bytes, or_zero, signed_bytes, tail_of, target_bytes}
 use Rattle.body_codec.proofs.Numbers.{length-number, little_back, number_back, signed_1, signed_4, signed_8, signed_front_4}

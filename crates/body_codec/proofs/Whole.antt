@@ -1,13 +1,13 @@
 -- What is written is the body's most compact form.
-use Rattle.std.proofs.Common.{◌≡◌, ◌∙◌, ◌⊎◌, inl, inr, ℕ, zero, suc, ◌<◌, ◌≤◌, ◌+◌, ◌*◌, ◌-◌, ◌^◌, Bool, true, false, not, ◌&&◌, ◌||◌, cond, nat_eq, nat_lt, nat_le, List, [], ◌∷◌, ◌++◌, length, map, take, drop, replicate, get_or, ap, refl, sym, subst, arith, Option, None, Some}
-use Rattle.std.specs.List.{All, list_all, list_any, fold, flat_map, slice_range}
+use Rattle.std.proofs.Common.{◌≡◌, ◌∙◌, inl, inr, ℕ, suc, ◌<◌, ◌≤◌, ◌-◌, ◌^◌, Bool, true, false, not, nat_eq, nat_le, List, [], ◌∷◌, ◌++◌, length, take, replicate, get_or, ap, refl, sym, subst, arith}
+use Rattle.std.specs.List.{All, list_all, fold, flat_map, slice_range}
 use Rattle.std.proofs.lemmas.List.{length-append, append_assoc, append-nil, drop_at, take_at}
 use Rattle.std.proofs.lemmas.List.Folds.{list_all_at}
-use Rattle.std.proofs.lemmas.Bool.{and_parts, cases_Bool, leb-true, ltb-true, eqb-true, not-true, both_ways, lt-ltb, ne_eqb}
+use Rattle.std.proofs.lemmas.Bool.{and_parts, cases_Bool, leb-true, ltb-true, both_ways, ne_eqb}
 use Rattle.body_codec.specs.declared.decoding.sections.ClauseRow.{ClauseRow}
-use Rattle.body_codec.specs.Header.{code_end, code_size, has_sections, header_size}
-use Rattle.body_codec.specs.Sections.{padded, sections, sections_from, is_broken, body_end, clause_rows, can_be_read, section_end, rows_in}
-use Rattle.body_codec.specs.Written.{all_small, fat_bytes, padding, section_bytes, serves_small, small_bytes, tail_bytes}
+use Rattle.body_codec.specs.Header.{code_end, has_sections}
+use Rattle.body_codec.specs.Sections.{padded, sections, sections_from, is_broken, body_end, clause_rows, section_end, rows_in}
+use Rattle.body_codec.specs.Written.{all_small, padding, section_bytes, serves_small, tail_bytes}
 use Rattle.body_codec.proofs.SectionRows.{FatFits, Holds, SmallFits, fat_holds, length-padding, only_section, padding_is, padding_long, small_holds}
 
 -- ---- behind the code

@@ -1,5 +1,5 @@
 -- When what a numberer numbered has the same names again.
-use Rattle.std.specs.Prelude.{◌≡◌, ℕ, Option, None, Some}
+use Rattle.std.specs.Prelude.{◌≡◌, ℕ, None, Some}
 use Rattle.type_terms.specs.declared.term.Owner.{Owner}
 use Rattle.type_terms.specs.declared.reference.FieldRef.{FieldRef}
 use Rattle.sig_codec.specs.Tokens.{GivesBack}

@@ -10,4 +10,5 @@ pub mod Encoding
 pub mod Reading
 pub mod ReadingClauses
 pub mod Written
+pub mod Chains
 pub mod Back

@@ -20,8 +20,6 @@ use Rattle.body_codec.specs.Instruction.{Piece, operand_size, kind, bytes_of_pie
 use Rattle.body_codec.specs.Names.{TokenMap, token_of}
 use Rattle.body_codec.specs.Sections.{padded}
 use Rattle.body_codec.specs.Encoding.{FitsBytes, offset}
-use Rattle.body_codec.specs.declared.fault.BodyFault.{BodyFault}
-use Rattle.body_codec.specs.declared.fault.BodyFault.TheVariants as faults
 
 -- the lowest bytes of a number, the lowest first
 unfoldable pub number_bytes : ℕ → ℕ → List ℕ
@@ -74,21 +72,10 @@ tail_of token offsets next kind (operand.TheVariants.Field f) = number_bytes 4 t
 tail_of token offsets next kind (operand.TheVariants.Of o) = number_bytes 4 token
 tail_of token offsets next kind (operand.TheVariants.Text units) = number_bytes 4 token
 
--- a short branch behind which the next instruction begins at `next`, and whose displacement is no signed byte
-abbrev pub GoesFar : List ℕ → ℕ → OperandKind → operand.Operand → Type 0
-GoesFar offsets next kinds.Branch8 (operand.TheVariants.Target t) = FitsBytes 1 (far_from offsets next t) → ⊥
-GoesFar offsets next _ _ = ⊥
-
 -- where it is a short branch, a signed byte holds its displacement
 abbrev pub Reaches : List ℕ → ℕ → OperandKind → operand.Operand → Type 0
 Reaches offsets next kinds.Branch8 (operand.TheVariants.Target t) = FitsBytes 1 (far_from offsets next t)
 Reaches offsets next _ _ = Unit {0}
-
--- why an operand isn't written: as the operand of instruction `at` it goes too far
-abbrev pub StopsAt : ℕ → Type 0 → BodyFault → Type 0
-StopsAt at far (faults.Far k) = (k ≡ at) × far
-StopsAt at far faults.NoMemory = Unit {0}
-StopsAt at far _ = ⊥
 
 -- the token of what an operand names is a number of four bytes
 abbrev pub HasToken : TokenMap → operand.Operand → Type 0

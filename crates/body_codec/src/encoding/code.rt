@@ -1,59 +1,61 @@
-ghost use Rattle.std.specs.Prelude.{◌≡◌, ◌<◌, ◌+◌, ◌++◌, ◌^◌, ℕ, length, slice_index, slice_index_or, OnOk, IfErr};
+ghost use Rattle.std.specs.Prelude.{◌≡◌, ◌<◌, ◌+◌, ◌++◌, ◌^◌, ℕ, List, [], length, slice_index, slice_index_or, IfOk, IfErr, OnOk};
 ghost use Rattle.std.specs.List.{All};
 ghost use Rattle.assembly_tree.specs.declared.body.Ins.{Ins};
-ghost use Rattle.body_codec.specs.Instruction.{bytes_of_pieces, kind, piece_bytes};
-ghost use Rattle.body_codec.specs.Encoding.{IsFarFault, offset};
-ghost use Rattle.body_codec.specs.Written.{AreOffsets, AreWithin, GoesFar, HasToken, Reaches, StopsAt, piece_of, pieces_from, token_map};
+ghost use Rattle.assembly_tree.specs.declared.body.Operand.TheVariants as operands;
+ghost use Rattle.body_codec.specs.Chains.{IsDraft, IsKept, IsLinked, from_on, offsets_of};
+ghost use Rattle.body_codec.specs.Encoding.{IsFarFault, OperandFits, ins_size, offset};
+ghost use Rattle.body_codec.specs.Instruction.{kind, operand_size, piece_bytes};
+ghost use Rattle.body_codec.specs.Written.{AreOffsets, AreWithin, HasToken, Reaches, code_bytes, piece_of, token_map};
 
 use crate::BodyFault;
-use crate::encoding::operand::{Site, operand_token, push_opcode, push_operand};
+use crate::encoding::draft::Draft;
+use crate::encoding::operand::{operand_token, push_opcode};
 use assembly_tree::Ins;
-use il_lists::Bytes;
+use il_lists::NoMemory;
 use opcode_table::kind_of;
 use sig_codec::Numberer;
+use std::alloc::Global;
 
-/// Adds the code (III.1.9). `Far` at the first short branch that doesn't reach.
-pub(crate) fn push_code<N: Numberer>(
-    out: &mut Bytes,
+/// The code of these instructions (III.1.9), written in one pass. `Far` at the first short branch that doesn't reach.
+pub(crate) fn draft_of<N: Numberer>(
+    alloc: Global,
     code: &[Ins],
-    offsets: &[u32],
     map: &N,
-) -> Result<(), BodyFault>
-    requires offsets { AreOffsets code.now offsets.now }
+) -> Result<Draft, BodyFault>
     requires end { offset code.now (length code.now) < 2 ^ 31 }
-    requires within { All (λ ins. AreWithin (length code.now) ins.operand) code.now }
-    ensures written { OnOk result (out.new ≡ out.old ++ bytes_of_pieces (pieces_from (token_map (N.owner_tokens map.now) (N.method_tokens map.now) (N.field_tokens map.now) (N.locals_tokens map.now) (N.text_tokens map.now)) offsets.now 0 code.now)) }
+    requires fits { All (λ ins. OperandFits (token_map (N.owner_tokens map.now) (N.method_tokens map.now) (N.field_tokens map.now) (N.locals_tokens map.now) (N.text_tokens map.now)) (length code.now) (kind ins.op) ins.operand) code.now }
+    ensures offsets { IfOk result (λ d. AreOffsets code.now d.offsets) }
+    ensures written { IfOk result (λ d. d.bytes ≡ code_bytes (token_map (N.owner_tokens map.now) (N.method_tokens map.now) (N.field_tokens map.now) (N.locals_tokens map.now) (N.text_tokens map.now)) d.offsets code.now) }
     ensures tokens { OnOk result (All (λ ins. HasToken (token_map (N.owner_tokens map.now) (N.method_tokens map.now) (N.field_tokens map.now) (N.locals_tokens map.now) (N.text_tokens map.now)) ins.operand) code.now) }
-    ensures near { OnOk result ((k : ℕ) (i : Ins) → k < length code.now → Reaches offsets.now (slice_index offsets.now (k + 1)) (kind (slice_index_or code.now k i).op) (slice_index_or code.now k i).operand) }
+    ensures near { IfOk result (λ d. (k : ℕ) (i : Ins) → k < length code.now → Reaches d.offsets (slice_index d.offsets (k + 1)) (kind (slice_index_or code.now k i).op) (slice_index_or code.now k i).operand) }
     ensures far { IfErr result (IsFarFault code.now) }
 {
+    let mut draft = Draft::new(alloc, code.len())?;
     for (k, ins) in code.iter().enumerate() {
-        push_ins(out, ins, k as u32, offsets, map)?;
+        draft.begin()?;
+        push_ins(&mut draft, ins, k as u32, map)?;
     }
-    Ok(())
+    let end = draft.bytes.len() as u32;
+    draft.offsets.push(end)?;
+    match draft.far {
+        Some(at) => Err(BodyFault::Far { at }),
+        None => Ok(draft),
+    }
 }
 
-/// Adds instruction `at`. `Far` where it is a short branch that doesn't reach.
-#[tactic(auto, unfolding(crate::specs::Written::piece_of, crate::specs::Instruction::kind))]
-fn push_ins<N: Numberer>(
-    out: &mut Bytes,
-    ins: &Ins,
-    at: u32,
-    offsets: &[u32],
-    map: &N,
-) -> Result<(), BodyFault>
-    requires next { at + 1 < length offsets.now }
-    requires within { AreWithin (length offsets.now) ins.now.operand }
-    ensures written { OnOk result (out.new ≡ out.old ++ piece_bytes (piece_of (token_map (N.owner_tokens map.now) (N.method_tokens map.now) (N.field_tokens map.now) (N.locals_tokens map.now) (N.text_tokens map.now)) offsets.now at ins.now)) }
+/// Adds instruction `at`, which has begun.
+fn push_ins<N: Numberer>(draft: &mut Draft, ins: &Ins, at: u32, map: &N) -> Result<(), NoMemory>
+    requires linked { IsLinked draft.old }
+    requires begun { length draft.old.offsets ≡ at + 1 }
+    requires within { AreWithin (length draft.old.latest) ins.now.operand }
+    requires some { (to : ℕ) → ins.now.operand ≡ operands.Target to → 0 < operand_size (kind ins.now.op) [] }
+    requires small { length draft.old.bytes + ins_size ins.now < 2 ^ 31 }
+    ensures linked { OnOk result (IsLinked draft.new) }
+    ensures kept { OnOk result (IsKept draft.old draft.new) }
     ensures token { OnOk result (HasToken (token_map (N.owner_tokens map.now) (N.method_tokens map.now) (N.field_tokens map.now) (N.locals_tokens map.now) (N.text_tokens map.now)) ins.now.operand) }
-    ensures near { OnOk result (Reaches offsets.now (slice_index offsets.now (at + 1)) (kind ins.now.op) ins.now.operand) }
-    ensures far { IfErr result (StopsAt at (GoesFar offsets.now (slice_index offsets.now (at + 1)) (kind ins.now.op) ins.now.operand)) }
+    ensures draft { (code : List Ins) (want : List ℕ) → IsDraft (from_on (at + 1)) code at want draft.old → at < length code → ((d : Ins) → slice_index_or code at d ≡ ins.now) → length want ≡ offset code at → OnOk result (IsDraft (from_on (at + 1)) code (at + 1) (want ++ piece_bytes (piece_of (token_map (N.owner_tokens map.now) (N.method_tokens map.now) (N.field_tokens map.now) (N.locals_tokens map.now) (N.text_tokens map.now)) (offsets_of code) at ins.now)) draft.new) }
 {
     let token = operand_token(&ins.operand, map);
-    let site = Site {
-        at,
-        next: offsets[at as usize + 1],
-    };
-    push_opcode(out, ins.op)?;
-    push_operand(out, kind_of(ins.op), &ins.operand, token, site, offsets)
+    push_opcode(&mut draft.bytes, ins.op)?;
+    draft.push_operand(at, kind_of(ins.op), &ins.operand, token)
 }

@@ -1,28 +1,21 @@
-ghost use Rattle.std.specs.Prelude.{◌≡◌, ◌<◌, ◌++◌, [], length, ◌↔◌, IsTrue, OnOk, IfErr};
+ghost use Rattle.std.specs.Prelude.{◌≡◌, ◌<◌, ◌+◌, ◌*◌, ◌++◌, ◌^◌, ℕ, List, [], length, OnOk};
 ghost use Rattle.std.specs.List.{All};
-ghost use Rattle.opcode_table.specs.declared.op.Op.{Op};
+ghost use Rattle.assembly_tree.specs.declared.body.Ins.{Ins};
+ghost use Rattle.assembly_tree.specs.declared.body.Operand.TheVariants as operands;
+ghost use Rattle.opcode_table.specs.declared.kind.OperandKind.TheVariants as kinds;
+ghost use Rattle.body_codec.specs.Chains.{IsDraft, IsKept, IsLinked, IsShort, IsWatched, from_on, offsets_of};
+ghost use Rattle.body_codec.specs.Encoding.{size_of};
 ghost use Rattle.body_codec.specs.Instruction.{opcode_bytes, operand_size};
 ghost use Rattle.body_codec.specs.Names.{token_of};
-ghost use Rattle.body_codec.specs.Encoding.{FitsBytes};
-ghost use Rattle.opcode_table.specs.declared.kind.OperandKind.TheVariants as kinds;
-ghost use Rattle.body_codec.specs.Written.{AreWithin, GoesFar, Reaches, StopsAt, far_from, number_bytes, or_zero, signed_bytes, tail_of, target_bytes, token_map};
+ghost use Rattle.body_codec.specs.Written.{AreWithin, number_bytes, or_zero, tail_of, target_bytes, token_map};
 
-use crate::BodyFault;
+use crate::encoding::draft::Draft;
 use crate::encoding::number::{push_number, push_signed};
-use crate::encoding::offsets::width;
+use crate::encoding::site::{Site, width};
 use assembly_tree::Operand;
 use il_lists::{Bytes, NoMemory};
 use opcode_table::{Op, OperandKind, bytes_of};
 use sig_codec::Numberer;
-
-/// Where an operand stands.
-#[derive(Clone, Copy)]
-pub(crate) struct Site {
-    /// The number of its instruction.
-    pub at: u32,
-    /// Where the next instruction begins, in bytes of the code.
-    pub next: u32,
-}
 
 /// The token of what an operand names, or 0.
 pub(crate) fn operand_token<N: Numberer>(operand: &Operand, map: &N) -> u32
@@ -54,95 +47,82 @@ pub(crate) fn push_opcode(out: &mut Bytes, op: Op) -> Result<(), NoMemory>
     }
 }
 
-/// Adds an operand of this kind, with the token of what it names. `Far` where it is a short branch that doesn't reach.
-pub(crate) fn push_operand(
-    out: &mut Bytes,
-    kind: OperandKind,
-    operand: &Operand,
-    token: u32,
-    site: Site,
-    offsets: &[u32],
-) -> Result<(), BodyFault>
-    requires { AreWithin (length offsets.now) operand.now }
-    ensures written { OnOk result (out.new ≡ out.old ++ tail_of token offsets.now site.next kind operand.now) }
-    ensures near { OnOk result (Reaches offsets.now site.next kind operand.now) }
-    ensures far { IfErr result (StopsAt site.at (GoesFar offsets.now site.next kind operand.now)) }
-{
-    match operand {
-        Operand::Nothing => Ok(()),
-        Operand::Var(number) => {
-            push_number(out, width(kind), u64::from(*number))?;
-            Ok(())
-        }
-        Operand::Int(number) => {
-            push_signed(out, width(kind), *number)?;
-            Ok(())
-        }
-        Operand::Real(bits) => {
-            push_number(out, width(kind), *bits)?;
-            Ok(())
-        }
-        Operand::Target(to) => push_branch(out, kind, *to, site, offsets),
-        Operand::Targets(targets) => {
-            push_targets(out, targets.as_slice(), site.next, offsets)?;
-            Ok(())
-        }
-        Operand::Method(_) | Operand::Field(_) | Operand::Of(_) | Operand::Text(_) => {
-            push_number(out, 4, u64::from(token))?;
-            Ok(())
+impl Draft {
+    /// Adds the operand of instruction `at`, of this kind, with the token of what it names.
+    pub fn push_operand(
+        &mut self,
+        at: u32,
+        kind: OperandKind,
+        operand: &Operand,
+        token: u32,
+    ) -> Result<(), NoMemory>
+        requires linked { IsLinked self.old }
+        requires within { AreWithin (length self.old.latest) operand.now }
+        requires some { (to : ℕ) → operand.now ≡ operands.Target to → 0 < operand_size kind [] }
+        requires small { length self.old.bytes + size_of kind operand.now < 2 ^ 31 }
+        ensures linked { OnOk result (IsLinked self.new) }
+        ensures kept { OnOk result (IsKept self.old self.new) }
+        ensures draft { (code : List Ins) (done : ℕ) (want : List ℕ) → IsDraft (from_on (length self.old.offsets)) code done want self.old → ((to : ℕ) → kind ≡ kinds.Branch8 → operand.now ≡ operands.Target to → IsShort code at to (length self.old.bytes + size_of kind operand.now)) → OnOk result (IsDraft (from_on (length self.old.offsets)) code done (want ++ tail_of token (offsets_of code) (length self.old.bytes + size_of kind operand.now) kind operand.now) self.new) }
+        ensures watched { (code : List Ins) (done : ℕ) (want : List ℕ) → IsDraft (from_on (length self.old.offsets)) code done want self.old → ((to : ℕ) → kind ≡ kinds.Branch8 → operand.now ≡ operands.Target to → IsShort code at to (length self.old.bytes + size_of kind operand.now)) → OnOk result ((to : ℕ) → kind ≡ kinds.Branch8 → operand.now ≡ operands.Target to → IsWatched (from_on (length self.old.offsets)) code self.new.sites self.new.far at to) }
+    {
+        match operand {
+            Operand::Nothing => Ok(()),
+            Operand::Var(number) => push_number(&mut self.bytes, width(kind), u64::from(*number)),
+            Operand::Int(number) => push_signed(&mut self.bytes, width(kind), *number),
+            Operand::Real(bits) => push_number(&mut self.bytes, width(kind), *bits),
+            Operand::Target(to) => self.push_branch(at, kind, *to),
+            Operand::Targets(targets) => self.push_switch(at, targets.as_slice()),
+            Operand::Method(_) | Operand::Field(_) | Operand::Of(_) | Operand::Text(_) => {
+                push_number(&mut self.bytes, 4, u64::from(token))
+            }
         }
     }
-}
 
-/// Adds the displacement of a branch to instruction `to`. `Far` where it is a short one that doesn't reach.
-fn push_branch(
-    out: &mut Bytes,
-    kind: OperandKind,
-    to: u32,
-    site: Site,
-    offsets: &[u32],
-) -> Result<(), BodyFault>
-    requires { to < length offsets.now }
-    ensures written { OnOk result (out.new ≡ out.old ++ signed_bytes (operand_size kind []) (far_from offsets.now site.next to)) }
-    ensures near { OnOk result (kind ≡ kinds.Branch8 → FitsBytes 1 (far_from offsets.now site.next to)) }
-    ensures far { IfErr result (StopsAt site.at ((kind ≡ kinds.Branch8) × (FitsBytes 1 (far_from offsets.now site.next to) → ⊥))) }
-{
-    let distance = displacement(to, site.next, offsets);
-    if kind == OperandKind::Branch8 && !is_byte(distance) {
-        return Err(BodyFault::Far { at: site.at });
+    /// Adds the displacement of the branch `at` to instruction `to`.
+    fn push_branch(&mut self, at: u32, kind: OperandKind, to: u32) -> Result<(), NoMemory>
+        requires linked { IsLinked self.old }
+        requires within { to < length self.old.latest }
+        requires some { 0 < operand_size kind [] }
+        requires small { length self.old.bytes + operand_size kind [] < 2 ^ 31 }
+        ensures linked { OnOk result (IsLinked self.new) }
+        ensures kept { OnOk result (IsKept self.old self.new) }
+        ensures draft { (code : List Ins) (done : ℕ) (want : List ℕ) → IsDraft (from_on (length self.old.offsets)) code done want self.old → (kind ≡ kinds.Branch8 → IsShort code at to (length self.old.bytes + operand_size kind [])) → OnOk result (IsDraft (from_on (length self.old.offsets)) code done (want ++ tail_of 0 (offsets_of code) (length self.old.bytes + operand_size kind []) kind (operands.Target to)) self.new) }
+        ensures watched { (code : List Ins) (done : ℕ) (want : List ℕ) → IsDraft (from_on (length self.old.offsets)) code done want self.old → (kind ≡ kinds.Branch8 → IsShort code at to (length self.old.bytes + operand_size kind [])) → OnOk result (kind ≡ kinds.Branch8 → IsWatched (from_on (length self.old.offsets)) code self.new.sites self.new.far at to) }
+    {
+        let place = self.bytes.len() as u32;
+        let end = place + width(kind) as u32;
+        self.push_target(Site {
+            at,
+            kind,
+            place,
+            end,
+            to,
+            before: None,
+        })
     }
-    push_signed(out, width(kind), distance)?;
-    Ok(())
-}
 
-/// Whether a signed byte holds the number.
-fn is_byte(number: i64) -> bool
-    ensures { IsTrue result ↔ FitsBytes 1 number }
-{
-    (-128..128).contains(&number)
-}
-
-/// How far it is from the next instruction to instruction `to`, in bytes.
-fn displacement(to: u32, next: u32, offsets: &[u32]) -> i64
-    requires { to < length offsets.now }
-    ensures { result ≡ far_from offsets.now next to }
-{
-    i64::from(offsets[to as usize]) - i64::from(next)
-}
-
-/// Adds the count of a switch's targets and the displacements to them (III.3.66).
-fn push_targets(
-    out: &mut Bytes,
-    targets: &[u32],
-    next: u32,
-    offsets: &[u32],
-) -> Result<(), NoMemory>
-    requires { All (λ t. t < length offsets.now) targets.now }
-    ensures { OnOk result (out.new ≡ out.old ++ number_bytes 4 (length targets.now) ++ target_bytes offsets.now next targets.now) }
-{
-    push_number(out, 4, targets.len() as u64)?;
-    for to in targets {
-        push_signed(out, 4, displacement(*to, next, offsets))?;
+    /// Adds the count of a switch's targets and the displacements to them (III.3.66).
+    fn push_switch(&mut self, at: u32, targets: &[u32]) -> Result<(), NoMemory>
+        requires linked { IsLinked self.old }
+        requires within { All (λ t. t < length self.old.latest) targets.now }
+        requires small { length self.old.bytes + (4 + 4 * length targets.now) < 2 ^ 31 }
+        ensures linked { OnOk result (IsLinked self.new) }
+        ensures kept { OnOk result (IsKept self.old self.new) }
+        ensures draft { (code : List Ins) (done : ℕ) (want : List ℕ) → IsDraft (from_on (length self.old.offsets)) code done want self.old → OnOk result (IsDraft (from_on (length self.old.offsets)) code done (want ++ (number_bytes 4 (length targets.now) ++ target_bytes (offsets_of code) (length self.old.bytes + (4 + 4 * length targets.now)) targets.now)) self.new) }
+    {
+        push_number(&mut self.bytes, 4, targets.len() as u64)?;
+        let end = (self.bytes.len() + 4 * targets.len()) as u32;
+        for to in targets {
+            let place = self.bytes.len() as u32;
+            self.push_target(Site {
+                at,
+                kind: OperandKind::Switch,
+                place,
+                end,
+                to: *to,
+                before: None,
+            })?;
+        }
+        Ok(())
     }
-    Ok(())
 }
