@@ -90,3 +90,7 @@ pub ids_more : (ns ms : List Node) (ids new : List ℕ) (id : ℕ) → AllBelow 
 ids_more ns ms ids new id p h x e =
     let l : length ns ≤ length ms = extends_long ns ms x in
     subst (AllBelow (length ms)) (sym e) (below_end (length ms) ids id (below_extends ns ms ids x p) (omega arith))
+
+-- the types of ids that equal others, in a pool that grew
+pub kept_ids : (ns ms : List Node) (ids copied : List ℕ) → Extends ns ms → AllBelow (length ns) ids → copied ≡ ids → terms_at ms copied ≡ terms_at ns ids
+kept_ids ns ms ids copied x p e = ap (terms_at ms) e ∙ kept ns ms ids x p

@@ -16,7 +16,7 @@ use Rattle.assignability.specs.Meaning.{meant, IsWithin, Means, instance_type}
 use Rattle.assignability.specs.declared.stack_type.StackType.{StackType}
 use Rattle.assignability.specs.Names.{full_name, class_of}
 use Rattle.assignability.specs.Pooled.{HasOption, put_in}
-use Rattle.assignability.specs.Tables.{entry_of, declared_entry, declaration, declaration_in, hierarchy_in}
+use Rattle.assignability.specs.Tables.{entry_of, declaration, declaration_in, hierarchy_in}
 use Rattle.assignability.specs.Hierarchy.{Hierarchy, declared_interfaces, object, core_name, instance_parent, chained_in, parent_by, name_parent, primitive_parent, parent, layer_parent, interfaces, layer_interfaces, elements, layer_elements, underlying, layer_underlying}
 use Rattle.assignability.specs.Stack.{is_reference, layer_is_reference, primitive, layer_primitive, counts_as, changed, verified, signed, verification_type, reduced_type, pointer_to, plain_stack, layer_stack, instance_stack, stack_of, stack_by, Stack}
 
@@ -55,13 +55,13 @@ some_id ns id t h = (t, refl, h)
 
 -- the parent of a name's type, from what is known of the name
 pub known_parent : (t : Tables) (name : TypeName) (above : Option Above) (d : Option Declared)
-    → name_above t.core above ≡ chained_in t.core name → d ≡ declared_entry (entry_of t name)
-    → parent_by (hierarchy_in t) (name_above t.core above) (declaration_in d) ≡ name_parent (hierarchy_in t) name ((hierarchy_in t).declared name)
+    → name_above t.values.core above ≡ chained_in t.values.core name → d ≡ entry_of t name
+    → parent_by (hierarchy_in t) (name_above t.values.core above) (declaration_in d) ≡ name_parent (hierarchy_in t) name ((hierarchy_in t).declared name)
 unfolding hierarchy_in
 known_parent t name above d e f = λ i. parent_by (hierarchy_in t) (e i) (declaration_in (f i))
 
 pub known_declaration : (t : Tables) (name : TypeName) (d : Option Declared)
-    → d ≡ declared_entry (entry_of t name) → declaration_in d ≡ (hierarchy_in t).declared name
+    → d ≡ entry_of t name → declaration_in d ≡ (hierarchy_in t).declared name
 unfolding hierarchy_in
 known_declaration t name d f = ap declaration_in f
 
@@ -75,14 +75,14 @@ primitive_named w prim.Object h = absurd (h refl)
 primitive_named w p h = refl
 
 pub primitive_known : (t : Tables) (p : Primitive) (above : Option Above) (d : Option Declared) → (p ≡ prim.Object → ⊥)
-    → name_above t.core above ≡ chained_in t.core (full_name t.core (class_of p)) → d ≡ declared_entry (entry_of t (full_name t.core (class_of p)))
-    → Some (parent_by (hierarchy_in t) (name_above t.core above) (declaration_in d)) ≡ primitive_parent (hierarchy_in t) p
+    → name_above t.values.core above ≡ chained_in t.values.core (full_name t.values.core (class_of p)) → d ≡ entry_of t (full_name t.values.core (class_of p))
+    → Some (parent_by (hierarchy_in t) (name_above t.values.core above) (declaration_in d)) ≡ primitive_parent (hierarchy_in t) p
 unfolding hierarchy_in
 primitive_known t p above d h e f =
-    ap Some (known_parent t (full_name t.core (class_of p)) above d e f) ∙ primitive_named (hierarchy_in t) p h
+    ap Some (known_parent t (full_name t.values.core (class_of p)) above d e f) ∙ primitive_named (hierarchy_in t) p h
 
 pub known_instance : (t : Tables) (ns : List Node) (args copied : List ℕ) (name : TypeName) (d : Option Declared)
-    → copied ≡ args → d ≡ declared_entry (entry_of t name)
+    → copied ≡ args → d ≡ entry_of t name
     → Some (instance_parent (map (at (terms ns)) args) ((hierarchy_in t).declared name)) ≡ Some (instance_parent (terms_at ns copied) (declaration_in d))
 unfolding hierarchy_in term_of
 known_instance t ns args copied name d e f = λ i. Some (instance_parent (map (at (terms ns)) (sym e i)) (declaration_in (sym f i)))
@@ -116,7 +116,7 @@ reduced_is w t o e = ap (changed signed t) e
 
 -- ---- interfaces
 
-pub prim_declaration : (t : Tables) (p : Primitive) (d : Option Declared) → d ≡ declared_entry (entry_of t (full_name t.core (class_of p)))
+pub prim_declaration : (t : Tables) (p : Primitive) (d : Option Declared) → d ≡ entry_of t (full_name t.values.core (class_of p))
     → declaration_in d ≡ (hierarchy_in t).declared (core_name (hierarchy_in t) (class_of p))
 unfolding hierarchy_in
 prim_declaration t p d e = ap declaration_in e
@@ -126,7 +126,7 @@ put_in_some args [] = refl
 put_in_some args (t ∷ ts) = ap (λ l. replaced args [] t ∷ l) (put_in_some args ts)
 
 pub instance_interfaces : (t : Tables) (ns : List Node) (args copied : List ℕ) (name : TypeName) (d : Option Declared)
-    → copied ≡ args → d ≡ declared_entry (entry_of t name)
+    → copied ≡ args → d ≡ entry_of t name
     → map (replaced (map (at (terms ns)) args) []) (declared_interfaces ((hierarchy_in t).declared name)) ≡ map (put_in (Some (terms_at ns copied))) (declared_interfaces (declaration_in d))
 unfolding hierarchy_in term_of
 instance_interfaces t ns args copied name d e f =

@@ -12,7 +12,7 @@ use Rattle.type_terms.specs.declared.name.TypeId.{TypeId}
 use Rattle.type_terms.specs.declared.name.TypeName.{TypeName}
 use Rattle.assignability.specs.Names.{same_text, same_id, same_path, same_scope, same_name}
 use Rattle.assignability.specs.Tables.{entry_in}
-use Rattle.assignability.specs.declared.tables.Entry.{Entry}
+use Rattle.assignability.specs.declared.tables.Declared.{Declared}
 
 -- ---- the tests of names
 
@@ -45,7 +45,7 @@ test_false a b n = elim (cases_Bool (same_name a b)) [
   | inr e ↦ e
 ]
 
-pub entry_at : (names : List TypeName) (entries : List Entry) (k : ℕ) (name : TypeName) → slice_get names k ≡ Some name
+pub entry_at : (names : List TypeName) (entries : List Declared) (k : ℕ) (name : TypeName) → slice_get names k ≡ Some name
     → ((j : ℕ) → slice_get names j ≡ Some name → j ≡ k) → entry_in names entries name ≡ slice_get entries k
 entry_at [] entries k name at only = absurd (let f : ⊥ = cc in f)
 entry_at (n ∷ names) [] zero name at only = refl
@@ -57,7 +57,7 @@ entry_at (n ∷ names) (e ∷ entries) (suc k) name at only =
     ap (λ t. cond t (Some e) (entry_in names entries name)) (test_false name n other)
     ∙ entry_at names entries k name at (λ j h. let s : suc j ≡ suc k = only (suc j) h in omega arith)
 
-pub entry_none : (names : List TypeName) (entries : List Entry) (name : TypeName) → ((k : ℕ) → slice_get names k ≡ Some name → ⊥) → entry_in names entries name ≡ None
+pub entry_none : (names : List TypeName) (entries : List Declared) (name : TypeName) → ((k : ℕ) → slice_get names k ≡ Some name → ⊥) → entry_in names entries name ≡ None
 entry_none [] entries name lacks = refl
 entry_none (n ∷ names) [] name lacks = refl
 entry_none (n ∷ names) (e ∷ entries) name lacks =

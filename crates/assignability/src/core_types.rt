@@ -63,8 +63,8 @@ pub fn core_type(
     ensures ok { IfOk result (λ id. Has pool.new id (named (hierarchy_in tables.now) (core_name (hierarchy_in tables.now) (system name.now)))) }
     ensures extends { Extends pool.old pool.new }
 {
-    let name = system_name(alloc, tables.core, name)?;
-    let is_value = tables.is_value(name.scope, name.path.as_slice());
+    let name = system_name(alloc, tables.values.core, name)?;
+    let is_value = tables.values.has(name.scope, name.path.as_slice());
     intern(pool, named(is_value, name))
 }
 
@@ -136,7 +136,7 @@ fn above_id(
     above: Above,
 ) -> Result<SigId, NoMemory>
     requires { length tables.now.names ≡ length tables.now.entries }
-    ensures ok { IfOk result (λ id. Has pool.new id (as_parent (hierarchy_in tables.now) (full_name tables.now.core (path_of above)))) }
+    ensures ok { IfOk result (λ id. Has pool.new id (as_parent (hierarchy_in tables.now) (full_name tables.now.values.core (path_of above)))) }
     ensures extends { Extends pool.old pool.new }
 {
     match above {
@@ -154,7 +154,7 @@ fn chain_parent(
     next: Option<Above>,
 ) -> Result<SigId, NoMemory>
     requires { length tables.now.names ≡ length tables.now.entries }
-    ensures ok { IfOk result (λ id. Has pool.new id (chain_parent (hierarchy_in tables.now) (name_above tables.now.core next))) }
+    ensures ok { IfOk result (λ id. Has pool.new id (chain_parent (hierarchy_in tables.now) (name_above tables.now.values.core next))) }
     ensures extends { Extends pool.old pool.new }
 {
     match next {
@@ -183,7 +183,7 @@ pub fn parent_by(
     declared: Option<&Declared>,
 ) -> Result<SigId, NoMemory>
     requires { length tables.now.names ≡ length tables.now.entries }
-    ensures ok { IfOk result (λ id. Has pool.new id (parent_by (hierarchy_in tables.now) (name_above tables.now.core next) (declaration_in (option_copied declared.entry)))) }
+    ensures ok { IfOk result (λ id. Has pool.new id (parent_by (hierarchy_in tables.now) (name_above tables.now.values.core next) (declaration_in (option_copied declared.entry)))) }
     ensures extends { Extends pool.old pool.new }
 {
     match declared {

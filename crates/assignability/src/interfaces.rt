@@ -30,7 +30,7 @@ pub fn interface_ids(
 {
     match pool.node(id) {
         Node::Prim(prim) => {
-            let name = class_name(alloc, tables.core, *prim)?;
+            let name = class_name(alloc, tables.values.core, *prim)?;
             let known = tables.known(&name);
             plain(alloc, pool, known.declared)
         }

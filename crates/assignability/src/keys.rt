@@ -10,8 +10,8 @@ ghost use Rattle.assignability.specs.World.{hierarchy, type_at, Stays};
 
 use crate::arrays::vector_element_id;
 use crate::interfaces::interface_ids;
-use crate::stack_of::{boxed_of_id, pointer_to_id, stack_of_id};
 use crate::stack_type::{StackType, TypeKey, TypeKeys};
+use crate::stacks::{boxed_of_id, pointer_to_id, stack_of_id};
 use crate::terms::term_at;
 use crate::types::World;
 use il_lists::{Items, NoMemory};
@@ -116,7 +116,7 @@ fn keys_at(alloc: Global, ids: &[SigId]) -> Result<TypeKeys, NoMemory>
 pub fn core_scope(w: &World) -> Scope
     ensures { result ≡ (hierarchy w.now).core }
 {
-    w.tables.core
+    w.tables.values.core
 }
 
 /// Whether a name of the image is a value type. Takes no memory.
@@ -124,8 +124,8 @@ pub fn core_scope(w: &World) -> Scope
 pub fn is_value(w: &World, name: &TypeName) -> bool
     ensures { result ≡ is_value_name (hierarchy w.now) name.now }
 {
-    let scope = w.tables.meant(name.scope);
-    w.tables.is_value(scope, name.path.as_slice())
+    let scope = w.tables.means.of(name.scope);
+    w.tables.values.has(scope, name.path.as_slice())
 }
 
 /// The normalised type of the key, as a tree of its own.

@@ -19,13 +19,14 @@ mod order;
 mod parents;
 mod queue;
 mod stack;
-mod stack_of;
 mod stack_type;
+mod stacks;
 mod tables;
 mod terms;
 pub mod types;
 mod value_names;
 mod values;
+mod written;
 
 pub use keys::{
     boxed_of, core_scope, element_of, interfaces_of, is_value, pointer_to, st_of, term_of,
@@ -33,3 +34,4 @@ pub use keys::{
 pub use laws::{assignable_is_a_preorder, joins_are_least_upper_bounds};
 pub use order::{assignable, join, parent};
 pub use stack_type::{StackType, TypeKey, TypeKeys, id_of};
+pub use written::{key_of, stack_of};

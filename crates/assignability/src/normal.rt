@@ -35,7 +35,7 @@ pub fn normalised_owner(
 /// value type or another one.
 #[cycle(normal)]
 #[tactic(auto, unfolding(crate::specs::Normal::normal))]
-fn normalised(
+pub fn normalised(
     alloc: Global,
     values: &Values,
     means: &Meanings,

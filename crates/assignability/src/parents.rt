@@ -87,7 +87,7 @@ fn name_parent(
     known: &Known<'_>,
 ) -> Result<Option<SigId>, NoMemory>
     requires tables { length tables.now.names ≡ length tables.now.entries }
-    ensures ok { IfOk result (λ r. HasOption pool.new r (Some (parent_by (hierarchy_in tables.now) (name_above tables.now.core known.now.above) (declaration_in (option_copied known.now.declared))))) }
+    ensures ok { IfOk result (λ r. HasOption pool.new r (Some (parent_by (hierarchy_in tables.now) (name_above tables.now.values.core known.now.above) (declaration_in (option_copied known.now.declared))))) }
     ensures extends { Extends pool.old pool.new }
 {
     let parent = parent_by(alloc, tables, pool, known.above, known.declared)?;
@@ -108,7 +108,7 @@ fn primitive_parent(
     if prim == Prim::Object {
         return Ok(None);
     }
-    let name = class_name(alloc, tables.core, prim)?;
+    let name = class_name(alloc, tables.values.core, prim)?;
     let known = tables.known(&name);
     name_parent(alloc, tables, pool, &known)
 }

@@ -1,7 +1,7 @@
 use Rattle.std.proofs.Common.{◌∙◌, refl}
 use Rattle.assignability.specs.Tables.{hierarchy_in}
 use Rattle.assignability.proofs.NodeLemmas.{plain_is, pointed, means_instance}
-use Rattle.assignability.proofs.stack_of.plain_stack.Goals as goal
+use Rattle.assignability.proofs.stacks.plain_stack.Goals as goal
 
 pub returns-in-Prim-clause-ok : goal.returns-in-Prim-clause-ok
 returns-in-Prim-clause-ok c =
