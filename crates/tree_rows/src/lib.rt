@@ -19,6 +19,8 @@ mod parts;
 #[cfg(test)]
 mod references;
 #[cfg(test)]
+mod sums;
+#[cfg(test)]
 mod terms;
 #[cfg(test)]
 mod types;
