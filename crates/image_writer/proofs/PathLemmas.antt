@@ -5,7 +5,7 @@ use Rattle.std.proofs.lemmas.List.{append-nil, append_assoc}
 use Rattle.heaps.specs.Heap.{Heap}
 use Rattle.type_terms.specs.declared.name.TypeId.{TypeId}
 use Rattle.image_writer.specs.Rows.{IsRowAt, Lacks}
-use Rattle.image_writer.specs.Texts.{HoldsText, KeepsTexts, HoldsId}
+use Rattle.image_writer.specs.Texts.{HoldsText, KeepsTexts}
 use Rattle.image_writer.specs.TypePaths.{IsTypeRow, Follows, last, on, GoesOn}
 use Rattle.image_writer.specs.declared.row_set.Cells.{Cells}
 

@@ -3,6 +3,7 @@ pub mod Found
 pub mod Hashing
 pub mod Indexes
 pub mod KnownTokens
+pub mod NameTokens
 pub mod Rows
 pub mod Texts
 pub mod TypePaths

@@ -1,10 +1,8 @@
 -- Texts in a heap that is being filled (ECMA-335 II.24.2.3).
-use Rattle.std.specs.Prelude.{◌≡◌, ◌≢◌, ℕ, ◌+◌, ◌≤◌, List, Ok, Result, All, Contains, length}
-use Rattle.il_lists.specs.declared.memory.NoMemory.{NoMemory}
+use Rattle.std.specs.Prelude.{◌≢◌, ℕ, ◌+◌, List, All, Contains, length}
 use Rattle.heaps.specs.Content.{HasText}
 use Rattle.heaps.specs.Heap.{Heap}
 use Rattle.type_terms.specs.declared.name.TypeId.{TypeId}
-use Rattle.image_writer.specs.declared.row_set.Cells.{Cells}
 
 -- an index in use holds a text
 pub record HoldsText (strings : Heap) (text : List ℕ) (index : ℕ) : Type 0 where

@@ -7,6 +7,7 @@ mod found;
 mod hashing;
 mod heap_contents;
 mod known;
+mod name_tokens;
 mod row_set;
 mod texts;
 mod tokens;
