@@ -15,6 +15,7 @@ pub mod NodeLemmas
 pub mod Normals
 pub mod Ordering
 pub mod QueueLemmas
+pub mod StayLemmas
 pub mod Steps
 pub mod TableLemmas
 pub mod TermLemmas

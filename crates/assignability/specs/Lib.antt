@@ -21,6 +21,7 @@ pub mod Relations
 pub mod Scopes
 pub mod Stack
 pub mod Starts
+pub mod Staying
 pub mod Tables
 pub mod ValueNames
 pub mod World

@@ -1,6 +1,8 @@
 ghost use Rattle.std.specs.Prelude.{ℕ};
 ghost use Rattle.type_terms.specs.declared.term.SigType.{SigType};
 ghost use Rattle.assignability.specs.Hierarchy.{Hierarchy};
+ghost use Rattle.assignability.specs.Staying.{KeepsKeys};
+ghost use Rattle.assignability.specs.World.{Content, Stays};
 ghost use Rattle.assignability.specs.Laws.{IsGrounded, IsReflexive, IsTransitive, IsOrder, JoinLaws};
 
 /// A value of a type may stand where that type is wanted, save for Bad; and what may stand for a second
@@ -19,4 +21,12 @@ pub fn assignable_is_a_preorder()
 pub fn joins_are_least_upper_bounds()
     ensures order { (w : Hierarchy) (height : SigType → ℕ) → IsGrounded w height → IsOrder w }
     ensures joins { (w : Hierarchy) (height : SigType → ℕ) → IsGrounded w height → JoinLaws w }
+{}
+
+/// As a world goes on, each key that it gave keeps its type, and each stack type its meaning. It does
+/// nothing when it is called.
+#[tactic(auto, using(crate::proofs::StayLemmas::keeps_keys, crate::proofs::StayLemmas::stays_on))]
+pub fn keys_keep_their_types()
+    ensures keys { (old new : Content) → Stays old new → KeepsKeys old new }
+    ensures onward { (a b c : Content) → Stays a b → Stays b c → Stays a c }
 {}

@@ -31,7 +31,7 @@ mod written;
 pub use keys::{
     boxed_of, core_scope, element_of, interfaces_of, is_value, pointer_to, st_of, term_of,
 };
-pub use laws::{assignable_is_a_preorder, joins_are_least_upper_bounds};
+pub use laws::{assignable_is_a_preorder, joins_are_least_upper_bounds, keys_keep_their_types};
 pub use order::{assignable, join, parent};
 pub use stack_type::{StackType, TypeKey, TypeKeys, id_of};
 pub use written::{key_of, stack_of};
