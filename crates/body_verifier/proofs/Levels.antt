@@ -65,10 +65,10 @@ passes_admits k t b p true false e f = absurd (not_held b t f (p.stays (held b k
 passes_admits k t b p false true e f = eq-eqb b.start t (p.enters (held b t f) (not_held b k e)).begins
 passes_admits k t b p false false e f = refl
 
-kept : (k t : ℕ) (b : Block) → keeps k t (span_of b) ≡ true → Passes k t b
+pub kept : (k t : ℕ) (b : Block) → keeps k t (span_of b) ≡ true → Passes k t b
 kept k t b h = keeps_passes k t b (is_held (span_of b) k) (is_held (span_of b) t) refl refl h
 
-kept_from : (k t : ℕ) (b : Block) → (b.kind ≡ guarded → ⊥) → Passes k t b → keeps k t (span_of b) ≡ true
+pub kept_from : (k t : ℕ) (b : Block) → (b.kind ≡ guarded → ⊥) → Passes k t b → keeps k t (span_of b) ≡ true
 kept_from k t b g p = passes_keeps k t b g p (is_held (span_of b) k) (is_held (span_of b) t) refl refl
 
 admitted : (k t : ℕ) (b : Block) → b.kind ≡ guarded → admits k t (span_of b) ≡ true → Passes k t b

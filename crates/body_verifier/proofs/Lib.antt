@@ -1,3 +1,4 @@
+pub mod Innermost
 pub mod Levels
 pub mod LinkLemmas
 pub mod Members
@@ -5,6 +6,7 @@ pub mod Monotone
 pub mod Nesting
 pub mod Orders
 pub mod PathsRight
+pub mod Placing
 pub mod Reduced
 pub mod Refining
 pub mod Shapes

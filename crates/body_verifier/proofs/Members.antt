@@ -1,8 +1,8 @@
 -- What holds of every member of a list.
-use Rattle.std.proofs.Common.{◌≡◌, ◌⊎◌, inl, inr, ℕ, zero, suc, Bool, true, List, [], ◌∷◌, ◌++◌, refl, ap, subst, Some, arith}
+use Rattle.std.proofs.Common.{◌≡◌, ◌⊎◌, inl, inr, ℕ, zero, suc, Bool, true, ◌||◌, map, List, [], ◌∷◌, ◌++◌, refl, sym, ◌∙◌, ap, subst, Some, arith}
 use Rattle.std.specs.Prelude.{slice_get}
-use Rattle.std.specs.List.{Contains, flat_map, list_all}
-use Rattle.std.proofs.lemmas.Bool.{and_parts, and_from}
+use Rattle.std.specs.List.{Contains, flat_map, list_all, list_any}
+use Rattle.std.proofs.lemmas.Bool.{and_parts, and_from, or_cases, or_left, or_right}
 
 abbrev pub Every : {X : Type 0} → (X → Type 0) → List X → Type 0
 Every P [] = Unit {0}
@@ -75,3 +75,59 @@ place_of (y ∷ ys) x c = elim (either y ys x c) [
   | inl e ↦ (0, ap Some e)
   | inr more ↦ let r = place_of ys x more in (suc r.0, r.1)
 ]
+
+-- ---- lists of lists
+
+pub of_append : {X : Type 0} (xs ys : List X) (y : X) → Contains (xs ++ ys) y → Contains xs y ⊎ Contains ys y
+of_append [] ys y c = inr c
+of_append (x ∷ xs) ys y c = elim (either x (xs ++ ys) y c) [
+  | inl e ↦ inl (subst (λ z. Contains (x ∷ xs) z) e (here x xs))
+  | inr more ↦ elim (of_append xs ys y more) [
+    | inl l ↦ inl (there x xs y l)
+    | inr r ↦ inr r
+  ]
+]
+
+pub of_flat : {X Y : Type 0} (f : X → List Y) (xs : List X) (y : Y) → Contains (flat_map f xs) y → (x : X) × Contains xs x × Contains (f x) y
+of_flat f [] y c = absurd (none y c)
+of_flat f (x ∷ xs) y c = elim (of_append (f x) (flat_map f xs) y c) [
+  | inl l ↦ (x, here x xs, l)
+  | inr r ↦ let m = of_flat f xs y r in (m.0, there x xs m.0 m.1, m.2)
+]
+
+in_left : {X : Type 0} (xs ys : List X) (y : X) → Contains xs y → Contains (xs ++ ys) y
+in_left [] ys y c = absurd (none y c)
+in_left (x ∷ xs) ys y c = elim (either x xs y c) [
+  | inl e ↦ subst (λ z. Contains (x ∷ (xs ++ ys)) z) e (here x (xs ++ ys))
+  | inr more ↦ there x (xs ++ ys) y (in_left xs ys y more)
+]
+
+in_right : {X : Type 0} (xs ys : List X) (y : X) → Contains ys y → Contains (xs ++ ys) y
+in_right [] ys y c = c
+in_right (x ∷ xs) ys y c = there x (xs ++ ys) y (in_right xs ys y c)
+
+pub in_flat : {X Y : Type 0} (f : X → List Y) (xs : List X) (x : X) (y : Y) → Contains xs x → Contains (f x) y → Contains (flat_map f xs) y
+in_flat f [] x y c d = absurd (none x c)
+in_flat f (z ∷ zs) x y c d = elim (either z zs x c) [
+  | inl e ↦ in_left (f z) (flat_map f zs) y (subst (λ v. Contains (f v) y) (sym e) d)
+  | inr more ↦ in_right (f z) (flat_map f zs) y (in_flat f zs x y more d)
+]
+
+-- some member passes a test
+pub any_to : {X : Type 0} (test : X → Bool) (xs : List X) → list_any test xs ≡ true → (x : X) × Contains xs x × (test x ≡ true)
+any_to test [] h = absurd (let f : ⊥ = cc in f)
+any_to test (x ∷ xs) h = elim (or_cases (test x) (list_any test xs) h) [
+  | inl e ↦ (x, here x xs, e)
+  | inr r ↦ let m = any_to test xs r in (m.0, there x xs m.0 m.1, m.2)
+]
+
+pub any_from : {X : Type 0} (test : X → Bool) (xs : List X) (x : X) → Contains xs x → test x ≡ true → list_any test xs ≡ true
+any_from test [] x c h = absurd (none x c)
+any_from test (y ∷ ys) x c h = elim (either y ys x c) [
+  | inl e ↦ or_left (test y) (list_any test ys) (ap test e ∙ h)
+  | inr more ↦ or_right (test y) (list_any test ys) (any_from test ys x more h)
+]
+
+pub any_map : {X Y : Type 0} (p : X → Bool) (f : Y → X) (ys : List Y) → list_any p (map f ys) ≡ list_any (λ y. p (f y)) ys
+any_map p f [] = refl
+any_map p f (y ∷ ys) = ap (λ b. p (f y) || b) (any_map p f ys)

@@ -77,17 +77,17 @@ filter_from test start (Catch o) h = refl
 filter_from test start Finally h = refl
 filter_from test start Fault h = refl
 
-handling_to : (test : Span → Bool) (c : Clause) → handling_all test (spans_of c) ≡ true → (b : Block) → Contains (handling_blocks c) b → test (span_of b) ≡ true
+pub handling_to : (test : Span → Bool) (c : Clause) → handling_all test (spans_of c) ≡ true → (b : Block) → Contains (handling_blocks c) b → test (span_of b) ≡ true
 handling_to test c h b is =
     let p = and_parts (test (spans_of c).handler) (filter_all test (spans_of c).filter) h in
     from_every (λ (b : Block). test (span_of b) ≡ true) (handling_blocks c) (p.0, filter_to test c.handler_start c.kind p.1) b is
 
-handling_from : (test : Span → Bool) (c : Clause) → ((b : Block) → Contains (handling_blocks c) b → test (span_of b) ≡ true) → handling_all test (spans_of c) ≡ true
+pub handling_from : (test : Span → Bool) (c : Clause) → ((b : Block) → Contains (handling_blocks c) b → test (span_of b) ≡ true) → handling_all test (spans_of c) ≡ true
 handling_from test c h =
     let e = to_every (λ (b : Block). test (span_of b) ≡ true) (handling_blocks c) h in
     and_from (test (spans_of c).handler) (filter_all test (spans_of c).filter) e.0 (filter_from test c.handler_start c.kind e.1)
 
-blocks_to : (test : Span → Bool) (c : Clause) → blocks_all test (spans_of c) ≡ true → (b : Block) → Contains (blocks_of c) b → test (span_of b) ≡ true
+pub blocks_to : (test : Span → Bool) (c : Clause) → blocks_all test (spans_of c) ≡ true → (b : Block) → Contains (blocks_of c) b → test (span_of b) ≡ true
 blocks_to test c h b is =
     let p = and_parts (test (spans_of c).guarded) (handling_all test (spans_of c)) h in
     elim (either (try_block c) (handling_blocks c) b is) [
@@ -95,7 +95,7 @@ blocks_to test c h b is =
       | inr more ↦ handling_to test c p.1 b more
     ]
 
-blocks_from : (test : Span → Bool) (c : Clause) → ((b : Block) → Contains (blocks_of c) b → test (span_of b) ≡ true) → blocks_all test (spans_of c) ≡ true
+pub blocks_from : (test : Span → Bool) (c : Clause) → ((b : Block) → Contains (blocks_of c) b → test (span_of b) ≡ true) → blocks_all test (spans_of c) ≡ true
 blocks_from test c h =
     and_from (test (spans_of c).guarded) (handling_all test (spans_of c)) (h (try_block c) (here (try_block c) (handling_blocks c)))
     (handling_from test c (λ b is. h b (there (try_block c) (handling_blocks c) b is)))

@@ -4,6 +4,8 @@ use Rattle.std.specs.List.{list_all}
 use Rattle.assembly_tree.specs.declared.body.Clause.{Clause}
 use Rattle.assembly_tree.specs.declared.body.ClauseKind.{ClauseKind}
 use Rattle.assembly_tree.specs.declared.body.ClauseKind.TheVariants.{Catch, Filter, Finally, Fault}
+use Rattle.body_verifier.specs.declared.blocks.Handling.{Handling}
+use Rattle.body_verifier.specs.declared.blocks.Handling.TheVariants as handles
 use Rattle.body_verifier.specs.declared.blocks.Span.{Span}
 use Rattle.body_verifier.specs.declared.blocks.Spans.{Spans}
 
@@ -18,8 +20,15 @@ filter_span handler_start (Catch o) = None
 filter_span handler_start Finally = None
 filter_span handler_start Fault = None
 
+abbrev pub handling_of : ClauseKind → Handling
+handling_of (Catch o) = handles.Catch
+handling_of (Filter at) = handles.Filter
+handling_of Finally = handles.Finally
+handling_of Fault = handles.Fault
+
 abbrev pub spans_of : Clause → Spans
 spans_of c = record {
+  handling = handling_of c.kind;
   guarded = span c.try_start c.try_end;
   handler = span c.handler_start c.handler_end;
   filter = filter_span c.handler_start c.kind;

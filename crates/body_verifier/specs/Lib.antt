@@ -9,6 +9,7 @@ pub mod Links
 pub mod Methods
 pub mod Operations
 pub mod Paths
+pub mod PlaceTests
 pub mod Prefixes
 pub mod Reports
 pub mod Rows

@@ -16,9 +16,19 @@ pub(crate) struct Span {
     pub(crate) end: u32,
 }
 
+/// What an exception clause handles (ECMA-335 II.19).
+#[derive(Clone, Copy, Drop)]
+pub(crate) enum Handling {
+    Catch,
+    Filter,
+    Finally,
+    Fault,
+}
+
 /// The blocks of an exception clause (ECMA-335 II.19).
 #[derive(Clone, Copy, Drop)]
 pub(crate) struct Spans {
+    pub(crate) handling: Handling,
     /// The try.
     pub(crate) guarded: Span,
     pub(crate) handler: Span,
@@ -27,14 +37,14 @@ pub(crate) struct Spans {
 }
 
 impl Span {
-    fn holds(self, k: u32) -> bool
+    pub(crate) fn holds(self, k: u32) -> bool
         ensures { result ≡ is_held self k }
     {
         self.start <= k && k < self.end
     }
 
     /// Whether a step from `k` to `t` stays in it or out of it.
-    fn keeps(self, k: u32, t: u32) -> bool
+    pub(crate) fn keeps(self, k: u32, t: u32) -> bool
         ensures { result ≡ keeps k t self }
     {
         if self.holds(k) {
@@ -62,7 +72,7 @@ impl Span {
     }
 
     /// Whether the other range lies in it.
-    fn contains(self, other: Span) -> bool
+    pub(crate) fn contains(self, other: Span) -> bool
         ensures { result ≡ is_within self other }
     {
         self.start <= other.start && other.end <= self.end
@@ -73,14 +83,20 @@ impl Spans {
     pub(crate) fn of(clause: &Clause) -> Spans
         ensures { result ≡ spans_of clause.now }
     {
-        let filter = match clause.kind {
-            ClauseKind::Filter(at) => Some(Span {
-                start: at,
-                end: clause.handler_start,
-            }),
-            _ => None,
+        let (handling, filter) = match clause.kind {
+            ClauseKind::Filter(at) => (
+                Handling::Filter,
+                Some(Span {
+                    start: at,
+                    end: clause.handler_start,
+                }),
+            ),
+            ClauseKind::Catch(_) => (Handling::Catch, None),
+            ClauseKind::Finally => (Handling::Finally, None),
+            ClauseKind::Fault => (Handling::Fault, None),
         };
         Spans {
+            handling,
             guarded: Span {
                 start: clause.try_start,
                 end: clause.try_end,

@@ -1,12 +1,14 @@
 //! Which instructions of a method's body break the rules of verifiable code (ECMA-335 III.1.8).
 //!
-//! What stands: the definitions (`specs/`), their laws, what each opcode does, blocks and level steps, the
-//! worklist, the texts of the rules and the report. The check of a method isn't written yet.
+//! What stands: the definitions (`specs/`), their laws, what each opcode does, blocks and level steps, where
+//! `leave` and the ends of handlers may stand, the worklist, the texts of the rules and the report. The check
+//! of a method isn't written yet.
 #![tactic(auto)]
 
 mod blocks;
 mod laws;
 mod operation;
+mod places;
 mod report;
 mod rule;
 mod worklist;
