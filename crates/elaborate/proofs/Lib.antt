@@ -1,0 +1,4 @@
+pub mod Lexed
+pub mod NameLemmas
+pub mod Numbers
+pub mod Texts
