@@ -11,7 +11,7 @@ use std::test::Fail;
 use type_terms::MethodSig;
 
 /// Adds a class with one method, these properties and these events.
-fn push_members(
+pub fn push_members(
     a: &mut Assembly,
     alloc: Global,
     properties: Properties,

@@ -17,6 +17,8 @@ mod methods;
 #[cfg(test)]
 mod parts;
 #[cfg(test)]
+mod places;
+#[cfg(test)]
 mod references;
 #[cfg(test)]
 mod sums;

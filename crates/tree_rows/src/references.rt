@@ -45,6 +45,15 @@ impl Called {
     }
 }
 
+/// The method `X::m` of that generic number with so many arguments.
+pub fn constructor(
+    alloc: Global,
+    generic: u32,
+    args: Option<usize>,
+) -> Result<MethodRef, NoMemory> {
+    Called(true, false, generic, 0, None, args).reference(alloc)
+}
+
 impl Change for Called {
     fn change(&self, alloc: Global, a: &mut Assembly) -> Result<(), NoMemory> {
         let called = self.reference(alloc)?;
@@ -96,7 +105,7 @@ impl Change for Overriding {
     fn change(&self, alloc: Global, a: &mut Assembly) -> Result<(), NoMemory> {
         let name = Text::new(alloc, "m")?;
         let mut overrides = Items::new(alloc);
-        overrides.push(Called(true, false, self.0, 0, None, self.1).reference(alloc)?)?;
+        overrides.push(constructor(alloc, self.0, self.1)?)?;
         let mut of = method(alloc, name);
         of.overrides = overrides;
         a.methods.push(of)
@@ -110,7 +119,7 @@ struct Attributed(bool, u32, Option<usize>);
 impl Change for Attributed {
     fn change(&self, alloc: Global, a: &mut Assembly) -> Result<(), NoMemory> {
         let value = Items::from_slice(alloc, &[1, 0])?;
-        let constructor = Called(true, false, self.1, 0, None, self.2).reference(alloc)?;
+        let constructor = constructor(alloc, self.1, self.2)?;
         let attribute = Attribute { constructor, value };
         if self.0 {
             a.manifest.module_attributes.push(attribute)
