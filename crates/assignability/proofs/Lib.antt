@@ -3,6 +3,7 @@ pub mod Assigning
 pub mod ChainLemmas
 pub mod Climbing
 pub mod CommonLemmas
+pub mod EntryLemmas
 pub mod FitIds
 pub mod FitLemmas
 pub mod Gathering
@@ -10,7 +11,9 @@ pub mod GrowLemmas
 pub mod JoinIds
 pub mod JoinLemmas
 pub mod KeptLemmas
+pub mod MemberLemmas
 pub mod NameLemmas
+pub mod NamingLemmas
 pub mod NodeLemmas
 pub mod Normals
 pub mod Ordering

@@ -5,12 +5,14 @@ pub mod Arrays
 pub mod Chains
 pub mod Common
 pub mod Declarations
+pub mod Entries
 pub mod Gathered
 pub mod Hierarchy
 pub mod Joining
 pub mod Keys
 pub mod Laws
 pub mod Meaning
+pub mod Members
 pub mod NameHash
 pub mod Names
 pub mod Normal

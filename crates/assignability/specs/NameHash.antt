@@ -1,4 +1,4 @@
--- The hash by which a name is found: FNV-1a at 64 bits over its scope and the bytes of its path.
+-- The hash by which a name is found: FNV-1a at 64 bits over its scope and the bytes of its path; or over a text.
 use Rattle.std.specs.Prelude.{ℕ, ◌*◌, ◌%◌, ◌^◌, List, fold, bit_xor}
 use Rattle.type_terms.specs.declared.name.Scope.{Scope}
 use Rattle.type_terms.specs.declared.name.Scope.TheVariants.{Here, Extern}
@@ -11,6 +11,10 @@ mix hash number = (bit_xor hash number * 0x00000100000001B3) % (2 ^ 64)
 
 unfoldable pub mix_text : ℕ → List ℕ → ℕ
 mix_text hash text = fold mix hash text
+
+-- the hash of a text alone
+unfoldable pub text_hash : List ℕ → ℕ
+text_hash text = mix_text 0xCBF29CE484222325 text
 
 unfoldable pub mix_id : ℕ → TypeId → ℕ
 mix_id hash id = mix_text (mix (mix_text hash id.space) 0xFF) id.name

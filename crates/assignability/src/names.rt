@@ -139,7 +139,7 @@ fn is_id(a: &TypeId, b: &TypeId) -> bool
     a.space.as_bytes() == b.space.as_bytes() && a.name.as_bytes() == b.name.as_bytes()
 }
 
-const START: u64 = 0xCBF2_9CE4_8422_2325;
+pub const START: u64 = 0xCBF2_9CE4_8422_2325;
 
 /// The hash of a name.
 #[tactic(auto, unfolding(crate::specs::NameHash::name_hash))]
@@ -179,7 +179,7 @@ fn mix_scope(hash: u64, scope: Scope) -> u64
 }
 
 #[tactic(auto, unfolding(crate::specs::NameHash::mix_text))]
-fn mix_text(hash: u64, text: &[u8]) -> u64
+pub fn mix_text(hash: u64, text: &[u8]) -> u64
     ensures { result ≡ mix_text hash text.now }
 {
     let mut hash = hash;
