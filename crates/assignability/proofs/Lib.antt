@@ -11,12 +11,14 @@ pub mod GrowLemmas
 pub mod JoinIds
 pub mod JoinLemmas
 pub mod KeptLemmas
+pub mod MarkLemmas
 pub mod MemberLemmas
 pub mod NameLemmas
 pub mod NamingLemmas
 pub mod NodeLemmas
 pub mod Normals
 pub mod Ordering
+pub mod Placing
 pub mod QueueLemmas
 pub mod StayLemmas
 pub mod Steps

@@ -16,6 +16,7 @@ pub mod Members
 pub mod NameHash
 pub mod Names
 pub mod Normal
+pub mod Placed
 pub mod Pooled
 pub mod Queues
 pub mod Reading
