@@ -2,3 +2,4 @@ pub mod Lexed
 pub mod NameLemmas
 pub mod Numbers
 pub mod Texts
+pub mod Walks

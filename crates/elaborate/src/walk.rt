@@ -1,0 +1,182 @@
+//! Looking for productions among the nodes of a derivation.
+
+ghost use Rattle.std.specs.Prelude.{◌≡◌, ℕ, [], ◌∷◌, IfOk, MatchOption};
+ghost use Rattle.elaborate.specs.Walk.{IsForest, Finds};
+ghost use Rattle.source_model.specs.Forest.{Forest, child, first_token, has, leaf_at, parts, preorder, the};
+
+use il_base::{Items, NoMemory};
+use ilasm_grammar::TreeNode;
+use source_model::{derivations_are_forests, forests_join, forests_open};
+use std::alloc::Global;
+
+/// A branch: its place among the nodes, and how many nodes stand below it.
+#[derive(Debug, Clone, Copy, Drop)]
+pub(crate) struct Found {
+    pub at: usize,
+    pub count: usize,
+}
+
+/// The outermost branches with this production, in order.
+pub(crate) fn each(
+    alloc: Global,
+    nodes: &[TreeNode],
+    production: u16,
+) -> Result<Items<Found>, NoMemory>
+    requires { IsForest nodes.now }
+    ensures { IfOk result (λ found. (f : Forest) → preorder f ≡ nodes.now → Finds nodes.now found (parts (production ∷ []) f)) }
+{
+    derivations_are_forests();
+    forests_open();
+    forests_join();
+    let mut found = Items::new(alloc);
+    let mut at = 0;
+    while let Some(node) = nodes.get(at) {
+        match *node {
+            TreeNode::Branch {
+                production: p,
+                nodes: count,
+            } => {
+                let count = count as usize;
+                if p == production {
+                    found.push(Found { at, count })?;
+                    at += 1 + count;
+                } else {
+                    at += 1;
+                }
+            }
+            TreeNode::Leaf { .. } => at += 1,
+        }
+    }
+    Ok(found)
+}
+
+/// The first node and those behind it, where there is one.
+fn next(nodes: &[TreeNode]) -> Option<(TreeNode, &[TreeNode])>
+    ensures { MatchOption result (nodes.now ≡ []) (λ step. nodes.now ≡ step.0 ∷ step.1.now) }
+{
+    match nodes {
+        [] => None,
+        [node, rest @ ..] => Some((*node, rest)),
+    }
+}
+
+/// The nodes below the first branch with this production, in preorder; none where there is none.
+pub(crate) fn the<'a>(nodes: &'a [TreeNode], production: u16) -> &'a [TreeNode]
+    requires { IsForest nodes.now }
+    ensures { (f : Forest) → preorder f ≡ nodes.now → result.now ≡ preorder (the production f) }
+{
+    derivations_are_forests();
+    forests_open();
+    forests_join();
+    let mut left = nodes;
+    while let Some((node, rest)) = next(left) {
+        match node {
+            TreeNode::Branch {
+                production: p,
+                nodes: count,
+            } => {
+                if p == production {
+                    let (below, _) = rest.split_at(count as usize);
+                    return below;
+                }
+                left = rest;
+            }
+            TreeNode::Leaf { .. } => left = rest,
+        }
+    }
+    &[]
+}
+
+/// Whether there is a branch with this production.
+pub(crate) fn has(nodes: &[TreeNode], production: u16) -> bool
+    requires { IsForest nodes.now }
+    ensures { (f : Forest) → preorder f ≡ nodes.now → result ≡ has production f }
+{
+    derivations_are_forests();
+    forests_open();
+    forests_join();
+    let mut left = nodes;
+    while let Some((node, rest)) = next(left) {
+        match node {
+            TreeNode::Branch { production: p, .. } => {
+                if p == production {
+                    return true;
+                }
+                left = rest;
+            }
+            TreeNode::Leaf { .. } => left = rest,
+        }
+    }
+    false
+}
+
+/// The nodes below the first branch at the top that has this production; none where there is none.
+pub(crate) fn child<'a>(nodes: &'a [TreeNode], production: u16) -> &'a [TreeNode]
+    requires { IsForest nodes.now }
+    ensures { (f : Forest) → preorder f ≡ nodes.now → result.now ≡ preorder (child (production ∷ []) f) }
+{
+    derivations_are_forests();
+    forests_open();
+    let mut left = nodes;
+    while let Some((node, rest)) = next(left) {
+        match node {
+            TreeNode::Branch {
+                production: p,
+                nodes: count,
+            } => {
+                let (below, after) = rest.split_at(count as usize);
+                if p == production {
+                    return below;
+                }
+                left = after;
+            }
+            TreeNode::Leaf { .. } => left = rest,
+        }
+    }
+    &[]
+}
+
+/// The token at the top with this number, counted from 0; 0 where there are fewer.
+pub(crate) fn leaf_at(nodes: &[TreeNode], k: usize) -> u32
+    requires { IsForest nodes.now }
+    ensures { (f : Forest) → preorder f ≡ nodes.now → result ≡ leaf_at k f }
+{
+    derivations_are_forests();
+    forests_open();
+    let mut left = nodes;
+    let mut before = k;
+    while let Some((node, rest)) = next(left) {
+        match node {
+            TreeNode::Branch { nodes: count, .. } => {
+                let (_, after) = rest.split_at(count as usize);
+                left = after;
+            }
+            TreeNode::Leaf { token } => {
+                if before == 0 {
+                    return token;
+                }
+                before -= 1;
+                left = rest;
+            }
+        }
+    }
+    0
+}
+
+/// The first token; 0 where there is none.
+pub(crate) fn first_token(nodes: &[TreeNode]) -> u32
+    requires { IsForest nodes.now }
+    ensures { (f : Forest) → preorder f ≡ nodes.now → result ≡ first_token f }
+{
+    derivations_are_forests();
+    forests_open();
+    forests_join();
+    let mut left = nodes;
+    while let Some((node, rest)) = next(left) {
+        match node {
+            TreeNode::Branch { .. } => left = rest,
+            TreeNode::Leaf { token } => return token,
+        }
+    }
+    0
+}
