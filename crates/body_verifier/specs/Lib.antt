@@ -12,6 +12,7 @@ pub mod Paths
 pub mod PlaceTests
 pub mod Prefixes
 pub mod Reports
+pub mod RowMeanings
 pub mod Rows
 pub mod Rules
 pub mod Stacks

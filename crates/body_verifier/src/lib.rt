@@ -6,11 +6,14 @@
 #![tactic(auto)]
 
 mod blocks;
+mod frame;
 mod laws;
 mod operation;
 mod places;
 mod report;
+mod row;
 mod rule;
+mod stack;
 mod worklist;
 
 pub use laws::{a_body_has_one_least_typing, instructions_are_monotone, paths_are_right};
