@@ -1,21 +1,18 @@
 -- Names that are gathered over the assemblies of a world.
-use Rattle.std.proofs.Common.{◌≡◌, ◌∙◌, ap, refl, sym, ℕ, ◌+◌, ◌<◌, ◌≤◌, Bool, true, false, ◌||◌, if◌then◌else◌, List, [], ◌∷◌, ◌++◌, length, get_or, map, take, Some, arith, inl, inr}
-use Rattle.std.specs.Prelude.{slice_get}
-use Rattle.std.specs.List.{flat_map, list_any}
+use Rattle.std.proofs.Common.{◌≡◌, ◌∙◌, ap, refl, sym, ℕ, ◌+◌, ◌<◌, ◌≤◌, Bool, true, false, ◌||◌, if◌then◌else◌, List, [], ◌∷◌, ◌++◌, length, get_or, map, take, arith, inl, inr}
+use Rattle.std.specs.List.{flat_map}
 use Rattle.std.proofs.lemmas.Bool.{cases_Bool}
 use Rattle.std.proofs.lemmas.Grind.{flat_map-append}
 use Rattle.std.proofs.lemmas.List.{append-nil, length-map, take_all}
 use Rattle.std.proofs.lemmas.List.Folds.{list_any-append}
-use Rattle.std.proofs.lemmas.Option.{slice_get-get_or}
 use Rattle.type_terms.specs.declared.name.TypeName.{TypeName}
 use Rattle.assignability.specs.Declarations.{valuetype_names}
 use Rattle.assignability.specs.Gathered.{gathered, name_by, with_name}
-use Rattle.assignability.specs.Members.{IsMeaning, IsScopes, member}
+use Rattle.assignability.specs.Members.{IsMeaning, member}
 use Rattle.assignability.specs.Names.{is_among, same_name}
 use Rattle.assignability.specs.Scopes.{Sources, Member, members, scope_in}
 use Rattle.assignability.specs.ValueNames.{value_names}
 use Rattle.assignability.specs.declared.meanings.Meanings.{Meanings}
-use Rattle.assignability.specs.declared.scopes.Scopes.{Scopes}
 use Rattle.assignability.proofs.NamingLemmas.{taken_step}
 use Rattle.assignability.proofs.TableLemmas.{name_decides}
 

@@ -17,6 +17,7 @@ pub mod NameHash
 pub mod Names
 pub mod Normal
 pub mod Placed
+pub mod Places
 pub mod Pooled
 pub mod Queues
 pub mod Reading

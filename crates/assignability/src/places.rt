@@ -1,10 +1,14 @@
 //! The types that the assemblies of a world declare, each with its name in it.
-ghost use Rattle.std.specs.Prelude.{◌≡◌, ◌∷◌, ◌++◌, [], IfOk, OnOk};
-ghost use Rattle.std.specs.List.{flat_map};
+ghost use Rattle.std.specs.Prelude.{◌≡◌, ◌∷◌, ◌++◌, [], List, IfOk, OnOk};
+ghost use Rattle.std.specs.List.{Contains, flat_map};
+ghost use Rattle.type_terms.specs.declared.name.TypeId.{TypeId};
+ghost use Rattle.assembly_tree.specs.declared.typedef.TypeDef.{TypeDef};
+ghost use Rattle.assembly_tree.specs.declared.typedef.TypeDef.TheViews.{out-TypeDef};
 ghost use Rattle.assignability.specs.Ancestors.{typedef_paths};
 ghost use Rattle.assignability.specs.Gathered.{with_name};
 ghost use Rattle.assignability.specs.Names.{full_name};
-ghost use Rattle.assignability.specs.Placed.{placed};
+ghost use Rattle.assignability.specs.Placed.{placed, IsGrown};
+ghost use Rattle.assignability.specs.Places.{row};
 
 use crate::names::Names;
 use assembly_tree::TypeDef;
@@ -31,7 +35,8 @@ pub fn add_types<'a>(
     types: &'a [TypeDef],
     into: &mut Places<'a>,
 ) -> Result<(), NoMemory>
-    ensures { OnOk result (into.new.names ≡ placed scope outer.now into.old.names (flat_map typedef_paths types.now)) }
+    ensures names { OnOk result (into.new.names ≡ placed scope outer.now into.old.names (flat_map typedef_paths types.now)) }
+    ensures types { OnOk result (IsGrown scope outer.now member types.now (row into.old) (row into.new)) }
 {
     for of in types {
         let path = path_in(alloc, outer, &of.id)?;
@@ -57,7 +62,8 @@ fn add_type<'a>(
     of: &'a TypeDef,
     into: &mut Places<'a>,
 ) -> Result<(), NoMemory>
-    ensures { OnOk result (into.new.names ≡ with_name into.old.names (full_name scope path.now)) }
+    ensures names { OnOk result (into.new.names ≡ with_name into.old.names (full_name scope path.now)) }
+    ensures types { OnOk result ((outer : List TypeId) (types : List TypeDef) → Contains types of.now → path.now ≡ outer ++ (out-TypeDef of.now).id ∷ [] → IsGrown scope outer member types (row into.old) (row into.new)) }
 {
     if into.names.has(scope, path.as_slice()) {
         return Ok(());
