@@ -1,8 +1,7 @@
 -- Types that are their own ancestors (ECMA-335 I.8.9.9, II.10.1): steps from a declared name to its base and to the
 -- interfaces that it implements lead back to it. Arguments play no part.
-use Rattle.std.specs.Prelude.{◌≡◌, ℕ, ◌<◌, List, [], ◌∷◌, map, slice_get, Option, None, Some}
-use Rattle.std.specs.List.{Contains, flat_map}
-use Rattle.type_terms.specs.declared.name.Scope.TheVariants.{Here}
+use Rattle.std.specs.Prelude.{◌≡◌, ℕ, ◌<◌, nat_eq, Bool, false, List, [], ◌∷◌, fold, map, slice_get, Option, None, Some}
+use Rattle.std.specs.List.{Contains, filter, flat_map}
 use Rattle.type_terms.specs.declared.name.TypeId.{TypeId}
 use Rattle.type_terms.specs.declared.name.TypeName.{TypeName}
 use Rattle.type_terms.specs.declared.term.Owner.{Owner}
@@ -13,7 +12,8 @@ use Rattle.assembly_tree.specs.declared.typedef.TypeDef.TheOpen.{TypeDef-F}
 use Rattle.assembly_tree.specs.declared.typedef.TypeDef.TheFolds.{fold-TypeDef}
 use Rattle.assignability.specs.Names.{class_of}
 use Rattle.assignability.specs.Hierarchy.{Hierarchy, Declaration, core_name, chained}
-use Rattle.assignability.specs.Scopes.{Sources, Member, members, scope_in}
+use Rattle.assignability.specs.Gathered.{with_name}
+use Rattle.assignability.specs.Scopes.{Sources, Member, members, member_of, own_scope}
 use Rattle.assignability.specs.Declarations.{hierarchy_of}
 
 -- ---- steps
@@ -66,7 +66,7 @@ paths_step t = (t.id ∷ []) ∷ map (λ path. t.id ∷ path) (flat_map (λ path
 abbrev pub typedef_paths : TypeDef → Paths
 typedef_paths t = fold-TypeDef Paths paths_step t
 
--- a type of an assembly of the world
+-- a type that an assembly declares
 pub record Declared : Type 0 where
   pub member : Member
   pub path : List TypeId
@@ -74,13 +74,25 @@ pub record Declared : Type 0 where
 abbrev pub declared_in : Member → List Declared
 declared_in m = map (λ (path : List TypeId). record { member = m; path = path }) (flat_map typedef_paths m.assembly.types)
 
+abbrev pub has_number : ℕ → Option Member → Bool
+has_number n None = false
+has_number n (Some m) = nat_eq m.number n
+
+-- the assemblies whose types are declared in the world: of references that have one scope, the first alone
+abbrev pub declaring : Sources → List Member
+declaring s = filter (λ (m : Member). has_number m.number (member_of s (own_scope s m))) (members s)
+
 -- the types of the image in preorder, then those of each reference
 unfoldable pub all_declared : Sources → List Declared
-all_declared s = flat_map declared_in (members s)
+all_declared s = flat_map declared_in (declaring s)
 
 -- the name of a declared type in the world
 abbrev pub world_name : Sources → Declared → TypeName
-world_name s d = record { scope = scope_in s d.member Here; path = d.path }
+world_name s d = record { scope = own_scope s d.member; path = d.path }
+
+-- the names of the declared types, each once, in that order
+unfoldable pub declared_names : Sources → List TypeName
+declared_names s = fold with_name [] (map (world_name s) (all_declared s))
 
 abbrev pub IsCyclicAt : Sources → Declared → Type 0
 IsCyclicAt s d = IsOwnAncestor (hierarchy_of s) (world_name s d)

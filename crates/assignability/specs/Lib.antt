@@ -5,11 +5,13 @@ pub mod Arrays
 pub mod Chains
 pub mod Common
 pub mod Declarations
+pub mod Distinct
 pub mod Entries
 pub mod Gathered
 pub mod Hierarchy
 pub mod Joining
 pub mod Keys
+pub mod Landings
 pub mod Laws
 pub mod Meaning
 pub mod Members
@@ -28,4 +30,5 @@ pub mod Starts
 pub mod Staying
 pub mod Tables
 pub mod ValueNames
+pub mod Walks
 pub mod World

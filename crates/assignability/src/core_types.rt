@@ -15,7 +15,7 @@ use std::alloc::Global;
 use type_terms::{Path, Prim, Scope, SigType, TypeId, TypeName};
 
 /// The name of the top-level type `name` of the space `System` in that scope.
-fn system_name(alloc: Global, scope: Scope, name: &str) -> Result<TypeName, NoMemory>
+pub fn system_name(alloc: Global, scope: Scope, name: &str) -> Result<TypeName, NoMemory>
     ensures { IfOk result (λ n. n ≡ full_name scope (system name.now)) }
 {
     let space = Text::new(alloc, "System")?;

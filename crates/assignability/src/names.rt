@@ -3,6 +3,7 @@
 ghost use Rattle.std.specs.Prelude.{◌≡◌, ◌<◌, ◌++◌, ◌∷◌, ◌↔◌, ℕ, [], length, slice_get, Some, IsTrue, IfSome, IfNone, OnOk, OnErr, nat_eq};
 ghost use Rattle.indexmap.specs.IndexMap.{get};
 ghost use Rattle.type_terms.specs.declared.name.TypeName.{TypeName};
+ghost use Rattle.assignability.specs.Distinct.{AreOnce};
 ghost use Rattle.assignability.specs.NameHash.{mix, mix_text, mix_id, mix_path, mix_scope, name_hash};
 ghost use Rattle.assignability.specs.Names.{full_name, is_among};
 
@@ -94,9 +95,10 @@ impl Names {
         }
     }
 
-    /// The number of names.
+    /// The number of names, of which none stands twice.
     pub fn len(&self) -> usize
-        ensures { result ≡ length self.now }
+        ensures len { result ≡ length self.now }
+        ensures once { AreOnce self.now }
     {
         self.names.len()
     }
