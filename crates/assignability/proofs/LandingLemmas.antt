@@ -4,16 +4,23 @@ use Rattle.std.specs.Prelude.{slice_get, option_and_then}
 use Rattle.std.proofs.lemmas.Option.{slice_get_within}
 use Rattle.type_terms.specs.declared.name.TypeId.{TypeId}
 use Rattle.type_terms.specs.declared.name.TypeName.{TypeName}
-use Rattle.type_terms.specs.declared.term.SigType.{SigType}
-use Rattle.assignability.specs.Above.{path_of}
-use Rattle.assignability.specs.Ancestors.{name_in}
+use Rattle.type_terms.specs.declared.term.Owner.{Owner}
+use Rattle.type_terms.specs.declared.term.Owner.TheOpen.{SigType-F, Prim, Class, Value, Inst, Var, MVar, SzArray, Array, ByRef, Pointer, Mod, Pinned}
+use Rattle.type_terms.specs.declared.term.SigType.{SigType, out-SigType}
+use Rattle.type_terms.specs.declared.term.SigType.TheVariants as type
+use Rattle.assignability.specs.Above.{name_above, path_of}
+use Rattle.assignability.specs.Ancestors.{name_in, layer_name}
 use Rattle.assignability.specs.Hierarchy.{Hierarchy, Declaration, chained, chained_in, core_name, chain_above}
 use Rattle.assignability.specs.Distinct.{AreOnce}
 use Rattle.assignability.specs.Landings.{IsListed, Lands, here, along, LandsAt, IsLanding, TypeLandsAt, IsTypeLanding}
-use Rattle.assignability.specs.Names.{class_of, the_object, the_value_type, the_enum, the_delegate, the_multicast_delegate, the_array, the_exception, same_path, same_scope}
+use Rattle.assignability.specs.Names.{class_of, full_name, the_object, the_value_type, the_enum, the_delegate, the_multicast_delegate, the_array, the_exception, same_path, same_scope}
+use Rattle.assignability.specs.Tables.{hierarchy_in}
+use Rattle.assignability.specs.declared.tables.Tables.{Tables}
+use Rattle.type_terms.specs.declared.term.Primitive.{Primitive}
 use Rattle.type_terms.specs.declared.term.Primitive.TheVariants as prim
 use Rattle.assignability.specs.declared.core_types.Above.{Above}
 use Rattle.assignability.specs.declared.core_types.Above.TheVariants.{Object, ValueType, Delegate}
+use Rattle.assignability.proofs.Climbing.{same_layer}
 use Rattle.assignability.proofs.TableLemmas.{scope_decides}
 
 pub some_none : {X : Type 0} {x : X} {o : Option X} → o ≡ Some x → o ≡ None → ⊥
@@ -142,3 +149,63 @@ chain_ends w x y z e f =
     let t = chained_top w x y e in
     let last : z ≡ core_name w the_object = above_top w t.0 z (subst (λ (n : TypeName). chained w n ≡ Some z) t.1 f) in
     ap (chained w) last ∙ object_above w
+
+-- ---- by tables
+
+pub name_at : (t : Tables) (path : List TypeId) → full_name t.values.core path ≡ core_name (hierarchy_in t) path
+unfolding hierarchy_in
+name_at t path = refl
+
+pub chained_some : (t : Tables) (name : TypeName) (a : Above) → name_above t.values.core (Some a) ≡ chained_in t.values.core name
+    → chained (hierarchy_in t) name ≡ Some (core_name (hierarchy_in t) (path_of a))
+unfolding hierarchy_in
+chained_some t name a e = sym e
+
+pub chained_none : (t : Tables) (name : TypeName) → name_above t.values.core None ≡ chained_in t.values.core name → chained (hierarchy_in t) name ≡ None
+unfolding hierarchy_in
+chained_none t name e = sym e
+
+-- ---- names in types
+
+pub class_named : (w : Hierarchy) (name : TypeName) → name_in w (type.Class name) ≡ Some name
+unfolding name_in
+class_named w name = ap (layer_name w) (type.outs-Class name)
+
+pub value_named : (w : Hierarchy) (name : TypeName) → name_in w (type.Value name) ≡ Some name
+unfolding name_in
+value_named w name = ap (layer_name w) (type.outs-Value name)
+
+pub instance_named : (w : Hierarchy) (v : Bool) (name : TypeName) (args : List SigType) → name_in w (type.Inst v name args) ≡ Some name
+unfolding name_in
+instance_named w v name args = ap (layer_name w) (type.outs-Inst v name args)
+
+pub prim_named : (w : Hierarchy) (p : Primitive) → name_in w (type.Prim p) ≡ Some (core_name w (class_of p))
+unfolding name_in
+prim_named w p = ap (layer_name w) (type.outs-Prim p)
+
+-- where the name leads that a type is known to have
+pub known_landing : (w : Hierarchy) (names : List TypeName) (t u : SigType) (name other : TypeName) (o : Option ℕ) → t ≡ u → name_in w u ≡ Some name → other ≡ name
+    → IsLanding w names other o → IsTypeLanding w names t o
+known_landing w names t u name other o e n same l =
+    type_landing w names t name o (ap (name_in w) e ∙ n) (subst (λ (x : TypeName). IsLanding w names x o) same l)
+
+no_name : (w : Hierarchy) (t : SigType) (l : SigType-F Owner SigType) → out-SigType t ≡ l → ((p : Primitive) → t ≡ type.Prim p → ⊥) → ((n : TypeName) → t ≡ type.Class n → ⊥)
+    → ((n : TypeName) → t ≡ type.Value n → ⊥) → ((v : Bool) (n : TypeName) (args : List SigType) → t ≡ type.Inst v n args → ⊥) → layer_name w l ≡ None
+no_name w t (Prim p) e a b c d = absurd (a p (same_layer t (type.Prim p) (e ∙ sym (type.outs-Prim p))))
+no_name w t (Class n) e a b c d = absurd (b n (same_layer t (type.Class n) (e ∙ sym (type.outs-Class n))))
+no_name w t (Value n) e a b c d = absurd (c n (same_layer t (type.Value n) (e ∙ sym (type.outs-Value n))))
+no_name w t (Inst v n args) e a b c d = absurd (d v n args (same_layer t (type.Inst v n args) (e ∙ sym (type.outs-Inst v n args))))
+no_name w t (Var n) e a b c d = refl
+no_name w t (MVar n) e a b c d = refl
+no_name w t (SzArray of) e a b c d = refl
+no_name w t (Array of rank sizes lower) e a b c d = refl
+no_name w t (ByRef of) e a b c d = refl
+no_name w t (Pointer of) e a b c d = refl
+no_name w t (Mod r by of) e a b c d = refl
+no_name w t (Pinned of) e a b c d = refl
+
+-- a type without a name leads nowhere
+pub unnamed_nowhere : (w : Hierarchy) (names : List TypeName) (t : SigType) → ((p : Primitive) → t ≡ type.Prim p → ⊥) → ((n : TypeName) → t ≡ type.Class n → ⊥)
+    → ((n : TypeName) → t ≡ type.Value n → ⊥) → ((v : Bool) (n : TypeName) (args : List SigType) → t ≡ type.Inst v n args → ⊥) → IsTypeLanding w names t None
+unfolding name_in
+unnamed_nowhere w names t a b c d = type_nowhere w names t (no_name w t (out-SigType t) refl a b c d)

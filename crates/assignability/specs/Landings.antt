@@ -12,7 +12,7 @@ use Rattle.assignability.specs.Reading.{as_list}
 use Rattle.assignability.specs.Walks.{StepsTo}
 use Rattle.assignability.specs.declared.core_types.Above.{Above}
 use Rattle.assignability.specs.declared.core_types.Above.TheVariants.{Object, ValueType, Delegate}
-use Rattle.assignability.specs.declared.steps.Tops.{Tops}
+use Rattle.assignability.specs.declared.stepping.Tops.{Tops}
 use Rattle.assignability.specs.declared.tables.Declared.{Declared}
 
 -- ---- the declared names

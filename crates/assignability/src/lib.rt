@@ -32,7 +32,7 @@ mod scopes;
 mod stack;
 mod stack_type;
 mod stacks;
-mod steps;
+mod stepping;
 mod tables;
 mod terms;
 mod texts;

@@ -210,9 +210,11 @@ fn class_place(
     requires tops { AreTops (hierarchy_in tables.now) tables.now.names tops.now }
     ensures { let w = hierarchy_in tables.now in IfOk result (λ place. IsLanding w tables.now.names (core_name w (class_of prim)) place) }
 {
-    if prim == Prim::Object {
-        return Ok(tops.object);
+    match prim {
+        Prim::Object => Ok(tops.object),
+        _ => {
+            let name = class_name(alloc, tables.values.core, prim)?;
+            Ok(landing(tables, tops, name.scope, name.path.as_slice()))
+        }
     }
-    let name = class_name(alloc, tables.values.core, prim)?;
-    Ok(landing(tables, tops, name.scope, name.path.as_slice()))
 }
