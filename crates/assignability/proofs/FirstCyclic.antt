@@ -146,7 +146,7 @@ place_whole : (names : List TypeName) (name : TypeName) → place_in names name 
 unfolding place_in
 place_whole [] name e = λ k at. let h : ⊥ = cc in h
 place_whole (n ∷ names) name e = elim (cases_Bool (same_name name n)) [
-  | inl this ↦ let some : Some 0 ≡ None = sym (ap (λ b. if b then Some 0 else later (place_in names name)) this) ∙ e in absurd (let h : ⊥ = cc in h)
+  | inl this ↦ let some : Some {A = ℕ} 0 ≡ None = sym (ap (λ b. if b then Some 0 else later (place_in names name)) this) ∙ e in absurd (let h : ⊥ = cc in h)
   | inr other ↦
       let rest : later (place_in names name) ≡ None = sym (ap (λ b. if b then Some 0 else later (place_in names name)) other) ∙ e in
       there_not n name names (place_whole names name (later_none (place_in names name) rest)) other
