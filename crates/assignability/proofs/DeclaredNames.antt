@@ -1,5 +1,5 @@
 -- The names of declared types, each once.
-use Rattle.std.proofs.Common.{◌≡◌, ◌⊎◌, inl, inr, refl, sym, ◌∙◌, ap, subst, ℕ, zero, suc, ◌+◌, ◌<◌, ◌≤◌, arith, List, [], ◌∷◌, ◌++◌, length, map, Option, None, Some, true, false, if◌then◌else◌}
+use Rattle.std.proofs.Common.{◌≡◌, inl, inr, refl, sym, ◌∙◌, ap, subst, ℕ, zero, suc, ◌+◌, ◌<◌, ◌≤◌, arith, List, [], ◌∷◌, ◌++◌, length, Some, true, if◌then◌else◌}
 use Rattle.std.specs.Prelude.{slice_get, fold}
 use Rattle.std.proofs.lemmas.Bool.{cases_Bool}
 use Rattle.std.proofs.lemmas.List.{length-append}
@@ -10,7 +10,6 @@ use Rattle.assignability.specs.Distinct.{AreOnce}
 use Rattle.assignability.specs.Names.{is_among, same_name}
 use Rattle.assignability.proofs.Among.{not_among}
 use Rattle.assignability.proofs.ChainLemmas.{snoc_cases, snoc_old, snoc_new}
-use Rattle.assignability.proofs.LandingLemmas.{some_same}
 use Rattle.assignability.proofs.TableLemmas.{name_decides}
 
 abbrev pub all_of : List TypeName → List TypeName → List TypeName

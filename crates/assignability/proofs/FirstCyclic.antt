@@ -1,24 +1,21 @@
 -- The first type that is its own ancestor, by steps between places.
-use Rattle.std.proofs.Common.{◌≡◌, ◌⊎◌, inl, inr, refl, sym, ◌∙◌, ap, subst, ℕ, zero, suc, ◌<◌, arith, List, [], ◌∷◌, length, map, Option, None, Some, true, false, if◌then◌else◌}
+use Rattle.std.proofs.Common.{◌≡◌, inl, inr, refl, sym, ◌∙◌, ap, subst, ℕ, zero, suc, ◌<◌, arith, List, [], ◌∷◌, map, Option, None, Some, true, false, if◌then◌else◌}
 use Rattle.std.specs.Prelude.{slice_get}
 use Rattle.std.specs.List.{Contains}
 use Rattle.std.proofs.lemmas.Bool.{cases_Bool}
-use Rattle.std.proofs.lemmas.Option.{slice_get_cases}
-use Rattle.type_terms.specs.declared.name.TypeId.{TypeId}
 use Rattle.type_terms.specs.declared.name.TypeName.{TypeName}
 use Rattle.type_terms.specs.declared.term.SigType.{SigType}
-use Rattle.assignability.specs.Ancestors.{Declared, all_declared, declared_in, declared_names, declaring, world_name, has_number, IsOwnAncestor, IsCyclicAt, IsFirstCyclic, IsAcyclic}
+use Rattle.assignability.specs.Ancestors.{Declared, all_declared, declared_names, world_name, IsOwnAncestor, IsFirstCyclic, IsAcyclic}
 use Rattle.assignability.specs.Declarations.{hierarchy_of}
-use Rattle.assignability.specs.Hierarchy.{Hierarchy, Declaration}
 use Rattle.assignability.specs.Distinct.{AreOnce}
 use Rattle.assignability.specs.Landings.{AreSteps, IsListed}
 use Rattle.assignability.specs.Laws.{IsGrounded}
 use Rattle.assignability.specs.Names.{same_name}
-use Rattle.assignability.specs.Scopes.{Sources, Member, member_of}
-use Rattle.assignability.specs.Walks.{IsFirstBack, IsRanked}
-use Rattle.assignability.proofs.DeclaredNames.{all_of, first_of, has_each, once_all, once_none}
+use Rattle.assignability.specs.Scopes.{Sources}
+use Rattle.assignability.specs.Walks.{IsFirstBack}
+use Rattle.assignability.proofs.DeclaredNames.{first_of, has_each, once_all, once_none}
 use Rattle.assignability.proofs.Heights.{grounded, height}
-use Rattle.assignability.proofs.LandingLemmas.{some_same}
+use Rattle.assignability.proofs.LandingLemmas.{some_none, some_same}
 use Rattle.assignability.proofs.LeadLemmas.{names_lead, places_lead}
 use Rattle.assignability.proofs.Plain.{are_plain}
 use Rattle.assignability.proofs.TableLemmas.{name_decides}
@@ -146,7 +143,7 @@ place_whole : (names : List TypeName) (name : TypeName) → place_in names name 
 unfolding place_in
 place_whole [] name e = λ k at. let h : ⊥ = cc in h
 place_whole (n ∷ names) name e = elim (cases_Bool (same_name name n)) [
-  | inl this ↦ let some : Some {A = ℕ} 0 ≡ None = sym (ap (λ b. if b then Some 0 else later (place_in names name)) this) ∙ e in absurd (let h : ⊥ = cc in h)
+  | inl this ↦ absurd (some_none {o = Some 0} refl (sym (ap (λ b. if b then Some 0 else later (place_in names name)) this) ∙ e))
   | inr other ↦
       let rest : later (place_in names name) ≡ None = sym (ap (λ b. if b then Some 0 else later (place_in names name)) other) ∙ e in
       there_not n name names (place_whole names name (later_none (place_in names name) rest)) other
@@ -158,7 +155,9 @@ pub none_is_grounded : (s : Sources) (steps : List (List ℕ)) → AreSteps (hie
 none_is_grounded s steps are listed back =
     let w = hierarchy_of s in
     let names = declared_names s in
-    let rank = back.1.0 in
-    (height (place_in names) rank w, grounded (place_in names) rank w names (are_plain s) listed (place_sound names)
-    (λ name d e p. let at = listed.found name d e in place_whole names name p at.0 at.1)
-    (λ i j leap. back.1.1 i j (are.all i j leap)))
+    let rank = back.1.0 in (
+      height (place_in names) rank w,
+      grounded (place_in names) rank w names (are_plain s) listed (place_sound names)
+          (λ name d e p. let at = listed.found name d e in place_whole names name p at.0 at.1)
+          (λ i j leap. back.1.1 i j (are.all i j leap)),
+    )

@@ -1,9 +1,7 @@
 -- In a world in which no step leads back, ways up come to an end.
-use Rattle.std.proofs.Common.{◌≡◌, ◌⊎◌, inl, inr, refl, sym, ◌∙◌, ap, subst, ℕ, zero, suc, ◌+◌, ◌*◌, ◌<◌, ◌≤◌, arith, List, [], ◌∷◌, length, map, Option, None, Some, Bool, true, false, cond, if◌then◌else◌}
+use Rattle.std.proofs.Common.{◌≡◌, refl, sym, ◌∙◌, ap, subst, ℕ, zero, suc, ◌+◌, ◌*◌, ◌<◌, ◌≤◌, arith, List, [], ◌∷◌, map, Option, None, Some, Bool, true, false, if◌then◌else◌}
 use Rattle.std.specs.Prelude.{slice_get, IsTrue, unwrap_or}
 use Rattle.std.specs.List.{Contains}
-use Rattle.std.proofs.lemmas.Bool.{cases_Bool}
-use Rattle.type_terms.specs.declared.name.TypeId.{TypeId}
 use Rattle.type_terms.specs.declared.name.TypeName.{TypeName}
 use Rattle.type_terms.specs.declared.term.Primitive.{Primitive}
 use Rattle.type_terms.specs.declared.term.Primitive.TheVariants as prim
@@ -14,8 +12,8 @@ use Rattle.type_terms.specs.declared.term.SigType.TheVariants as type
 use Rattle.sig_pool.specs.Replaced.{replaced, owner_replaced, replace_step}
 use Rattle.assignability.specs.Names.{class_of, is_integral, the_array, the_object, same_path}
 use Rattle.assignability.specs.Ancestors.{Step, to_base, name_in, layer_name}
-use Rattle.assignability.specs.Hierarchy.{Hierarchy, Declaration, object, core_name, named, named_by, chained, chained_in, chain_above, as_parent, chain_parent, parent_by, name_parent, instance_parent, primitive_parent, layer_parent, parent, declared_interfaces, layer_interfaces, interfaces, layer_elements, elements, declared_underlying, instance_underlying, layer_underlying, underlying}
-use Rattle.assignability.specs.Landings.{IsListed, Lands, here, along, LandsAt, LeapsTo}
+use Rattle.assignability.specs.Hierarchy.{Hierarchy, Declaration, object, core_name, named, named_by, chained, chain_parent, name_parent, instance_parent, primitive_parent, layer_parent, parent, declared_interfaces, layer_interfaces, interfaces, layer_elements, elements, declared_underlying, instance_underlying, layer_underlying, underlying}
+use Rattle.assignability.specs.Landings.{IsListed, here, along, LandsAt, LeapsTo}
 use Rattle.assignability.specs.Laws.{IsGrounded}
 use Rattle.assignability.proofs.LandingLemmas.{some_none, some_same, chain_ends}
 
@@ -362,8 +360,8 @@ module _ (place : TypeName → Option ℕ) (rank : ℕ → ℕ) (w : Hierarchy) 
   step_lower name next k p s =
       let h : name_tall next ≤ 4 * rank k + 1 + 1 + 1 =
       bound_name next (4 * rank k + 1) (omega arith) (λ j at.
-        let f : rank j < rank k = falls k j (record { name = name; next = next; from = sound name k p; step = s; to = at }) in
-        omega arith) in
+      let f : rank j < rank k = falls k j (record { name = name; next = next; from = sound name k p; step = s; to = at }) in
+      omega arith) in
       omega arith
 
   named_in : (t : SigType) (name : TypeName) → layer_name w (out-SigType t) ≡ Some name → name_in w t ≡ Some name

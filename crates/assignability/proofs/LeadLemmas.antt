@@ -1,15 +1,13 @@
 -- Steps by places lead back to a type exactly where steps lead back to its name.
-use Rattle.std.proofs.Common.{◌≡◌, ◌⊎◌, inl, inr, refl, sym, ◌∙◌, ap, subst, ℕ, ◌<◌, arith, List, length, Option, None, Some}
+use Rattle.std.proofs.Common.{◌≡◌, ◌⊎◌, inl, inr, refl, sym, subst, ℕ, ◌<◌, arith, List, length, None, Some}
 use Rattle.std.specs.Prelude.{slice_get}
 use Rattle.std.proofs.lemmas.Option.{slice_get_within}
 use Rattle.type_terms.specs.declared.name.TypeName.{TypeName}
-use Rattle.assignability.specs.Ancestors.{Step, to_base, to_interface, to_chain, Leads, one_step, step_more, IsOwnAncestor}
+use Rattle.assignability.specs.Ancestors.{Step, to_base, to_interface, to_chain, Leads, one_step, step_more}
 use Rattle.assignability.specs.Hierarchy.{Hierarchy, Declaration, chained}
-use Rattle.assignability.specs.Distinct.{AreOnce}
-use Rattle.assignability.specs.Landings.{AreSteps, IsListed, Lands, here, along, LandsAt, LeapsTo}
+use Rattle.assignability.specs.Landings.{AreSteps, IsListed, Lands, here, along, LeapsTo}
 use Rattle.assignability.specs.Walks as walks
-use Rattle.assignability.proofs.LandingLemmas.{some_none, some_same, lands_declared}
-use Rattle.assignability.proofs.TableLemmas.{name_decides}
+use Rattle.assignability.proofs.LandingLemmas.{some_same}
 
 -- ---- from places to names
 

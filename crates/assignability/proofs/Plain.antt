@@ -1,8 +1,7 @@
 -- What the assemblies of a world declare: bases and interfaces are names, instantiations or primitive types.
-use Rattle.std.proofs.Common.{◌≡◌, refl, sym, ◌∙◌, ap, subst, ℕ, zero, suc, ◌<◌, arith, Bool, true, false, ◌&&◌, if◌then◌else◌, List, [], ◌∷◌, Option, None, Some}
+use Rattle.std.proofs.Common.{◌≡◌, refl, sym, ap, subst, zero, suc, arith, Bool, true, false, ◌&&◌, if◌then◌else◌, List, [], ◌∷◌, Option, None, Some}
 use Rattle.std.specs.Prelude.{IsTrue, option_and_then}
-use Rattle.std.specs.List.{Contains, cons_option, filter_map, find}
-use Rattle.std.proofs.lemmas.Bool.{cases_Bool}
+use Rattle.std.specs.List.{Contains, cons_option, find}
 use Rattle.type_terms.specs.declared.name.TypeName.{TypeName}
 use Rattle.type_terms.specs.declared.term.Primitive.{Primitive}
 use Rattle.type_terms.specs.declared.term.Primitive.TheVariants as prim
@@ -15,7 +14,7 @@ use Rattle.assembly_tree.specs.declared.typedef.TypeDef.{TypeDef}
 use Rattle.assembly_tree.specs.declared.typedef.TypeDef.TheOpen.{TypeDef-F}
 use Rattle.assembly_tree.specs.declared.typedef.TypeDef.TheViews.{out-TypeDef}
 use Rattle.assignability.specs.Declarations.{Place, place_of, counted, counted_layer, base_in, interface_layer, interface_in, interfaces_in, integral_layer, field_type, is_of_instances, declaration_by, declaration_at, declaration_of, hierarchy_of, reading, is_core_class, is_value_type, has_base}
-use Rattle.assignability.specs.Hierarchy.{Hierarchy, Declaration, object}
+use Rattle.assignability.specs.Hierarchy.{Declaration}
 use Rattle.assignability.specs.Names.{is_integral, the_enum, the_object}
 use Rattle.assignability.specs.Normal.{Reading, normal, normal_owner}
 use Rattle.assignability.specs.Scopes.{Sources}

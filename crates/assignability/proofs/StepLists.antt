@@ -1,21 +1,20 @@
 -- The places to which the types of a declaration lead, one type after the other.
-use Rattle.std.proofs.Common.{◌≡◌, ◌⊎◌, inl, inr, refl, sym, ◌∙◌, ap, subst, ℕ, zero, suc, ◌+◌, ◌<◌, arith, List, [], ◌∷◌, ◌++◌, length, take, get_or, Option, None, Some, cond}
+use Rattle.std.proofs.Common.{◌≡◌, inl, inr, refl, sym, ◌∙◌, ap, subst, ℕ, zero, suc, ◌+◌, ◌<◌, arith, List, [], ◌∷◌, ◌++◌, length, take, get_or, Option, None, Some, cond}
 use Rattle.std.specs.Prelude.{slice_get, Result, Ok, Err, OnOk, IfOk}
 use Rattle.std.specs.List.{Contains}
 use Rattle.std.proofs.lemmas.Bool.{cases_Bool}
 use Rattle.std.proofs.lemmas.List.{append_assoc, append-nil, length-append, take_more, get_or_push, get_or_append_left}
-use Rattle.std.proofs.lemmas.List.Elements.{Contains-append_left, Contains-append_right, Contains-append_cases, Contains-push, Contains-push_cases}
+use Rattle.std.proofs.lemmas.List.Elements.{Contains-append_left, Contains-append_right, Contains-append_cases}
 use Rattle.std.proofs.lemmas.Option.{slice_get_within, slice_get_cases}
 use Rattle.type_terms.specs.declared.name.TypeName.{TypeName}
 use Rattle.type_terms.specs.declared.term.SigType.{SigType}
 use Rattle.assignability.specs.Ancestors.{Step, to_base, to_interface, to_chain, name_in}
 use Rattle.assignability.specs.Hierarchy.{Hierarchy, Declaration}
 use Rattle.assignability.specs.Distinct.{AreOnce}
-use Rattle.assignability.specs.Landings.{AreSteps, AddsPlaces, HaveSteps, IsListed, IsTypeLanding, LeapsTo, TypeLandsAt, bases}
+use Rattle.assignability.specs.Landings.{AreSteps, AddsPlaces, HaveSteps, IsListed, IsTypeLanding, TypeLandsAt, bases}
 use Rattle.assignability.specs.Names.{same_name}
 use Rattle.assignability.specs.Reading.{as_list}
 use Rattle.assignability.specs.Tables.{declaration, declaration_in, entry_in, entry_of, hierarchy_in}
-use Rattle.assignability.specs.Walks.{StepsTo}
 use Rattle.assignability.specs.declared.tables.Declared.{Declared}
 use Rattle.assignability.specs.declared.tables.Tables.{Tables}
 use Rattle.assignability.proofs.ChainLemmas.{snoc_cases}

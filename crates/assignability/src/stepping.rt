@@ -45,7 +45,13 @@ fn steps_of(
 {
     let mut nexts = Items::new(alloc);
     add_base(alloc, tables, tops, &declared.base, &mut nexts)?;
-    add_steps(alloc, tables, tops, declared.interfaces.as_slice(), &mut nexts)?;
+    add_steps(
+        alloc,
+        tables,
+        tops,
+        declared.interfaces.as_slice(),
+        &mut nexts,
+    )?;
     Ok(nexts)
 }
 

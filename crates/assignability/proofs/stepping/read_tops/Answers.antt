@@ -4,7 +4,6 @@ use Rattle.assignability.specs.Hierarchy.{Hierarchy, core_name}
 use Rattle.assignability.specs.Landings.{AreTops, IsLanding}
 use Rattle.assignability.specs.Names.{the_object, the_value_type, the_delegate}
 use Rattle.assignability.specs.Tables.{hierarchy_in}
-use Rattle.assignability.specs.declared.core_types.Above.{Above}
 use Rattle.assignability.specs.declared.core_types.Above.TheVariants.{Object, ValueType, Delegate}
 use Rattle.assignability.specs.declared.stepping.Tops.{Tops}
 use Rattle.assignability.proofs.LandingLemmas.{landing_none, landing_along, object_above, value_type_above, delegate_above}

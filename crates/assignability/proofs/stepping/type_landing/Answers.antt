@@ -1,4 +1,4 @@
-use Rattle.std.proofs.Common.{◌≡◌, ◌∙◌, ap, refl, sym, subst, ℕ, Option}
+use Rattle.std.proofs.Common.{ap, refl, ℕ, Option}
 use Rattle.type_terms.specs.declared.term.SigType.TheVariants as type
 use Rattle.assignability.specs.Hierarchy.{core_name}
 use Rattle.assignability.specs.Landings.{IsLanding, IsTypeLanding}
