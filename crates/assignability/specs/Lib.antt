@@ -24,6 +24,7 @@ pub mod Pooled
 pub mod Queues
 pub mod Reading
 pub mod Relations
+pub mod Rings
 pub mod Scopes
 pub mod Stack
 pub mod Starts

@@ -2,6 +2,7 @@
 #![tactic(auto)]
 
 mod above;
+mod ancestors;
 mod arrays;
 mod common;
 mod core_types;
