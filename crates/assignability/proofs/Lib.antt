@@ -6,6 +6,7 @@ pub mod CommonLemmas
 pub mod CycleLemmas
 pub mod DeclaredNames
 pub mod EntryLemmas
+pub mod FillLemmas
 pub mod FirstCyclic
 pub mod FitIds
 pub mod FitLemmas
@@ -24,13 +25,18 @@ pub mod NamingLemmas
 pub mod NodeLemmas
 pub mod Normals
 pub mod Ordering
+pub mod PlaceLemmas
 pub mod Placing
 pub mod Plain
 pub mod QueueLemmas
 pub mod ReachLemmas
+pub mod SoFar
 pub mod StayLemmas
 pub mod StepLists
 pub mod Steps
 pub mod TableLemmas
 pub mod TermLemmas
+pub mod TreePlaces
+pub mod ValueLemmas
 pub mod WalkLemmas
+pub mod WorldLemmas

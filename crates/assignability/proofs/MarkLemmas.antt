@@ -16,11 +16,11 @@ use Rattle.assignability.specs.declared.meanings.Meanings.{Meanings}
 use Rattle.assignability.proofs.NamingLemmas.{taken_step}
 use Rattle.assignability.proofs.TableLemmas.{name_decides}
 
-or_assoc : (a b c : Bool) → (a || (b || c)) ≡ ((a || b) || c)
+pub or_assoc : (a b c : Bool) → (a || (b || c)) ≡ ((a || b) || c)
 or_assoc true b c = refl
 or_assoc false b c = refl
 
-or_false : (a : Bool) → (a || false) ≡ a
+pub or_false : (a : Bool) → (a || false) ≡ a
 or_false true = refl
 or_false false = refl
 
@@ -31,7 +31,7 @@ or_kept false false h = refl
 
 -- ---- one name more
 
-among_with : (names : List TypeName) (n name : TypeName) → is_among (with_name names n) name ≡ (is_among names name || same_name name n)
+pub among_with : (names : List TypeName) (n name : TypeName) → is_among (with_name names n) name ≡ (is_among names name || same_name name n)
 among_with names n name = elim (cases_Bool (is_among names n)) [
   | inl e ↦
       ap (λ b. is_among (if b then names else names ++ n ∷ []) name) e

@@ -41,10 +41,10 @@ all_of : (xs : List TypeDef) → flat_map (λ (paths : Paths). paths) (map typed
 all_of [] = refl
 all_of (x ∷ xs) = ap (λ ps. typedef_paths x ++ ps) (all_of xs)
 
-abbrev inner : TypeDef → Paths
+abbrev pub inner : TypeDef → Paths
 inner t = map (λ path. (out-TypeDef t).id ∷ path) (flat_map typedef_paths (out-TypeDef t).nested)
 
-paths_out : (t : TypeDef) → typedef_paths t ≡ ((out-TypeDef t).id ∷ []) ∷ inner t
+pub paths_out : (t : TypeDef) → typedef_paths t ≡ ((out-TypeDef t).id ∷ []) ∷ inner t
 paths_out t =
     fold_out-TypeDef Paths paths_step t
     ∙ ap (λ ps. ((out-TypeDef t).id ∷ []) ∷ map (λ path. (out-TypeDef t).id ∷ path) ps) (all_of (out-TypeDef t).nested)

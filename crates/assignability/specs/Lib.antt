@@ -2,6 +2,7 @@ pub mod Above
 pub mod Ancestors
 pub mod Answers
 pub mod Arrays
+pub mod Building
 pub mod Chains
 pub mod Common
 pub mod Declarations
@@ -33,3 +34,4 @@ pub mod Tables
 pub mod ValueNames
 pub mod Walks
 pub mod World
+pub mod Worlds

@@ -4,11 +4,13 @@
 mod above;
 mod ancestors;
 mod arrays;
+mod building;
 mod common;
 mod core_types;
 mod cyclic;
 mod declaring;
 mod entries;
+mod filling;
 mod fits;
 mod interfaces;
 mod joining;
@@ -42,10 +44,12 @@ mod value_names;
 mod values;
 mod written;
 
+pub use building::{WorldFault, world};
 pub use keys::{
     boxed_of, core_scope, element_of, interfaces_of, is_value, pointer_to, st_of, term_of,
 };
 pub use laws::{assignable_is_a_preorder, joins_are_least_upper_bounds, keys_keep_their_types};
+pub use members::Assemblies;
 pub use order::{assignable, join, parent};
 pub use stack_type::{StackType, TypeKey, TypeKeys, id_of};
 pub use written::{key_of, stack_of};

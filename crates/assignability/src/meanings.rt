@@ -1,7 +1,8 @@
 ghost use Rattle.std.specs.Prelude.{◌≡◌};
 ghost use Rattle.assignability.specs.Gathered.{scope_by};
 
-use il_lists::Items;
+use il_lists::{Copies, Items, NoMemory};
+use std::alloc::Global;
 use type_terms::Scope;
 
 /// What the scopes in an assembly mean in its world.
@@ -25,5 +26,15 @@ impl Meanings {
                 None => scope,
             },
         }
+    }
+}
+
+impl Copies for Meanings {
+    fn copy(&self, alloc: Global) -> Result<Meanings, NoMemory> {
+        let externs = Items::from_slice(alloc, self.externs.as_slice())?;
+        Ok(Meanings {
+            own: self.own,
+            externs,
+        })
     }
 }

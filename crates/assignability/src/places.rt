@@ -1,18 +1,24 @@
 //! The types that the assemblies of a world declare, each with its name in it.
-ghost use Rattle.std.specs.Prelude.{◌≡◌, ◌∷◌, ◌++◌, [], List, IfOk, OnOk};
-ghost use Rattle.std.specs.List.{Contains, flat_map};
+ghost use Rattle.std.specs.Prelude.{◌≡◌, ◌∷◌, ◌++◌, [], ℕ, List, IfOk, IsTrue, OnOk, not};
+ghost use Rattle.std.specs.List.{Contains, flat_map, list_any};
 ghost use Rattle.type_terms.specs.declared.name.TypeId.{TypeId};
 ghost use Rattle.assembly_tree.specs.declared.typedef.TypeDef.{TypeDef};
 ghost use Rattle.assembly_tree.specs.declared.typedef.TypeDef.TheViews.{out-TypeDef};
+ghost use Rattle.assembly_tree.specs.WellFormed.{are_classes};
 ghost use Rattle.assignability.specs.Ancestors.{typedef_paths};
 ghost use Rattle.assignability.specs.Gathered.{with_name};
-ghost use Rattle.assignability.specs.Names.{full_name};
+ghost use Rattle.assignability.specs.Members.{IsScopes, assembly_of, sources};
+ghost use Rattle.assignability.specs.Names.{full_name, same_scope};
 ghost use Rattle.assignability.specs.Placed.{placed, IsGrown};
-ghost use Rattle.assignability.specs.Places.{row};
+ghost use Rattle.assignability.specs.Places.{ArePlaces, row};
+ghost use Rattle.assignability.specs.declared.meanings.Meanings.{Meanings};
 
+use crate::meanings::Meanings;
+use crate::members::{Assemblies, assembly_of};
 use crate::names::Names;
-use assembly_tree::TypeDef;
-use il_lists::{Copies, Items, NoMemory, Numbers};
+use crate::scopes::Scopes;
+use assembly_tree::{Assembly, TypeDef};
+use il_lists::{Copies, Items, NoMemory};
 use std::alloc::Global;
 use type_terms::{Path, Scope, TypeId, TypeName};
 
@@ -22,15 +28,54 @@ pub struct Places<'a> {
     /// The name of each.
     pub names: Names,
     /// The place of its assembly among those that count.
-    pub members: Numbers,
+    pub members: Items<usize>,
     pub types: Items<&'a TypeDef>,
+}
+
+/// The types that assemblies declare, those of the image first, each before those that it nests. Where two assemblies
+/// have one scope, the types of the first count.
+pub fn read_places<'a>(
+    alloc: Global,
+    image: &'a Assembly,
+    references: &'a Assemblies,
+    scopes: &Scopes,
+) -> Result<Places<'a>, NoMemory>
+    requires scopes { IsScopes (sources image.now references.now) scopes.now }
+    requires formed { (n : ℕ) → IsTrue (are_classes (assembly_of (sources image.now references.now) n)) }
+    ensures { IfOk result (λ p. ArePlaces (sources image.now references.now) (row p)) }
+{
+    let mut into = Places {
+        names: Names::new(alloc),
+        members: Items::new(alloc),
+        types: Items::new(alloc),
+    };
+    for (k, number) in scopes.numbers.as_slice().iter().enumerate() {
+        let own = scopes.meanings.at(k).own;
+        if is_first(&scopes.meanings.as_slice()[..k], own) {
+            let of = assembly_of(image, references, *number);
+            add_types(alloc, own, k, &[], of.types.as_slice(), &mut into)?;
+        }
+    }
+    Ok(into)
+}
+
+/// Whether none of these assemblies has that scope.
+fn is_first(before: &[Meanings], own: Scope) -> bool
+    ensures { result ≡ not (list_any (λ (m : Meanings). same_scope m.own own) before.now) }
+{
+    for other in before {
+        if other.own == own {
+            return false;
+        }
+    }
+    true
 }
 
 /// Adds each type, and then those that it nests, unless its name is there; `outer` is the path of the type that nests them.
 pub fn add_types<'a>(
     alloc: Global,
     scope: Scope,
-    member: u32,
+    member: usize,
     outer: &[TypeId],
     types: &'a [TypeDef],
     into: &mut Places<'a>,
@@ -57,7 +102,7 @@ pub fn add_types<'a>(
 fn add_type<'a>(
     alloc: Global,
     scope: Scope,
-    member: u32,
+    member: usize,
     path: &Path,
     of: &'a TypeDef,
     into: &mut Places<'a>,
