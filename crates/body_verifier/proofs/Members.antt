@@ -32,7 +32,7 @@ pub to_every : {X : Type 0} (P : X → Type 0) (xs : List X) → ((x : X) → Co
 to_every P [] h = tt
 to_every P (y ∷ ys) h = (h y (here y ys), to_every P ys (λ x c. h x (there y ys x c)))
 
-every_append : {X : Type 0} (P : X → Type 0) (xs ys : List X) → Every P xs → Every P ys → Every P (xs ++ ys)
+pub every_append : {X : Type 0} (P : X → Type 0) (xs ys : List X) → Every P xs → Every P ys → Every P (xs ++ ys)
 every_append P [] ys a b = b
 every_append P (x ∷ xs) ys a b = (a.0, every_append P xs ys a.1 b)
 

@@ -18,7 +18,7 @@ use Rattle.body_verifier.proofs.Targets.{all_in}
 
 -- ---- ranges that aren't empty
 
-abbrev Filled : Block → Type 0
+abbrev pub Filled : Block → Type 0
 Filled b = b.start < b.end
 
 apart_disjoint : (a b : Block) → are_apart (span_of a) (span_of b) ≡ true → AreDisjoint a b
@@ -157,7 +157,7 @@ filled_filter start (Catch o) h = tt
 filled_filter start Finally h = tt
 filled_filter start Fault h = tt
 
-filled : (c : Clause) → is_forward c ≡ true → (b : Block) → Contains (blocks_of c) b → Filled b
+pub filled : (c : Clause) → is_forward c ≡ true → (b : Block) → Contains (blocks_of c) b → Filled b
 filled c h b is =
     let p = and_parts (nat_lt c.try_start c.try_end && nat_lt c.handler_start c.handler_end) (filter_before c.handler_start c.kind) h in
     let q = and_parts (nat_lt c.try_start c.try_end) (nat_lt c.handler_start c.handler_end) p.0 in

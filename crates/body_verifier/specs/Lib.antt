@@ -1,9 +1,13 @@
 pub mod BlockTests
 pub mod Blocks
+pub mod CodeRules
+pub mod CodeTests
 pub mod Demands
 pub mod Edges
 pub mod Effects
 pub mod Frames
+pub mod GoingTests
+pub mod Goings
 pub mod Laws
 pub mod Links
 pub mod Methods

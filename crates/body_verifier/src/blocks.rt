@@ -232,7 +232,7 @@ pub(crate) fn all_spans(alloc: Global, clauses: &[Clause]) -> Result<Items<Spans
     Ok(all)
 }
 
-fn all_are_level(clauses: &[Spans], k: u32, t: u32) -> bool
+pub(crate) fn all_are_level(clauses: &[Spans], k: u32, t: u32) -> bool
     ensures { result ≡ is_level_test clauses.now k t }
 {
     clauses.iter().all(|clause| clause.is_level(k, t))

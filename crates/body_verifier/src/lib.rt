@@ -6,8 +6,13 @@
 #![tactic(auto)]
 
 mod blocks;
+mod code_rules;
+mod flowing;
 mod frame;
+mod goings;
+mod guarding;
 mod laws;
+mod leaving;
 mod operation;
 mod places;
 mod report;

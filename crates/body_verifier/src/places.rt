@@ -129,19 +129,19 @@ fn ends_filter_in(clauses: &[Spans], k: u32, clause: &Spans) -> bool
     }
 }
 
-fn all_release(clauses: &[Spans], k: u32, t: u32) -> bool
+pub(crate) fn all_release(clauses: &[Spans], k: u32, t: u32) -> bool
     ensures { result ≡ may_leave_test clauses.now k t }
 {
     clauses.iter().all(|clause| clause.releases(k, t))
 }
 
-fn any_rethrows(clauses: &[Spans], k: u32) -> bool
+pub(crate) fn any_rethrows(clauses: &[Spans], k: u32) -> bool
     ensures { result ≡ may_rethrow_test clauses.now k }
 {
     clauses.iter().any(|clause| rethrows_in(clauses, k, clause))
 }
 
-fn any_ends_finally(clauses: &[Spans], k: u32) -> bool
+pub(crate) fn any_ends_finally(clauses: &[Spans], k: u32) -> bool
     ensures { result ≡ may_end_finally_test clauses.now k }
 {
     clauses
@@ -149,7 +149,7 @@ fn any_ends_finally(clauses: &[Spans], k: u32) -> bool
         .any(|clause| ends_finally_in(clauses, k, clause))
 }
 
-fn any_ends_filter(clauses: &[Spans], k: u32) -> bool
+pub(crate) fn any_ends_filter(clauses: &[Spans], k: u32) -> bool
     requires { k < 2 ^ 32 - 1 }
     ensures { result ≡ may_end_filter_test clauses.now k }
 {
