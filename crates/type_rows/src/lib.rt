@@ -1,0 +1,8 @@
+//! Tests alone: types and their order in small worlds. They stand apart from `assignability`, so that neither proves the
+//! other again.
+#![tactic(auto)]
+
+#[cfg(test)]
+mod parts;
+#[cfg(test)]
+mod worlds;
