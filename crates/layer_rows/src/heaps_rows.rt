@@ -84,13 +84,20 @@ fn adds_units(
     Ok(at == index && stands && user_at(bytes, at) == Some(units))
 }
 
+/// Whether each row holds, one after the other.
+fn add_all_units(heap: &mut UserHeap) -> Result<bool, NoMemory> {
+    for (units, index, entry) in USER_STRINGS.iter() {
+        if !adds_units(heap, units, *index, entry)? {
+            return Ok(false);
+        }
+    }
+    Ok(true)
+}
+
 #[test]
 fn user_strings(rt: HostRuntime) -> Result<(), Fail> {
     let mut heap = UserHeap::new(rt.alloc())?;
-    for (units, index, entry) in USER_STRINGS.iter() {
-        let holds = adds_units(&mut heap, units, *index, entry)?;
-        assert!(rt; holds, "at {index}");
-    }
+    assert!(rt; add_all_units(&mut heap)?);
     assert!(rt; heap.bytes().len() == 53);
     Ok(())
 }
@@ -113,16 +120,23 @@ fn adds_blob(heap: &mut BlobHeap, blob: &[u8], index: u32) -> Result<bool, NoMem
     Ok(at == index && blob_at(heap.bytes(), at) == Some(blob))
 }
 
+/// Whether each row holds, one after the other.
+fn add_all_blobs(heap: &mut BlobHeap) -> Result<bool, NoMemory> {
+    for (blob, index) in ADDED_BLOBS.iter() {
+        if !adds_blob(heap, blob, *index)? {
+            return Ok(false);
+        }
+    }
+    Ok(true)
+}
+
 #[test]
 fn blobs(rt: HostRuntime) -> Result<(), Fail> {
     let mut heap = BlobHeap::new(rt.alloc())?;
-    for (blob, index) in ADDED_BLOBS.iter() {
-        let holds = adds_blob(&mut heap, blob, *index)?;
-        assert!(rt; holds, "at {index}");
-    }
+    assert!(rt; add_all_blobs(&mut heap)?);
     assert!(rt; heap.bytes() == b"\x00\x01\x07\x01\x00\x02\x07\x00".as_slice());
-    let long = adds_blob(&mut heap, &[7; 128], 8)?;
-    assert!(rt; long && heap.bytes().get(8..11) == Some(b"\x80\x80\x07".as_slice()));
+    assert!(rt; adds_blob(&mut heap, &[7; 128], 8)?);
+    assert!(rt; heap.bytes().get(8..11) == Some(b"\x80\x80\x07".as_slice()));
     Ok(())
 }
 
@@ -139,13 +153,20 @@ fn adds_text(heap: &mut StringHeap, text: &str, index: u32) -> Result<bool, NoMe
     Ok(at == index && string_at(heap.bytes(), at) == Some(text))
 }
 
+/// Whether each row holds, one after the other.
+fn add_all_texts(heap: &mut StringHeap) -> Result<bool, NoMemory> {
+    for (text, index) in ADDED_TEXTS.iter() {
+        if !adds_text(heap, text, *index)? {
+            return Ok(false);
+        }
+    }
+    Ok(true)
+}
+
 #[test]
 fn texts(rt: HostRuntime) -> Result<(), Fail> {
     let mut heap = StringHeap::new(rt.alloc())?;
-    for (text, index) in ADDED_TEXTS.iter() {
-        let holds = adds_text(&mut heap, text, *index)?;
-        assert!(rt; holds, "at {index}");
-    }
+    assert!(rt; add_all_texts(&mut heap)?);
     assert!(rt; heap.bytes() == b"\x00a\x00ab\x00b\x00".as_slice());
     Ok(())
 }
@@ -160,13 +181,15 @@ fn adds_identifier(heap: &mut GuidHeap, byte: u8, index: u32) -> Result<bool, No
     Ok(at == index && guid_at(heap.bytes(), at) == Some(id.as_slice()))
 }
 
+/// Whether two identifiers have an index each, and the first the same again.
+fn add_identifiers(heap: &mut GuidHeap) -> Result<bool, NoMemory> {
+    Ok(adds_identifier(heap, 0, 1)? && adds_identifier(heap, 9, 2)? && adds_identifier(heap, 0, 1)?)
+}
+
 #[test]
 fn identifiers(rt: HostRuntime) -> Result<(), Fail> {
     let mut heap = GuidHeap::new(rt.alloc())?;
-    for (byte, index) in [(0, 1), (9, 2), (0, 1)] {
-        let holds = adds_identifier(&mut heap, byte, index)?;
-        assert!(rt; holds, "at {index}");
-    }
+    assert!(rt; add_identifiers(&mut heap)?);
     let ends = guid_at(heap.bytes(), 0).is_none() && guid_at(heap.bytes(), 3).is_none();
     assert!(rt; ends);
     Ok(())

@@ -133,24 +133,42 @@ fn takes_a_string(alloc: Global) -> Result<MethodSig, NoMemory>
     })
 }
 
-#[test]
-fn types_as_bytes(rt: HostRuntime) -> Result<(), Fail> {
-    let alloc = rt.alloc();
-    let bytes = encode_type(alloc, &numbers(alloc)?, &NoNames)?;
-    assert_eq!(rt; bytes.as_slice(), b"\x1D\x08".as_slice());
-    let bytes = encode_type(alloc, &two_bounds(alloc)?, &NoNames)?;
-    assert_eq!(rt;
-        bytes.as_slice(),
-        b"\x14\x08\x02\x00\x02\x00\x00".as_slice()
-    );
-    Ok(())
+/// Whether a type has this spelling.
+fn is_spelled(alloc: Global, t: &SigType, bytes: &[u8]) -> Result<bool, NoMemory>
+    requires { (tokens : Owner → Option ℕ) → HasSpelling tokens t.now }
+{
+    let made = encode_type(alloc, t, &NoNames)?;
+    Ok(made.as_slice() == bytes)
+}
+
+/// Whether a method has this spelling.
+fn is_method_spelled(alloc: Global, sig: &MethodSig, bytes: &[u8]) -> Result<bool, NoMemory>
+    requires { (tokens : Owner → Option ℕ) → MethodHasSpelling tokens sig.now }
+{
+    let made = encode_method(alloc, sig, &NoNames)?;
+    Ok(made.as_slice() == bytes)
+}
+
+fn numbers_as_bytes(alloc: Global) -> Result<bool, NoMemory> {
+    let t = numbers(alloc)?;
+    is_spelled(alloc, &t, b"\x1D\x08")
+}
+
+fn two_bounds_as_bytes(alloc: Global) -> Result<bool, NoMemory> {
+    let t = two_bounds(alloc)?;
+    is_spelled(alloc, &t, b"\x14\x08\x02\x00\x02\x00\x00")
+}
+
+fn method_as_bytes(alloc: Global) -> Result<bool, NoMemory> {
+    let sig = takes_a_string(alloc)?;
+    is_method_spelled(alloc, &sig, b"\x20\x01\x01\x0E")
 }
 
 #[test]
-fn a_method_as_bytes(rt: HostRuntime) -> Result<(), Fail> {
-    let alloc = rt.alloc();
-    let bytes = encode_method(alloc, &takes_a_string(alloc)?, &NoNames)?;
-    assert_eq!(rt; bytes.as_slice(), b"\x20\x01\x01\x0E".as_slice());
+fn signatures_as_bytes(rt: HostRuntime) -> Result<(), Fail> {
+    assert!(rt; numbers_as_bytes(rt.alloc())?);
+    assert!(rt; two_bounds_as_bytes(rt.alloc())?);
+    assert!(rt; method_as_bytes(rt.alloc())?);
     Ok(())
 }
 
@@ -175,12 +193,18 @@ fn spells_a_type(alloc: Global, bytes: &[u8]) -> Result<bool, NoMemory> {
     Ok(decode_type(alloc, bytes, &NoNames)?.is_some())
 }
 
+fn spellings_hold(alloc: Global) -> Result<bool, NoMemory> {
+    for (bytes, whole) in SPELLINGS.iter() {
+        if spells_a_type(alloc, bytes)? != *whole {
+            return Ok(false);
+        }
+    }
+    Ok(true)
+}
+
 #[test]
 fn bytes_that_spell_types(rt: HostRuntime) -> Result<(), Fail> {
-    for (bytes, whole) in SPELLINGS.iter() {
-        let found = spells_a_type(rt.alloc(), bytes)?;
-        assert_eq!(rt; found, *whole, "at {bytes:?}");
-    }
+    assert!(rt; spellings_hold(rt.alloc())?);
     Ok(())
 }
 
@@ -192,13 +216,20 @@ fn spells(alloc: Global, bytes: &[u8], wanted: &SigType) -> Result<bool, NoMemor
     }
 }
 
+fn numbers_from_bytes(alloc: Global) -> Result<bool, NoMemory> {
+    let t = numbers(alloc)?;
+    spells(alloc, b"\x1D\x08", &t)
+}
+
+fn two_bounds_from_bytes(alloc: Global) -> Result<bool, NoMemory> {
+    let t = two_bounds(alloc)?;
+    spells(alloc, b"\x14\x08\x02\x00\x02\x00\x00", &t)
+}
+
 #[test]
 fn types_from_bytes(rt: HostRuntime) -> Result<(), Fail> {
-    let alloc = rt.alloc();
-    let vectors = spells(alloc, b"\x1D\x08", &numbers(alloc)?)?;
-    assert!(rt; vectors);
-    let arrays = spells(alloc, b"\x14\x08\x02\x00\x02\x00\x00", &two_bounds(alloc)?)?;
-    assert!(rt; arrays);
+    assert!(rt; numbers_from_bytes(rt.alloc())?);
+    assert!(rt; two_bounds_from_bytes(rt.alloc())?);
     Ok(())
 }
 
@@ -210,12 +241,14 @@ fn is_of_a_string(found: &MethodSig) -> bool {
     found.has_this && alone && found.generic == 0 && nothing && found.params.len() == 1 && text
 }
 
+fn method_from_bytes(alloc: Global) -> Result<bool, NoMemory> {
+    let found = decode_method(alloc, b"\x20\x01\x01\x0E", &NoNames)?;
+    Ok(found.is_some_and(|sig| is_of_a_string(&sig)))
+}
+
 #[test]
 fn a_method_from_bytes(rt: HostRuntime) -> Result<(), Fail> {
-    let found = decode_method(rt.alloc(), b"\x20\x01\x01\x0E", &NoNames)?;
-    let found = found.ok_or("no method")?;
-    let holds = is_of_a_string(&found);
-    assert!(rt; holds);
+    assert!(rt; method_from_bytes(rt.alloc())?);
     Ok(())
 }
 
@@ -224,9 +257,7 @@ fn a_method_from_bytes(rt: HostRuntime) -> Result<(), Fail> {
 fn types_as_deep_as_can_be(rt: HostRuntime) -> Result<(), Fail> {
     let mut bytes = [0x1D; 101];
     bytes[100] = 0x08;
-    let deep = spells_a_type(rt.alloc(), &bytes[1..])?;
-    assert!(rt; deep);
-    let deeper = spells_a_type(rt.alloc(), &bytes)?;
-    assert!(rt; !deeper);
+    assert!(rt; spells_a_type(rt.alloc(), &bytes[1..])?);
+    assert!(rt; !spells_a_type(rt.alloc(), &bytes)?);
     Ok(())
 }
