@@ -1,3 +1,5 @@
+pub mod ByteLemmas
+pub mod GapLemmas
 pub mod Lexed
 pub mod NameLemmas
 pub mod Numbers

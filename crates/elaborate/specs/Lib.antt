@@ -1,3 +1,4 @@
+pub mod Gaps
 pub mod Integers
 pub mod NameTexts
 pub mod Walk
