@@ -35,7 +35,7 @@ same_ins f k i j o is d =
 what : (f : Frame) (k : ℕ) (i j : Ins) (o : Operation) → slice_get f.code k ≡ Some i → Does f k o j → operation i.op ≡ o
 what f k i j o is d = ap (λ (z : Ins). operation z.op) (same_ins f k i j o is d) ∙ d.does
 
-return_op : (o : Operation) → is_return o ≡ true → o ≡ does.Return
+pub return_op : (o : Operation) → is_return o ≡ true → o ≡ does.Return
 return_op does.Return e = refl
 return_op o e = absurd (let z : ⊥ = cc in z)
 

@@ -7,6 +7,7 @@ pub mod Leading
 pub mod Levels
 pub mod LinkLemmas
 pub mod Listed
+pub mod Marking
 pub mod Members
 pub mod Monotone
 pub mod Nesting
@@ -15,8 +16,10 @@ pub mod Orders
 pub mod Pairs
 pub mod PathsRight
 pub mod Placing
+pub mod Prefixed
 pub mod Reduced
 pub mod Refining
 pub mod Shapes
 pub mod SoundRows
 pub mod Targets
+pub mod VariableLemmas

@@ -1,5 +1,5 @@
 -- Tests of the rules that an instruction breaks whatever the stack is.
-use Rattle.std.specs.Prelude.{ℕ, ◌+◌, Bool, true, false, not, ◌&&◌, ◌||◌, nat_eq, nat_lt, List}
+use Rattle.std.specs.Prelude.{ℕ, nat_le, ◌+◌, Bool, true, false, not, ◌&&◌, ◌||◌, nat_eq, nat_lt, List}
 use Rattle.std.specs.List.{list_any}
 use Rattle.assembly_tree.specs.declared.body.Ins.{Ins}
 use Rattle.assembly_tree.specs.declared.body.Operand as operand
@@ -58,3 +58,7 @@ is_unlisted o = false
 
 abbrev pub unverified_by : Operation → operand.Operand → Bool
 unverified_by o x = is_unlisted o || (calls o && states_this x)
+
+-- a variable's number that isn't below their count
+abbrev pub lacks_by : ℕ → ℕ → Bool → Bool
+lacks_by count number loads = loads && nat_le count number

@@ -10,6 +10,7 @@ pub mod GoingTests
 pub mod Goings
 pub mod Laws
 pub mod Links
+pub mod Marks
 pub mod Methods
 pub mod Operations
 pub mod Paths

@@ -16,7 +16,7 @@ use crate::places::{all_release, any_ends_filter, any_ends_finally, any_rethrows
 use assembly_tree::{Ins, Operand};
 
 impl Operation {
-    fn is_return(self) -> bool
+    pub(crate) fn is_return(self) -> bool
         ensures { result ≡ is_return self }
     {
         match self {

@@ -1,8 +1,8 @@
 //! Which instructions of a method's body break the rules of verifiable code (ECMA-335 III.1.8).
 //!
 //! What stands: the definitions (`specs/`), their laws, what each opcode does, blocks and level steps, where
-//! `leave` and the ends of handlers may stand, the worklist, the texts of the rules and the report. The check
-//! of a method isn't written yet.
+//! `leave` and the ends of handlers may stand, the edges of a body, the rules that ask no stack, the worklist,
+//! the texts of the rules and the report. The check of a method isn't written yet.
 #![tactic(auto)]
 
 mod blocks;
@@ -13,12 +13,15 @@ mod goings;
 mod guarding;
 mod laws;
 mod leaving;
+mod marks;
 mod operation;
 mod places;
+mod prefixes;
 mod report;
 mod row;
 mod rule;
 mod stack;
+mod variable_rules;
 mod worklist;
 
 pub use laws::{a_body_has_one_least_typing, instructions_are_monotone, paths_are_right};
