@@ -148,3 +148,16 @@ first_of names k n h = go (each_comes [] names k n h)
     go : Comes [] names (all_of [] names) k n → IsFirst names (all_of [] names) k n
     go (was e) = absurd (let z : ⊥ = cc in z)
     go (comes low f) = f
+
+-- ---- there are no more than there are names
+
+joins_length : (now next : List TypeName) (name : TypeName) → Joins now name next → length next ≤ length now + 1
+joins_length now next name (known j at e) = let same : length next ≡ length now = ap length e in omega arith
+joins_length now next name (added lacks e) = let longer : length next ≡ length now + 1 = ap length e ∙ length-append now (name ∷ []) in omega arith
+
+pub all_length : (now names : List TypeName) → length (all_of now names) ≤ length now + length names
+all_length now [] = omega arith
+all_length now (name ∷ names) =
+    let one = joins_length now (with_name now name) name (joins now name) in
+    let more = all_length (with_name now name) names in
+    omega arith

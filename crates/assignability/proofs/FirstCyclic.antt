@@ -1,23 +1,22 @@
 -- The first type that is its own ancestor, by steps between places.
-use Rattle.std.proofs.Common.{◌≡◌, inl, inr, refl, sym, ◌∙◌, ap, subst, ℕ, zero, suc, ◌<◌, arith, List, [], ◌∷◌, length, map, Option, None, Some, true, false, if◌then◌else◌}
+use Rattle.std.proofs.Common.{◌≡◌, inl, inr, refl, sym, ◌∙◌, ap, subst, ℕ, zero, suc, ◌+◌, ◌<◌, ◌≤◌, arith, List, [], ◌∷◌, length, map, Option, None, Some, true, false, if◌then◌else◌}
 use Rattle.std.specs.Prelude.{slice_get}
 use Rattle.std.specs.List.{Contains}
 use Rattle.std.proofs.lemmas.Bool.{cases_Bool}
-use Rattle.std.proofs.lemmas.Option.{slice_get_cases}
+use Rattle.std.proofs.lemmas.List.{length-map}
 use Rattle.type_terms.specs.declared.name.TypeName.{TypeName}
 use Rattle.type_terms.specs.declared.term.SigType.{SigType}
-use Rattle.assignability.specs.Ancestors.{Declared, all_declared, declared_names, world_name, IsOwnAncestor, IsAcyclic}
+use Rattle.assignability.specs.Ancestors.{Declared, all_declared, declared_names, world_name, IsOwnAncestor, IsFirstCyclic, IsAcyclic}
 use Rattle.assignability.specs.Declarations.{hierarchy_of}
 use Rattle.assignability.specs.Distinct.{AreOnce}
-use Rattle.assignability.specs.Hierarchy.{Hierarchy}
-use Rattle.assignability.specs.Landings.{AreSteps, IsListed}
+use Rattle.assignability.specs.Hierarchy.{Declaration}
+use Rattle.assignability.specs.Landings.{AreSteps, IsListed, LeapsTo}
 use Rattle.assignability.specs.Laws.{IsGrounded}
 use Rattle.assignability.specs.Names.{same_name}
-use Rattle.assignability.specs.Rings.{IsCyclicNamed, SaysFirst}
 use Rattle.assignability.specs.Scopes.{Sources}
 use Rattle.assignability.specs.Walks.{IsFirstBack}
-use Rattle.assignability.proofs.DeclaredNames.{first_of, has_each, once_all, once_none}
-use Rattle.assignability.proofs.Heights.{grounded, height}
+use Rattle.assignability.proofs.DeclaredNames.{all_length, first_of, has_each, once_all, once_none}
+use Rattle.assignability.proofs.LowHeights.{low_bound, low_grounded, low_height}
 use Rattle.assignability.proofs.LandingLemmas.{some_none, some_same}
 use Rattle.assignability.proofs.LeadLemmas.{names_lead, places_lead}
 use Rattle.assignability.proofs.Plain.{are_plain}
@@ -71,6 +70,12 @@ first_named s k n e =
     }
 
 -- ---- the first that is its own ancestor
+
+-- the first such type has that name
+pub record IsCyclicNamed (s : Sources) (n : TypeName) : Type 0 where
+  pub type : Declared
+  pub first : IsFirstCyclic s type
+  pub named : world_name s type ≡ n
 
 module _ (s : Sources) (steps : List (List ℕ)) (are : AreSteps (hierarchy_of s) (declared_names s) steps) (listed : IsListed (hierarchy_of s) (declared_names s)) where
   pub first_is_cyclic : (k : ℕ) (n : TypeName) → IsFirstBack steps (Some k) → slice_get (declared_names s) k ≡ Some n → IsCyclicNamed s n
@@ -146,36 +151,24 @@ place_whole (n ∷ names) name e = elim (cases_Bool (same_name name n)) [
       there_not n name names (place_whole names name (later_none (place_in names name) rest)) other
 ]
 
--- where no step leads back, ways up come to an end
+declared_length : (s : Sources) → length (declared_names s) ≤ length (all_declared s)
+unfolding declared_names
+declared_length s =
+    let most = all_length [] (map (world_name s) (all_declared s)) in
+    let same = length-map (all_declared s) (world_name s) in
+    omega (arith, same)
+
+-- where no step leads back, ways up come to an end, and none is longer than there are declared types and four more
 pub none_is_grounded : (s : Sources) (steps : List (List ℕ)) → AreSteps (hierarchy_of s) (declared_names s) steps → IsListed (hierarchy_of s) (declared_names s)
-    → IsFirstBack steps None → (tall : SigType → ℕ) × IsGrounded (hierarchy_of s) tall
+    → IsFirstBack steps None → (tall : SigType → ℕ) × IsGrounded (hierarchy_of s) tall × ((t : SigType) → tall t ≤ length (all_declared s) + 4)
 none_is_grounded s steps are listed back =
     let w = hierarchy_of s in
     let names = declared_names s in
-    let rank = back.1.0 in (
-      height (place_in names) rank w,
-      grounded (place_in names) rank w names (are_plain s) listed (place_sound names)
-          (λ name d e p. let at = listed.found name d e in place_whole names name p at.0 at.1)
-          (λ i j leap. back.1.1 i j (are.all i j leap)),
+    let rank = back.1.0 in
+    let whole = λ (name : TypeName) (d : Declaration) (e : w.declared name ≡ Some d) (p : place_in names name ≡ None). let at = listed.found name d e in place_whole names name p at.0 at.1 in
+    let falls = λ (i j : ℕ) (leap : LeapsTo w names i j). back.1.1 i j (are.all i j leap) in
+    let plain = are_plain s in (
+      low_height (place_in names) rank w names plain listed (place_sound names) whole falls,
+      low_grounded (place_in names) rank w names plain listed (place_sound names) whole falls,
+      (λ t. let most = low_bound (place_in names) rank w names plain listed (place_sound names) whole falls t in let few = declared_length s in omega arith),
     )
-
--- ---- what the walk says
-
-says_of : (s : Sources) (names : List TypeName) (steps : List (List ℕ)) → names ≡ declared_names s → AreSteps (hierarchy_of s) (declared_names s) steps
-    → IsListed (hierarchy_of s) (declared_names s) → (first : Option ℕ) → IsFirstBack steps first → SaysFirst s names first
-says_of s names steps e are listed None back = (none_is_cyclic s steps are listed back, none_is_grounded s steps are listed back)
-says_of s names steps e are listed (Some k) back =
-    let paired : length steps ≡ length (declared_names s) = are.paired in
-    let low : k < length steps = back.0 in
-    elim ((slice_get_cases (declared_names s) k).1) [
-      | inl at ↦ (at.0, ap (λ l. slice_get l k) e ∙ at.2, first_is_cyclic s steps are listed k at.0 back at.2)
-      | inr past ↦ absurd (let p = past.0 in omega arith)
-    ]
-
-pub says_first : (s : Sources) (w : Hierarchy) (names : List TypeName) (steps : List (List ℕ)) → w ≡ hierarchy_of s → names ≡ declared_names s → AreSteps w names steps → IsListed w names
-    → (first : Option ℕ) → IsFirstBack steps first → SaysFirst s names first
-says_first s w names steps same e are listed first back =
-    says_of s names steps e
-    (subst (λ (v : Hierarchy). AreSteps v (declared_names s) steps) same (subst (λ (l : List TypeName). AreSteps w l steps) e are))
-    (subst (λ (v : Hierarchy). IsListed v (declared_names s)) same (subst (λ (l : List TypeName). IsListed w l) e listed))
-    first back

@@ -61,11 +61,11 @@ module _ (place : TypeName → Option ℕ) (rank : ℕ → ℕ) (w : Hierarchy) 
   abbrev pub name_height : TypeName → ℕ
   name_height name = height_by (next_height middle_height (chained w name)) (place name)
 
-  abbrev primitive_height : Primitive → ℕ
+  abbrev pub primitive_height : Primitive → ℕ
   primitive_height prim.Object = 0
   primitive_height p = name_height (core_name w (class_of p))
 
-  abbrev layer_height : Layer → ℕ
+  abbrev pub layer_height : Layer → ℕ
   layer_height (Prim p) = primitive_height p
   layer_height (Class name) = name_height name
   layer_height (Value name) = name_height name
@@ -171,10 +171,10 @@ is_replaced args b n = nominal_replaced args b (out-SigType b) refl n
 
 -- ---- parents and interfaces are names, instantiations or primitive types
 
-nominal_object : IsNominal (out-SigType object)
+pub nominal_object : IsNominal (out-SigType object)
 nominal_object = subst IsNominal (sym (type.outs-Prim prim.Object)) (primitive prim.Object)
 
-nominal_named : (b : Bool) (name : TypeName) → IsNominal (out-SigType (named_by b name))
+pub nominal_named : (b : Bool) (name : TypeName) → IsNominal (out-SigType (named_by b name))
 nominal_named true name = subst IsNominal (sym (type.outs-Value name)) (value name)
 nominal_named false name = subst IsNominal (sym (type.outs-Class name)) (class name)
 
@@ -191,11 +191,11 @@ module _ (w : Hierarchy) (plain : ArePlain w) where
   nominal_chain None = nominal_object
   nominal_chain (Some next) = nominal_as_parent w (same_path next.path the_object) next
 
-  nominal_name_parent : (name : TypeName) (o : Option Declaration) → w.declared name ≡ o → IsNominal (out-SigType (name_parent w name o))
+  pub nominal_name_parent : (name : TypeName) (o : Option Declaration) → w.declared name ≡ o → IsNominal (out-SigType (name_parent w name o))
   nominal_name_parent name None e = nominal_chain (chained w name)
   nominal_name_parent name (Some d) e = nominal_base d.base (plain.each name d e).base
 
-  nominal_instance_parent : (args : List SigType) (name : TypeName) (o : Option Declaration) → w.declared name ≡ o → IsNominal (out-SigType (instance_parent args o))
+  pub nominal_instance_parent : (args : List SigType) (name : TypeName) (o : Option Declaration) → w.declared name ≡ o → IsNominal (out-SigType (instance_parent args o))
   nominal_instance_parent args name None e = nominal_object
   nominal_instance_parent args name (Some d) e = (is_replaced args (unwrap_or d.base object) (nominal_base d.base (plain.each name d e).base)).nominal
 
@@ -222,7 +222,7 @@ module _ (w : Hierarchy) (plain : ArePlain w) where
   layer_nominal (Mod r by of) t e = some_nominal t object nominal_object e
   layer_nominal (Pinned of) t e = some_nominal t object nominal_object e
 
-  parent_nominal : (s t : SigType) → parent w s ≡ Some t → IsNominal (out-SigType t)
+  pub parent_nominal : (s t : SigType) → parent w s ≡ Some t → IsNominal (out-SigType t)
   unfolding parent
   parent_nominal s t e = layer_nominal (out-SigType s) t e
 
@@ -257,7 +257,7 @@ module _ (w : Hierarchy) (plain : ArePlain w) where
   layer_interface (Mod r by of) t c = none_in t c
   layer_interface (Pinned of) t c = none_in t c
 
-  interface_nominal : (s t : SigType) → Contains (interfaces w s) t → IsNominal (out-SigType t)
+  pub interface_nominal : (s t : SigType) → Contains (interfaces w s) t → IsNominal (out-SigType t)
   unfolding interfaces
   interface_nominal s t c = layer_interface (out-SigType s) t c
 
@@ -288,7 +288,7 @@ module _ (w : Hierarchy) (plain : ArePlain w) where
   layer_integral (Mod r by of) p e = none_integral p e
   layer_integral (Pinned of) p e = none_integral p e
 
-  values_integral : (t : SigType) (p : Primitive) → underlying w t ≡ Some p → IsTrue (is_integral p)
+  pub values_integral : (t : SigType) (p : Primitive) → underlying w t ≡ Some p → IsTrue (is_integral p)
   unfolding underlying
   values_integral t p e = layer_integral (out-SigType t) p e
 
@@ -299,7 +299,7 @@ nominal_no_array _ (value name) = refl
 nominal_no_array _ (instance v name args) = refl
 nominal_no_array _ (primitive p) = refl
 
-no_array : (t : SigType) → IsNominal (out-SigType t) → elements t ≡ None
+pub no_array : (t : SigType) → IsNominal (out-SigType t) → elements t ≡ None
 unfolding elements
 no_array t n = nominal_no_array (out-SigType t) n
 
@@ -396,11 +396,11 @@ module _ (place : TypeName → Option ℕ) (rank : ℕ → ℕ) (w : Hierarchy) 
   other_lower name None e p = chain_lower name (chained w name) refl
   other_lower name (Some k) e p = absurd (some_none (listed.named k name (sound name k p)).1 e)
 
-  name_lower : (name : TypeName) (o : Option Declaration) → w.declared name ≡ o → tall (name_parent w name o) < name_tall name
+  pub name_lower : (name : TypeName) (o : Option Declaration) → w.declared name ≡ o → tall (name_parent w name o) < name_tall name
   name_lower name None e = other_lower name (place name) e refl
   name_lower name (Some d) e = declared_lower name d (place name) e refl _
 
-  instance_lower : (args : List SigType) (name : TypeName) (o : Option Declaration) → w.declared name ≡ o → tall (instance_parent args o) < name_tall name
+  pub instance_lower : (args : List SigType) (name : TypeName) (o : Option Declaration) → w.declared name ≡ o → tall (instance_parent args o) < name_tall name
   instance_lower args name None e =
       let z : tall object ≡ 0 = object_height place rank w in
       let one : 1 ≤ name_tall name = positive place rank w name in

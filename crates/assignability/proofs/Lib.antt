@@ -18,6 +18,7 @@ pub mod JoinLemmas
 pub mod KeptLemmas
 pub mod LandingLemmas
 pub mod LeadLemmas
+pub mod LowHeights
 pub mod MarkLemmas
 pub mod MemberLemmas
 pub mod NameLemmas

@@ -25,7 +25,6 @@ pub mod Pooled
 pub mod Queues
 pub mod Reading
 pub mod Relations
-pub mod Rings
 pub mod Scopes
 pub mod Stack
 pub mod Starts

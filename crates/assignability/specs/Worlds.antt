@@ -1,12 +1,12 @@
 -- What building a world of an image and its references answers.
-use Rattle.std.specs.Prelude.{◌≡◌, ℕ, ◌<◌, ◌≤◌, ◌^◌, ⊤, List, [], length, slice_get, Option, Some, IsTrue}
+use Rattle.std.specs.Prelude.{◌≡◌, ℕ, ◌+◌, ◌<◌, ◌≤◌, ◌^◌, ⊤, List, [], length, slice_get, Option, Some, IsTrue}
 use Rattle.type_terms.specs.declared.name.Scope.TheVariants.{Here}
 use Rattle.type_terms.specs.declared.name.TypeName.{TypeName}
 use Rattle.type_terms.specs.declared.term.SigType.{SigType}
 use Rattle.assembly_tree.specs.declared.assembly.Assembly.{Assembly}
 use Rattle.assembly_tree.specs.Weight.{weight_of}
 use Rattle.assembly_tree.specs.WellFormed.{is_well_formed}
-use Rattle.assignability.specs.Ancestors.{Declared, IsAcyclic, IsFirstCyclic}
+use Rattle.assignability.specs.Ancestors.{Declared, all_declared, IsAcyclic, IsFirstCyclic}
 use Rattle.assignability.specs.Building.{AreTables}
 use Rattle.assignability.specs.Declarations.{hierarchy_of}
 use Rattle.assignability.specs.Landings.{AreSteps}
@@ -25,12 +25,13 @@ use Rattle.assignability.specs.declared.tables.Tables.{Tables}
 abbrev pub IsFit : Assembly → Type 0
 IsFit a = IsTrue (is_well_formed a) × (weight_of a ≤ 2 ^ 26)
 
--- the world of these assemblies, in which no type is its own ancestor; its pool is empty
+-- the world of these assemblies, in which no type is its own ancestor; its pool is empty. No type has more types above it than
+-- the assemblies declare and four: an array, Enum and MulticastDelegate where they aren't declared, and one outside the world
 pub record IsWorldOf (s : Sources) (w : Content) : Type 0 where
   pub hierarchy : hierarchy w ≡ hierarchy_of s
   pub nodes : w.nodes ≡ []
   pub acyclic : IsAcyclic s
-  pub grounded : (height : SigType → ℕ) × IsGrounded (hierarchy_of s) height
+  pub grounded : (height : SigType → ℕ) × IsGrounded (hierarchy_of s) height × ((t : SigType) → height t ≤ length (all_declared s) + 4)
 
 -- the first type that is its own ancestor, by the number of its assembly and its name there
 pub record IsCyclicType (s : Sources) (assembly : ℕ) (at : TypeName) : Type 0 where

@@ -2,7 +2,6 @@
 #![tactic(auto)]
 
 mod above;
-mod ancestors;
 mod arrays;
 mod building;
 mod common;
