@@ -1,6 +1,14 @@
+pub mod AddedLemmas
 pub mod ChainLemmas
+pub mod DepthLemmas
 pub mod FoundLemmas
+pub mod GrowthLemmas
 pub mod HashLemmas
 pub mod NameLemmas
+pub mod NotedLemmas
 pub mod PathLemmas
 pub mod RowLemmas
+pub mod SignatureLemmas
+pub mod SizeLemmas
+pub mod SpellingSizes
+pub mod WritableLemmas

@@ -26,7 +26,11 @@ at_front [] ys x k h = absurd cc
 at_front (z ∷ xs) ys x zero h = h
 at_front (z ∷ xs) ys x (suc k) h = at_front xs ys x k h
 
-text_kept : (old new : Heap) (text : List ℕ) (index : ℕ) → KeepsTexts old new → HoldsText old text index → HoldsText new text index
+-- a row stays where it is as rows are added
+pub row_kept : (rows more : List Cells) (cells : Cells) (row : ℕ) → GoesOn rows more → IsRowAt rows cells row → IsRowAt more cells row
+row_kept rows more cells row g at = record { counted = at.counted; at = rw g.is (at_front rows g.more cells (row - 1) at.at) }
+
+pub text_kept : (old new : Heap) (text : List ℕ) (index : ℕ) → KeepsTexts old new → HoldsText old text index → HoldsText new text index
 text_kept old new text index k h = record { there = k.texts index text h.there; used = k.used index h.used }
 
 pub type_row_kept : (old new : Heap) (rows more : List Cells) (scope row : ℕ) (id : TypeId) → KeepsTexts old new → GoesOn rows more

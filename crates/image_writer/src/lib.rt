@@ -2,13 +2,19 @@
 //! II.25).
 #![tactic(auto)]
 
+mod blobs;
 mod equality;
 mod found;
 mod hashing;
 mod heap_contents;
 mod known;
 mod name_tokens;
+mod naming;
+mod noting;
+mod references;
 mod row_set;
+mod signatures;
 mod texts;
 mod tokens;
 mod type_paths;
+mod type_specs;

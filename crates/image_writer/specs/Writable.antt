@@ -1,0 +1,73 @@
+-- What can be written: types whose names have tokens or can be given them, and whose numbers can be packed (ECMA-335 II.23.2).
+use Rattle.std.specs.Prelude.{◌≡◌, ℕ, ◌^◌, ◌<◌, Bool, true, false, List, [], ◌∷◌, length, ℤ, None}
+use Rattle.std.specs.List.{AllByRecursion}
+use Rattle.sig_codec.specs.Spellable.{CanBePacked, IsShape, IsSentinel}
+use Rattle.sig_codec.specs.Spelling.{Layer}
+use Rattle.type_terms.specs.declared.name.TypeName.{TypeName}
+use Rattle.type_terms.specs.declared.reference.MethodSig.{MethodSig}
+use Rattle.type_terms.specs.declared.term.Primitive.{Primitive}
+use Rattle.type_terms.specs.declared.term.Owner.{Owner, out-Owner}
+use Rattle.type_terms.specs.declared.term.Owner.TheOpen as layer
+use Rattle.type_terms.specs.declared.term.SigType.{SigType, out-SigType}
+use Rattle.image_writer.specs.NameTokens.{IsNameable}
+use Rattle.image_writer.specs.Texts.{IsPlainId}
+use Rattle.image_writer.specs.declared.references.References.{References}
+
+-- a name without zero bytes, declared or in an extern
+pub record CanBeNamed (r : References) (name : TypeName) : Type 0 where
+  pub plain : AllByRecursion IsPlainId name.path
+  pub nameable : IsNameable r.heaps.strings r.declared.types name
+
+mutual
+  -- a type that can be written
+  pub data IsWritable (r : References) : SigType → Type 0 where
+    made : {t : SigType} → IsLayerWritable r (out-SigType t) → IsWritable r t
+
+  -- the same by the variant of the type
+  pub data IsLayerWritable (r : References) : Layer → Type 0 where
+    prim : {p : Primitive} → IsLayerWritable r (layer.Prim p)
+    class : {name : TypeName} → CanBeNamed r name → IsLayerWritable r (layer.Class name)
+    value : {name : TypeName} → CanBeNamed r name → IsLayerWritable r (layer.Value name)
+    inst : {v : Bool} {name : TypeName} {args : List SigType} → CanBeNamed r name → 0 < length args → CanBePacked (length args) → AreWritable r args
+        → IsLayerWritable r (layer.Inst v name args)
+    var : {n : ℕ} → n < 2 ^ 16 → IsLayerWritable r (layer.Var n)
+    mvar : {n : ℕ} → n < 2 ^ 16 → IsLayerWritable r (layer.MVar n)
+    sz_array : {of : SigType} → IsWritable r of → IsLayerWritable r (layer.SzArray of)
+    array : {of : SigType} {rank : ℕ} {sizes : List ℕ} {lower : List ℤ} → IsWritable r of → IsShape rank sizes lower
+        → IsLayerWritable r (layer.Array of rank sizes lower)
+    by_ref : {of : SigType} → IsWritable r of → IsLayerWritable r (layer.ByRef of)
+    pointer : {of : SigType} → IsWritable r of → IsLayerWritable r (layer.Pointer of)
+    modified : {required : Bool} {by : Owner} {of : SigType} → IsOwnerWritable r by → IsWritable r of → IsLayerWritable r (layer.Mod required by of)
+    pinned : {of : SigType} → IsWritable r of → IsLayerWritable r (layer.Pinned of)
+
+  -- an owner that can be written
+  pub data IsOwnerWritable (r : References) : Owner → Type 0 where
+    made_owner : {o : Owner} → IsOwnerLayerWritable r (out-Owner o) → IsOwnerWritable r o
+
+  pub data IsOwnerLayerWritable (r : References) : layer.Owner-F Owner SigType → Type 0 where
+    name : {n : TypeName} → CanBeNamed r n → IsOwnerLayerWritable r (layer.Name n)
+    spec : {t : SigType} → IsWritable r t → IsOwnerLayerWritable r (layer.Spec t)
+
+  -- types that can be written
+  pub data AreWritable (r : References) : List SigType → Type 0 where
+    none : AreWritable r []
+    more : {t : SigType} {ts : List SigType} → IsWritable r t → AreWritable r ts → AreWritable r (t ∷ ts)
+
+-- a method's signature that can be written
+pub record IsMethodWritable (r : References) (s : MethodSig) : Type 0 where
+  pub explicit : s.explicit_this ≡ true → s.has_this ≡ true
+  pub generic : CanBePacked s.generic
+  pub count : CanBePacked (length s.params)
+  pub ret : IsWritable r s.ret
+  pub params : AreWritable r s.params
+  pub sentinel : IsSentinel s.sentinel s.params
+
+-- a property's signature that can be written
+pub record IsPropertyWritable (r : References) (s : MethodSig) : Type 0 where
+  pub no_explicit : s.explicit_this ≡ false
+  pub no_vararg : s.vararg ≡ false
+  pub no_generic : s.generic ≡ 0
+  pub no_sentinel : s.sentinel ≡ None
+  pub count : CanBePacked (length s.params)
+  pub ret : IsWritable r s.ret
+  pub params : AreWritable r s.params
