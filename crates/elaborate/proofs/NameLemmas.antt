@@ -56,7 +56,7 @@ part_at part after (inr (text, t, some, is)) ends =
     let long : length text + 2 ≡ length part = omega arith in
     ap part_length same ∙ quoted-part-exact t some after ∙ ap Some long
 
-part_texts-at : (part after : List ℕ) → IsPart part → EndsPart after → part_texts (part ++ after) ≡ part_text part ∷ part_texts (drop 1 after)
+pub part_texts-at : (part after : List ℕ) → IsPart part → EndsPart after → part_texts (part ++ after) ≡ part_text part ∷ part_texts (drop 1 after)
 part_texts-at [] after (inl id) ends = absurd id
 part_texts-at [] after (inr (text, t, some, is)) ends = absurd cc
 part_texts-at (b ∷ w) after p ends =
@@ -77,7 +77,7 @@ pub record NameFront (name : List ℕ) : Type 0 where
   pub more : ((after ≡ []) × (part_texts name ≡ part_text part ∷ []))
       ⊎ ((next : List ℕ) × IsName next × (after ≡ 46 ∷ next) × (part_texts name ≡ part_text part ∷ part_texts next))
 
-no_texts : part_texts [] ≡ []
+pub no_texts : part_texts [] ≡ []
 unfolding part_texts
 no_texts = refl
 
@@ -235,7 +235,7 @@ no_more : (after : List ℕ) → EndsPart after → first_passes (λ b. not (b =
 no_more after (inl e) = ap (first_passes (λ b. not (b == 46))) e
 no_more after (inr h) = let f = first-is-cons 46 after h in ap (first_passes (λ b. not (b == 46))) f.1
 
-id_text : (w : List ℕ) → IsId w → part_text w ≡ w
+pub id_text : (w : List ℕ) → IsId w → part_text w ≡ w
 id_text [] h = absurd h
 id_text (b ∷ w) h = cond-false (nat_eq b 39) _ _ (differ is_id_start b 39 h.0 refl)
 
@@ -253,7 +253,7 @@ identifier_passed part after id ends =
     )
 
 -- a text in single quotes
-quoted_text : (part text : List ℕ) → part ≡ 39 ∷ (text ++ 39 ∷ []) → part_text part ≡ unescaped text
+pub quoted_text : (part text : List ℕ) → part ≡ 39 ∷ (text ++ 39 ∷ []) → part_text part ≡ unescaped text
 quoted_text part text is =
     let l2 : length (text ++ 39 ∷ []) ≡ length text + 1 = length-append text (39 ∷ []) in
     let n : length (39 ∷ (text ++ 39 ∷ [])) - 2 ≡ length text = omega arith in
@@ -307,13 +307,14 @@ quote_pushes rest new old left q pushed part after h ends e =
 
 -- ---- names in brackets
 
-pub in_brackets : (spelling : List ℕ) → IsSpelling Scope spelling → IsName (between_quotes spelling)
-in_brackets spelling (name, h, is) =
+pub brackets_inner : (spelling name : List ℕ) → spelling ≡ 91 ∷ (name ++ 93 ∷ []) → between_quotes spelling ≡ name
+brackets_inner spelling name is =
     let l : length (name ++ 93 ∷ []) ≡ length name + 1 = length-append name (93 ∷ []) in
     let n : length (91 ∷ (name ++ 93 ∷ [])) - 2 ≡ length name = omega arith in
-    let inner : between_quotes spelling ≡ name =
-    ap between_quotes is ∙ ap (λ m. take m (name ++ 93 ∷ [])) n ∙ take_at name (93 ∷ []) (length name) refl in
-    subst IsName (sym inner) h
+    ap between_quotes is ∙ ap (λ m. take m (name ++ 93 ∷ [])) n ∙ take_at name (93 ∷ []) (length name) refl
+
+pub in_brackets : (spelling : List ℕ) → IsSpelling Scope spelling → IsName (between_quotes spelling)
+in_brackets spelling (name, h, is) = subst IsName (sym (brackets_inner spelling name is)) h
 
 -- ---- strings
 

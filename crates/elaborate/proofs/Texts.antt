@@ -68,7 +68,7 @@ plain_is false false true u h = absurd (false≢true h)
 plain_is false false false true h = absurd (false≢true h)
 plain_is false false false false h = (refl, refl)
 
-plain : (q b : ℕ) → is_plain q b ≡ true → (nat_eq b q ≡ false) × (nat_eq b 92 ≡ false)
+pub plain : (q b : ℕ) → is_plain q b ≡ true → (nat_eq b q ≡ false) × (nat_eq b 92 ≡ false)
 plain q b h = plain_is (nat_eq b q) (nat_eq b 10) (nat_eq b 0) (nat_eq b 92) h
 
 equal : (a b : ℕ) → a ≡ b → nat_eq a b ≡ true

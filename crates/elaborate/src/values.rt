@@ -9,3 +9,4 @@ mod names;
 mod quotes;
 mod spellings;
 mod texts;
+mod type_names;
