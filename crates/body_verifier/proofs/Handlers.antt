@@ -23,7 +23,7 @@ use Rattle.body_verifier.specs.Goings.{found_by, found_in, carries_of, BringToge
 use Rattle.body_verifier.specs.GoingTests.{going, handled_by, handled, guarded_by, guards_from}
 use Rattle.body_verifier.proofs.Members.{Every, here, there, either, none, contains_at, place_of, of_append, to_every}
 use Rattle.body_verifier.proofs.Levels.{held, held_from}
-use Rattle.body_verifier.proofs.Pairs.{Pairs, pairs_append, pairs_if, in_if, if_in}
+use Rattle.body_verifier.proofs.PairLemmas.{Pairs, pairs_append, pairs_if, in_if, if_in}
 use Rattle.body_verifier.proofs.Crossing.{starts_differ}
 
 -- ---- members

@@ -22,7 +22,7 @@ use Rattle.body_verifier.specs.Edges.{Does, targets, Leaves, Crosses, CrossesFir
 use Rattle.body_verifier.specs.GoingTests.{going, is_finally, is_crossed, goes_through, is_leave, leave_to, leaves_at, leaves_from, on_from, is_ended, ended_of, ends_from}
 use Rattle.body_verifier.proofs.Members.{here, there, either, none, contains_at, in_flat, of_flat, of_append}
 use Rattle.body_verifier.proofs.Innermost.{innermost_to, innermost_from}
-use Rattle.body_verifier.proofs.Pairs.{in_if, if_in, of_map, in_map, one_item, behind, behind_at, past}
+use Rattle.body_verifier.proofs.PairLemmas.{in_if, if_in, of_map, in_map, one_item, behind, behind_at, past}
 use Rattle.body_verifier.proofs.Crossing.{ordered, not_back, is_ending_kind, finally_from, left_by, crossed_by, IsFirst, Sought, found, nowhere, sought}
 
 -- ---- crossing in a frame

@@ -1,5 +1,8 @@
+pub mod Answering
+pub mod Asks
 pub mod CodeLemmas
 pub mod Crossing
+pub mod Growing
 pub mod Grown
 pub mod Handlers
 pub mod Innermost
@@ -13,13 +16,17 @@ pub mod Monotone
 pub mod Nesting
 pub mod Once
 pub mod Orders
-pub mod Pairs
+pub mod PairLemmas
 pub mod PathsRight
 pub mod Placing
 pub mod Prefixed
+pub mod Pushing
 pub mod Reduced
 pub mod Refining
+pub mod RowParts
 pub mod Shapes
 pub mod SoundRows
+pub mod Taking
 pub mod Targets
+pub mod TypeNodes
 pub mod VariableLemmas

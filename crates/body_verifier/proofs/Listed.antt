@@ -24,7 +24,7 @@ use Rattle.body_verifier.specs.Goings.{found_by, found_in, carries_of, FlowToget
 use Rattle.body_verifier.specs.GoingTests.{going, fallen, branched, flow_targets, goes_through, leave_to, leaves_from, guards_from, own_goings, HasGoings, HaveGoings}
 use Rattle.body_verifier.proofs.Members.{Every, here, there, either, none, of_append, to_every, every_append}
 use Rattle.body_verifier.proofs.Targets.{target_within, clause_at, clause_in}
-use Rattle.body_verifier.proofs.Pairs.{Pairs, all_pairs, pairs_of, pairs_append, pairs_mapped, pairs_weak, pairs_second, pairs_first, cross_first, cross_second, in_if, if_in, of_map, in_map, item_at, behind}
+use Rattle.body_verifier.proofs.PairLemmas.{Pairs, all_pairs, pairs_of, pairs_append, pairs_mapped, pairs_weak, pairs_second, pairs_first, cross_first, cross_second, in_if, if_in, of_map, in_map, item_at, behind}
 use Rattle.body_verifier.proofs.Leading.{crosses_by, crossed, all_forward, leave_edge, first_goes, leave_goes, end_edge, next_goes, last_goes, leaves_in, in_leaves, ending, ends_in, ends_by, by_ends}
 use Rattle.body_verifier.proofs.Handlers.{guard_edge, guard_in, guard_states, guards_apart}
 

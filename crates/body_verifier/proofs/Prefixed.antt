@@ -15,7 +15,7 @@ use Rattle.body_verifier.specs.Prefixes.{is_prefix, goes_with, IsTarget, IsBound
 use Rattle.body_verifier.specs.Marks.{IsMarked, target, boundary, HaveMarks, IsPast, IsStray, returns_at, returns_after, fits_at, is_stray_by, prefix_at}
 use Rattle.body_verifier.specs.CodeTests.{is_return}
 use Rattle.body_verifier.proofs.CodeLemmas.{return_op}
-use Rattle.body_verifier.proofs.Pairs.{item_at, one_item}
+use Rattle.body_verifier.proofs.PairLemmas.{item_at, one_item}
 
 -- ---- the run
 

@@ -9,7 +9,8 @@ use Rattle.assignability.specs.Stack.{Stack, i4, i8, native, float, null, ref, b
 use Rattle.assignability.specs.Relations.{AreAlike, Assignable, same, null_ref, null_boxed, ref_object, boxed_object, ref_up, boxed_parent, boxed_interface, by_elements, by_reduced, Below, equal, below_bad, null_below_ref, null_below_boxed, ref_chain, boxed_chain}
 use Rattle.assignability.specs.Laws.{IsGrounded, IsTransitive, JoinLaws}
 use Rattle.body_verifier.specs.declared.operation.Numeric.{Numeric}
-use Rattle.body_verifier.specs.Demands.{is_object, element, of_vector}
+use Rattle.body_verifier.specs.Demands.{is_object, element}
+use Rattle.assignability.specs.Keys.{vector_elements}
 use Rattle.body_verifier.specs.Rows.{primitive_of}
 use Rattle.body_verifier.specs.Laws.{Under, assigned, under_bad}
 use Rattle.body_verifier.proofs.Reduced.{no_numeric, verified_from_reduced, reduced_back}
@@ -49,11 +50,11 @@ the_same_element w R r d e is = record {
 abbrev array_of : Option ℕ → SigType → Elements
 array_of r t = record { rank = r; of = t }
 
-of_vector_parts : (r : Option ℕ) (t e : SigType) → of_vector (Some (array_of r t)) ≡ Some e → Some (array_of r t) ≡ Some (array_of None e)
+of_vector_parts : (r : Option ℕ) (t e : SigType) → vector_elements (Some (array_of r t)) ≡ Some e → Some (array_of r t) ≡ Some (array_of None e)
 of_vector_parts None t e g = let is : t ≡ e = cc in ap (λ (u : SigType). Some (array_of None u)) is
 of_vector_parts (Some k) t e g = absurd (let f : ⊥ = cc in f)
 
-of_vector_some : (o : Option Elements) (e : SigType) → of_vector o ≡ Some e → o ≡ Some (array_of None e)
+of_vector_some : (o : Option Elements) (e : SigType) → vector_elements o ≡ Some e → o ≡ Some (array_of None e)
 of_vector_some None e h = absurd (let f : ⊥ = cc in f)
 of_vector_some (Some x) e h = of_vector_parts x.rank x.of e h
 
@@ -193,7 +194,7 @@ module _ (w : Hierarchy) (height : SigType → ℕ) (g : IsGrounded w height) wh
       let x = of_vector_some (elements b) c h in
       let both = same_elements b l.right x in
       let rank : l.rank ≡ None = ap (λ (y : Elements). y.rank) both in
-      (ap of_vector (l.left ∙ ap (λ (r : Option ℕ). Some (array_of r d)) rank), ap (λ (y : Elements). y.of) both)
+      (ap vector_elements (l.left ∙ ap (λ (r : Option ℕ). Some (array_of r d)) rank), ap (λ (y : Elements). y.of) both)
 
   under_element : (a d e c : SigType) → element (ref a) ≡ Some d → e ≡ c → LowerElement w (Under w) d e → LowerVector w (Under w) (ref a) c
   under_element a d e c h is low = is_vector h (subst (λ (t : SigType). LowerElement w (Under w) d t) is low)

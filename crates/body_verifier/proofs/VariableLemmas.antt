@@ -10,7 +10,7 @@ use Rattle.body_verifier.specs.Rows.{variable}
 use Rattle.body_verifier.specs.Rules.{loads_local, loads_argument}
 use Rattle.body_verifier.specs.CodeRules.{LacksLocal, LacksArgument}
 use Rattle.body_verifier.specs.CodeTests.{lacks_by}
-use Rattle.body_verifier.proofs.Pairs.{item_at, one_item}
+use Rattle.body_verifier.proofs.PairLemmas.{item_at, one_item}
 
 none_past : {X : Type 0} (xs : List X) (n : ℕ) → slice_get xs n ≡ None → length xs ≤ n
 none_past xs n e = elim (cases_lt n (length xs)) [

@@ -1,7 +1,8 @@
 -- What an instruction asks of an operand (ECMA-335 III.1.5, III.3, III.4), and of its operands together.
 use Rattle.std.specs.Prelude.{◌≡◌, ◌⊎◌, Bool, true, false, ◌||◌, ◌&&◌, if◌then◌else◌, List, Option, None, Some, is_some, get_or, IsTrue}
 use Rattle.type_terms.specs.declared.term.SigType.{SigType}
-use Rattle.assignability.specs.Hierarchy.{Hierarchy, Elements, elements}
+use Rattle.assignability.specs.Hierarchy.{Hierarchy}
+use Rattle.assignability.specs.Keys.{vector_element}
 use Rattle.assignability.specs.Stack.{Stack, i4, i8, native, float, null, ref, boxed, val, ptr, bad, is_reference, verification_type}
 use Rattle.assignability.specs.Relations.{Assignable}
 
@@ -88,22 +89,9 @@ referent (boxed t) = None
 referent (val t) = None
 referent bad = None
 
-abbrev pub of_vector : Option Elements → Option SigType
-of_vector None = None
-of_vector (Some e) = if is_some e.rank then None else Some e.of
-
 -- the element of a vector
 abbrev pub element : Stack → Option SigType
-element (ref t) = of_vector (elements t)
-element i4 = None
-element i8 = None
-element native = None
-element float = None
-element null = None
-element (boxed t) = None
-element (val t) = None
-element (ptr t) = None
-element bad = None
+element s = vector_element s
 
 abbrev pub if_references : Option SigType → Option SigType
 if_references None = None

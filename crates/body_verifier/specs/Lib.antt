@@ -1,3 +1,4 @@
+pub mod Asking
 pub mod BlockTests
 pub mod Blocks
 pub mod CodeRules
@@ -23,5 +24,6 @@ pub mod Rules
 pub mod Stacks
 pub mod StepBound
 pub mod Texts
+pub mod TypeKinds
 pub mod Typings
 pub mod Waiting

@@ -1,10 +1,12 @@
 -- What the rows, stacks and frames of the code mean in a pool of types.
-use Rattle.std.specs.Prelude.{◌≡◌, ℕ, ◌<◌, List, map, length}
+use Rattle.std.specs.Prelude.{◌≡◌, ℕ, ◌<◌, Bool, ◌||◌, List, [], ◌∷◌, map, length, Option, None, Some}
 use Rattle.std.specs.List.{All}
+use Rattle.type_terms.specs.declared.term.SigType.{SigType}
 use Rattle.sig_pool.specs.declared.node.Node.{Node}
 use Rattle.sig_pool.specs.Pool.{Has, HasAll}
-use Rattle.sig_pool.specs.Terms.{term_of}
+use Rattle.sig_pool.specs.Terms.{AllBelow, term_of}
 use Rattle.assignability.specs.declared.stack_type.StackType.{StackType}
+use Rattle.assignability.specs.Hierarchy.{Hierarchy}
 use Rattle.assignability.specs.Meaning.{meant, IsWithin}
 use Rattle.assignability.specs.Stack.{Stack}
 use Rattle.body_verifier.specs.declared.frame.CodeFrame.{CodeFrame}
@@ -72,7 +74,16 @@ IsDemandWithin n Vector = Unit {0}
 IsDemandWithin n (VectorOf k) = k < n
 IsDemandWithin n ObjectVector = Unit {0}
 
+-- a demand of the pool that means `x`
+pub record MeansDemand (ns : List Node) (d : Demand) (x : demands.Demand) : Type 0 where
+  pub within : IsDemandWithin (length ns) d
+  pub is : demand_meant ns d ≡ x
+
 -- ---- operands together
+
+-- a number, an object reference or a pointer
+abbrev pub comparable_test : Stack → Bool
+comparable_test s = demands.is_number s || demands.is_object s || demands.is_pointer s
 
 abbrev pub pairing_meant : Pairing → demands.Pairing
 pairing_meant Numeric = demands.numeric
@@ -105,6 +116,15 @@ IsPushedWithin n Pointed = Unit {0}
 IsPushedWithin n Fetched = Unit {0}
 IsPushedWithin n (Computed p) = Unit {0}
 
+-- a result of the pool that means `x`
+pub record MeansPushed (ns : List Node) (p : Pushed) (x : rows.Pushed) : Type 0 where
+  pub within : IsPushedWithin (length ns) p
+  pub is : pushed_meant ns p ≡ x
+
+-- what is pushed, by the first two operands
+abbrev pub given_by : Stack → Stack → rows.Pushed → Stack
+given_by a b p = rows.given (a ∷ b ∷ []) p
+
 -- ---- rows
 
 abbrev pub row_meant : List Node → Row → rows.Row
@@ -131,3 +151,26 @@ pub record MeansFrame (ns : List Node) (v : CodeFrame) (f : Frame) : Type 0 wher
   pub arguments : HasAll ns v.arguments f.arguments
   pub locals : HasAll ns v.locals f.locals
   pub returns : Has ns v.returns f.returns
+
+pub record IsFrameWithin (n : ℕ) (v : CodeFrame) : Type 0 where
+  pub arguments : AllBelow n v.arguments
+  pub locals : AllBelow n v.locals
+  pub returns : v.returns < n
+
+-- a frame with the types of these keys
+abbrev pub framed : Hierarchy → List Node → CodeFrame → Frame → Frame
+framed w ns v f = record {
+  image = f.image;
+  types = w;
+  code = f.code;
+  clauses = f.clauses;
+  bound = f.bound;
+  arguments = map (term_of ns) v.arguments;
+  locals = map (term_of ns) v.locals;
+  returns = term_of ns v.returns;
+}
+
+-- the type of a key, where there is one
+abbrev pub type_option : List Node → Option ℕ → Option SigType
+type_option ns None = None
+type_option ns (Some k) = Some (term_of ns k)

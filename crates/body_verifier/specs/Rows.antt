@@ -92,6 +92,10 @@ row operands pushed = record { operands = operands; together = apart; pushed = p
 abbrev pub pair_row : Pairing → List Pushed → Row
 pair_row p pushed = record { operands = comparable ∷ comparable ∷ []; together = paired p; pushed = pushed; empties = false }
 
+-- a row that stores an object where a pointer to a reference type points
+abbrev pub storing : Row
+storing = record { operands = object_pointer ∷ any ∷ []; together = stored; pushed = []; empties = false }
+
 abbrev pub emptying : Row
 emptying = record { operands = []; together = apart; pushed = []; empties = true }
 
@@ -130,9 +134,12 @@ abbrev pub local : Frame → Ins → Option SigType
 local f i = slice_get f.locals (variable i)
 
 -- the type that an instruction names; a well-formed one that has to name a type does
+abbrev pub named_in : Hierarchy → operand.Operand → SigType
+named_in w (operand.TheVariants.Of o) = owner_in w o
+named_in w o = type.Prim prim.Void
+
 abbrev pub named : Frame → operand.Operand → SigType
-named f (operand.TheVariants.Of o) = owner_in f.types o
-named f o = type.Prim prim.Void
+named f o = named_in f.types o
 
 -- ---- rows of variables
 
@@ -255,16 +262,20 @@ primitive_of numeric_type.NInt = prim.NInt
 primitive_of numeric_type.R4 = prim.R4
 primitive_of numeric_type.R8 = prim.R8
 
+-- its verification type
+abbrev pub numeric_type_of : Numeric → SigType
+numeric_type_of n = type.Prim (verified (primitive_of n))
+
 -- a pointer to a value of that type
 abbrev pub numeric_pointer : Numeric → Stack
-numeric_pointer n = ptr (type.Prim (verified (primitive_of n)))
+numeric_pointer n = ptr (numeric_type_of n)
 
 abbrev pub numeric_stack : Numeric → Stack
 numeric_stack n = primitive_stack (primitive_of n)
 
 -- a vector of elements of that type
 abbrev pub numeric_vector : Numeric → Demand
-numeric_vector n = vector_of (type.Prim (verified (primitive_of n)))
+numeric_vector n = vector_of (numeric_type_of n)
 
 abbrev pub vector_type : SigType → Stack
 vector_type t = ref (type.SzArray t)
@@ -337,8 +348,7 @@ row_by f constrained i does.CheckFinite = row (exactly float ∷ []) (pushes flo
 row_by f constrained i (does.LoadIndirect n) = row (exactly (numeric_pointer n) ∷ []) (pushes (numeric_stack n))
 row_by f constrained i does.LoadIndirectReference = row (object_pointer ∷ []) (pointed ∷ [])
 row_by f constrained i (does.StoreIndirect n) = row (exactly (numeric_pointer n) ∷ exactly (numeric_stack n) ∷ []) []
-row_by f constrained i does.StoreIndirectReference =
-    record { operands = object_pointer ∷ any ∷ []; together = stored; pushed = []; empties = false }
+row_by f constrained i does.StoreIndirectReference = storing
 row_by f constrained i does.LoadFunction = row [] (pushes native)
 row_by f constrained i does.LoadVirtualFunction = row (object ∷ []) (pushes native)
 row_by f constrained i does.LoadString = row [] (pushes (ref (type.Prim prim.Str)))

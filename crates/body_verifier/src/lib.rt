@@ -5,23 +5,33 @@
 //! the texts of the rules and the report. The check of a method isn't written yet.
 #![tactic(auto)]
 
+mod alike;
+mod asking;
 mod blocks;
 mod code_rules;
+mod effect;
 mod flowing;
 mod frame;
 mod goings;
 mod guarding;
+mod kinds;
 mod laws;
 mod leaving;
+mod making;
 mod marks;
+mod meeting;
+mod operands;
 mod operation;
+mod pairs;
 mod places;
 mod prefixes;
 mod report;
 mod row;
 mod rule;
 mod stack;
+mod type_kinds;
 mod variable_rules;
+mod variables;
 mod worklist;
 
 pub use laws::{a_body_has_one_least_typing, instructions_are_monotone, paths_are_right};

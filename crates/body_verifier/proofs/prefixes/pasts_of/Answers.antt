@@ -4,7 +4,7 @@ use Rattle.std.proofs.lemmas.Option.{slice_get_within}
 use Rattle.assembly_tree.specs.declared.body.Ins.{Ins}
 use Rattle.body_verifier.specs.Marks.{IsPast}
 use Rattle.body_verifier.proofs.Grown.{grown, longer}
-use Rattle.body_verifier.proofs.Pairs.{item_at}
+use Rattle.body_verifier.proofs.PairLemmas.{item_at}
 use Rattle.body_verifier.proofs.prefixes.pasts_of.Goals as goal
 
 pub loop-k-preserved : goal.loop-k-preserved

@@ -1,0 +1,13 @@
+use Rattle.std.proofs.Common.{◌↔◌, sym, subst, IsTrue, IfOk}
+use Rattle.assignability.specs.Meaning.{meant}
+use Rattle.assignability.specs.World.{hierarchy}
+use Rattle.body_verifier.specs.declared.row.Demand.{Demand}
+use Rattle.body_verifier.specs.Demands.{FailsToAssign}
+use Rattle.body_verifier.specs.RowMeanings.{demand_meant}
+use Rattle.body_verifier.proofs.meeting.fails_to_assign.Goals as goal
+
+pub returns-in-To-clause-ok : goal.returns-in-To-clause-ok
+returns-in-To-clause-ok c =
+    let w = c.args.w.now in
+    let P : Demand → Type 0 = λ d. IfOk c.is_unassignable.result (λ r. IsTrue r ↔ FailsToAssign (hierarchy w) (demand_meant w.nodes d) (meant w.nodes c.args.s.now)) in
+    subst P (sym c.in-To.is) c.is_unassignable.ensures.ok

@@ -1,0 +1,38 @@
+//! Whether types of the code mean the same.
+ghost use Rattle.std.specs.Prelude.{◌≡◌, ◌<◌, ◌↔◌, length, IsTrue};
+ghost use Rattle.assignability.specs.Meaning.{meant, IsWithin};
+
+use assignability::{StackType, id_of};
+use sig_pool::SigPool;
+
+/// Whether two stack types of a pool are one. Takes no memory.
+pub(crate) fn same_type(pool: &SigPool, s: &StackType, t: &StackType) -> bool
+    requires s { IsWithin (length pool.now) s.now }
+    requires t { IsWithin (length pool.now) t.now }
+    ensures { IsTrue result ↔ (meant pool.now s.now ≡ meant pool.now t.now) }
+{
+    match s {
+        StackType::I4 => matches!(t, StackType::I4),
+        StackType::I8 => matches!(t, StackType::I8),
+        StackType::N => matches!(t, StackType::N),
+        StackType::F => matches!(t, StackType::F),
+        StackType::Null => matches!(t, StackType::Null),
+        StackType::Bad => matches!(t, StackType::Bad),
+        StackType::Ref(a) => match t {
+            StackType::Ref(b) => pool.same(id_of(a), id_of(b)),
+            _ => false,
+        },
+        StackType::Boxed(a) => match t {
+            StackType::Boxed(b) => pool.same(id_of(a), id_of(b)),
+            _ => false,
+        },
+        StackType::Val(a) => match t {
+            StackType::Val(b) => pool.same(id_of(a), id_of(b)),
+            _ => false,
+        },
+        StackType::Ptr(a) => match t {
+            StackType::Ptr(b) => pool.same(id_of(a), id_of(b)),
+            _ => false,
+        },
+    }
+}
