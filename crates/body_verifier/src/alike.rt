@@ -1,7 +1,9 @@
-//! Whether types of the code mean the same.
+//! Whether types and stacks of the code mean the same.
 ghost use Rattle.std.specs.Prelude.{◌≡◌, ◌<◌, ◌↔◌, length, IsTrue};
 ghost use Rattle.assignability.specs.Meaning.{meant, IsWithin};
+ghost use Rattle.body_verifier.specs.RowMeanings.{stack_meant, IsStackWithin};
 
+use crate::stack::Stack;
 use assignability::{StackType, id_of};
 use sig_pool::SigPool;
 
@@ -35,4 +37,19 @@ pub(crate) fn same_type(pool: &SigPool, s: &StackType, t: &StackType) -> bool
             _ => false,
         },
     }
+}
+
+/// Whether two stacks of one depth mean the same. Takes no memory.
+pub(crate) fn same_stack(pool: &SigPool, s: &Stack, t: &Stack) -> bool
+    requires s { IsStackWithin (length pool.now) s.now }
+    requires t { IsStackWithin (length pool.now) t.now }
+    requires depth { length s.now ≡ length t.now }
+    ensures { IsTrue result ↔ (stack_meant pool.now s.now ≡ stack_meant pool.now t.now) }
+{
+    for k in 0..s.len() {
+        if !same_type(pool, s.at(k), t.at(k)) {
+            return false;
+        }
+    }
+    true
 }

@@ -1,0 +1,117 @@
+//! What is known before each instruction, and what is known where two ways meet.
+ghost use Rattle.std.specs.Prelude.{◌≡◌, ◌+◌, ◌≤◌, ◌^◌, length, min, IfOk};
+ghost use Rattle.assignability.specs.World.{hierarchy, Stays};
+ghost use Rattle.body_verifier.specs.RowMeanings.{IsStackWithin};
+ghost use Rattle.body_verifier.specs.StateMeanings.{AllJoinAs, is_unreached, IsStateWithin, state_depth, MeetsAs};
+
+use crate::alike::same_stack;
+use crate::stack::Stack;
+use assignability::types::World;
+use assignability::{join, keys_keep_their_types};
+use il_base::Steps;
+use il_lists::{Items, NoMemory};
+use std::alloc::Global;
+
+/// What is known before an instruction (ECMA-335 III.1.8.1.1).
+#[derive(Drop)]
+pub(crate) enum State {
+    /// That no way leads to it.
+    Unreached,
+    /// The types of the values on the stack.
+    Stack(Stack),
+    /// That stacks of different depth meet.
+    Clash,
+}
+
+impl State {
+    /// Whether no way leads to the instruction. Takes no memory.
+    pub(crate) fn is_unreached(&self) -> bool
+        ensures { result ≡ is_unreached self.now }
+    {
+        matches!(self, State::Unreached)
+    }
+}
+
+/// The joins of two stacks of one depth, value by value.
+fn joins(
+    alloc: Global,
+    w: &mut World,
+    s: &Stack,
+    t: &Stack,
+    steps: &mut Steps,
+) -> Result<Stack, NoMemory>
+    requires s { IsStackWithin (length w.old.nodes) s.now }
+    requires t { IsStackWithin (length w.old.nodes) t.now }
+    requires depth { length s.now ≡ length t.now }
+    requires room { steps.old + length s.now ≤ 2 ^ 127 }
+    ensures ok { IfOk result (λ j. AllJoinAs (hierarchy w.old) w.old.nodes s.now t.now w.new.nodes j) }
+    ensures stays { Stays w.old w.new }
+    ensures steps { steps.new ≤ steps.old + length s.now }
+{
+    let mut joins = Items::with_capacity(alloc, s.len())?;
+    for k in 0..s.len() {
+        keys_keep_their_types();
+        let both = join(w, s.at(k), t.at(k), steps)?;
+        joins.push(both)?;
+    }
+    Ok(joins)
+}
+
+/// What is known where two stacks meet, if that isn't the first.
+fn stacks_meet(
+    alloc: Global,
+    w: &mut World,
+    s: &Stack,
+    t: &Stack,
+    steps: &mut Steps,
+) -> Result<Option<State>, NoMemory>
+    requires s { IsStackWithin (length w.old.nodes) s.now }
+    requires t { IsStackWithin (length w.old.nodes) t.now }
+    requires room { steps.old + min (length s.now) (length t.now) ≤ 2 ^ 127 }
+    ensures ok { IfOk result (λ r. MeetsAs (hierarchy w.old) w.old.nodes (State.Stack s.now) (State.Stack t.now) w.new.nodes r) }
+    ensures stays { Stays w.old w.new }
+    ensures steps { steps.new ≤ steps.old + min (length s.now) (length t.now) }
+{
+    if s.len() != t.len() {
+        return Ok(Some(State::Clash));
+    }
+    let joins = joins(alloc, w, s, t, steps)?;
+    keys_keep_their_types();
+    if same_stack(w.pool(), s, &joins) {
+        return Ok(None);
+    }
+    Ok(Some(State::Stack(joins)))
+}
+
+/// What is known where two ways meet, if that isn't what is known by the first.
+pub(crate) fn meet(
+    alloc: Global,
+    w: &mut World,
+    known: &State,
+    comes: &State,
+    steps: &mut Steps,
+) -> Result<Option<State>, NoMemory>
+    requires known { IsStateWithin (length w.old.nodes) known.now }
+    requires comes { IsStateWithin (length w.old.nodes) comes.now }
+    requires room { steps.old + min (state_depth known.now) (state_depth comes.now) ≤ 2 ^ 127 }
+    ensures ok { IfOk result (λ r. MeetsAs (hierarchy w.old) w.old.nodes known.now comes.now w.new.nodes r) }
+    ensures stays { Stays w.old w.new }
+    ensures steps { steps.new ≤ steps.old + min (state_depth known.now) (state_depth comes.now) }
+{
+    match known {
+        State::Clash => Ok(None),
+        State::Unreached => match comes {
+            State::Unreached => Ok(None),
+            State::Clash => Ok(Some(State::Clash)),
+            State::Stack(stack) => {
+                let copy = Items::from_slice(alloc, stack.as_slice())?;
+                Ok(Some(State::Stack(copy)))
+            }
+        },
+        State::Stack(stack) => match comes {
+            State::Unreached => Ok(None),
+            State::Clash => Ok(Some(State::Clash)),
+            State::Stack(other) => stacks_meet(alloc, w, stack, other, steps),
+        },
+    }
+}
