@@ -3,6 +3,12 @@
 #![tactic(auto)]
 
 #[cfg(test)]
+mod keys;
+#[cfg(test)]
+mod orders;
+#[cfg(test)]
+mod outside;
+#[cfg(test)]
 mod parts;
 #[cfg(test)]
 mod worlds;

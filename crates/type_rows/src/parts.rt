@@ -1,9 +1,9 @@
 //! The parts of small worlds.
 
-use assembly_tree::{Assembly, ExternAssembly, Externs, Manifest, TypeDef, TypeDefs};
-use il_lists::{Items, NoMemory, Text};
+use assembly_tree::{Assembly, ExternAssembly, Externs, Field, Manifest, TypeDef, TypeDefs};
+use il_lists::{Boxed, Items, NoMemory, Text};
 use std::alloc::Global;
-use type_terms::{Owner, Owners, Path, Scope, TypeId, TypeName};
+use type_terms::{Owner, Owners, Path, Scope, SigType, TypeId, TypeName, Types};
 
 /// The flags of an interface: it is one, and abstract (II.23.1.15).
 const INTERFACE: u32 = 0xA0;
@@ -13,6 +13,28 @@ pub fn named(alloc: Global, scope: Scope, space: &str, name: &str) -> Result<Typ
     let name = Text::new(alloc, name)?;
     let path = Path::new(alloc, TypeId { space, name })?;
     Ok(TypeName { scope, path })
+}
+
+/// The class of that name in the assembly itself.
+pub fn class(alloc: Global, name: &str) -> Result<SigType, NoMemory> {
+    let name = named(alloc, Scope::Here, "", name)?;
+    Ok(SigType::Class(name))
+}
+
+/// A generic class of the assembly with these arguments.
+pub fn instance(alloc: Global, name: &str, args: Types) -> Result<SigType, NoMemory> {
+    let name = named(alloc, Scope::Here, "", name)?;
+    Ok(SigType::Inst {
+        value: false,
+        name,
+        args,
+    })
+}
+
+/// The vector of a type.
+pub fn vector(alloc: Global, of: SigType) -> Result<SigType, NoMemory> {
+    let of = Boxed::new(alloc, of)?;
+    Ok(SigType::SzArray(of))
 }
 
 /// The core's class of that name, as a base.
@@ -69,6 +91,29 @@ pub fn push_class(
 pub fn push_interface(types: &mut TypeDefs, alloc: Global, name: &str) -> Result<(), NoMemory> {
     let interface = declared(alloc, name, INTERFACE, None, Items::new(alloc))?;
     types.push(interface)
+}
+
+/// Adds an enum whose values have that type.
+pub fn push_enum(
+    types: &mut TypeDefs,
+    alloc: Global,
+    name: &str,
+    of: SigType,
+) -> Result<(), NoMemory> {
+    let base = core_base(alloc, "Enum")?;
+    let mut declared = declared(alloc, name, 0x100, Some(base), Items::new(alloc))?;
+    let value = Text::new(alloc, "value__")?;
+    // public, special for its name to the runtime and to others (II.14.3)
+    declared.fields.push(Field {
+        name: value,
+        flags: 0x606,
+        of,
+        constant: None,
+        offset: None,
+        content: None,
+        attributes: Items::new(alloc),
+    })?;
+    types.push(declared)
 }
 
 fn push_extern(externs: &mut Externs, alloc: Global, name: &str) -> Result<(), NoMemory> {

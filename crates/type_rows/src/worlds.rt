@@ -2,17 +2,19 @@
 ghost use Rattle.std.specs.Prelude.{IsTrue};
 ghost use Rattle.assignability.specs.Worlds.{IsFit};
 
-use crate::parts::{assembly, base, core_base, push_class, push_interface};
+use crate::parts::{
+    assembly, base, class, core_base, instance, push_class, push_enum, push_interface,
+};
 use assembly_tree::{Assembly, TypeDefs, weight, well_formed};
 use assignability::types::World;
 use assignability::{Assemblies, WorldFault, world};
 use il_lists::{Items, NoMemory};
 use std::alloc::Global;
 use std::test::Fail;
-use type_terms::Scope;
+use type_terms::{Owner, Prim, Scope, SigType};
 
 /// Class A implements I, and B extends A.
-fn classes(alloc: Global) -> Result<Assembly, NoMemory> {
+pub fn classes(alloc: Global) -> Result<Assembly, NoMemory> {
     let mut types: TypeDefs = Items::new(alloc);
     push_interface(&mut types, alloc, "I")?;
     let object = core_base(alloc, "Object")?;
@@ -26,7 +28,7 @@ fn classes(alloc: Global) -> Result<Assembly, NoMemory> {
 }
 
 /// A extends B, and B extends A.
-fn ring(alloc: Global) -> Result<Assembly, NoMemory> {
+pub fn ring(alloc: Global) -> Result<Assembly, NoMemory> {
     let mut types: TypeDefs = Items::new(alloc);
     let b = base(alloc, "B")?;
     push_class(&mut types, alloc, "A", b, Items::new(alloc))?;
@@ -35,11 +37,96 @@ fn ring(alloc: Global) -> Result<Assembly, NoMemory> {
     assembly(alloc, "Ring", types)
 }
 
+/// An assembly `Lib` with the enum E, whose values have int32.
+pub fn library(alloc: Global) -> Result<Assembly, NoMemory> {
+    let mut types: TypeDefs = Items::new(alloc);
+    push_enum(&mut types, alloc, "E", SigType::Prim(Prim::I4))?;
+    assembly(alloc, "Lib", types)
+}
+
+/// The instantiation of the class P with !0 twice.
+fn doubled(alloc: Global) -> Result<SigType, NoMemory> {
+    let mut args = Items::new(alloc);
+    args.push(SigType::Var(0))?;
+    args.push(SigType::Var(0))?;
+    instance(alloc, "P`2", args)
+}
+
+/// The classes P, Z, and G1 to G40, each of which extends the one before with P of its parameter twice.
+pub fn growing(alloc: Global) -> Result<Assembly, NoMemory> {
+    let mut types: TypeDefs = Items::new(alloc);
+    for plain in ["P`2", "Z", "G0`1"] {
+        let object = core_base(alloc, "Object")?;
+        push_class(&mut types, alloc, plain, object, Items::new(alloc))?;
+    }
+    for n in 1..41u32 {
+        let before = format!(in alloc; "G{}`1", n - 1)?;
+        let mut args = Items::new(alloc);
+        let argument = doubled(alloc)?;
+        args.push(argument)?;
+        let base = instance(alloc, before.as_str(), args)?;
+        let name = format!(in alloc; "G{n}`1")?;
+        push_class(
+            &mut types,
+            alloc,
+            name.as_str(),
+            Owner::Spec(base),
+            Items::new(alloc),
+        )?;
+    }
+    assembly(alloc, "Growing", types)
+}
+
 /// Whether a world takes an assembly: it is well formed, and its weight at most 2^26.
-fn is_fit(a: &Assembly) -> bool
+pub fn is_fit(a: &Assembly) -> bool
     ensures { IsTrue result → IsFit a.now }
 {
     well_formed(a) && weight(a) <= 0x400_0000
+}
+
+/// The world of an assembly alone, or None where it has none.
+pub fn ready(alloc: Global, a: &Assembly) -> Result<Option<World>, NoMemory> {
+    if !is_fit(a) {
+        return Ok(None);
+    }
+    settled(world(alloc, a, &Items::new(alloc)))
+}
+
+/// The world of an assembly and a reference, or None where it has none.
+pub fn within(alloc: Global, a: &Assembly, reference: Assembly) -> Result<Option<World>, NoMemory> {
+    if !is_fit(a) || !is_fit(&reference) {
+        return Ok(None);
+    }
+    let mut references: Assemblies = Items::new(alloc);
+    references.push(reference)?;
+    settled(world(alloc, a, &references))
+}
+
+/// The world of `classes`.
+pub fn small_world(alloc: Global) -> Result<Option<World>, NoMemory> {
+    let a = classes(alloc)?;
+    ready(alloc, &a)
+}
+
+/// The world of `growing`.
+pub fn growing_world(alloc: Global) -> Result<Option<World>, NoMemory> {
+    let a = growing(alloc)?;
+    ready(alloc, &a)
+}
+
+/// The world of `classes` with the reference `library`.
+pub fn world_with_library(alloc: Global) -> Result<Option<World>, NoMemory> {
+    let a = classes(alloc)?;
+    let reference = library(alloc)?;
+    within(alloc, &a, reference)
+}
+
+fn settled(answer: Result<World, WorldFault>) -> Result<Option<World>, NoMemory> {
+    match answer {
+        Ok(w) => Ok(Some(w)),
+        Err(WorldFault::NoMemory) => Err(NoMemory),
+        Err(WorldFault::Cyclic { .. }) => Ok(None),
+    }
 }
 
 /// Whether the first type that is its own ancestor is that of a name without space, in an assembly of that number.
