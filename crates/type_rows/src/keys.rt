@@ -13,7 +13,7 @@ use assignability::{
 use il_lists::{Items, NoMemory};
 use std::alloc::Global;
 use std::test::Fail;
-use type_terms::{Prim, SigType};
+use type_terms::{Prim, Scope, SigType};
 
 /// The key of a type without arguments.
 fn plain_key(w: &mut World, alloc: Global, t: &SigType) -> Result<TypeKey, NoMemory>
@@ -113,12 +113,25 @@ fn twice_holds(w: &mut World, alloc: Global) -> Result<bool, NoMemory> {
     Ok(id_of(&first) == id_of(&second) && w.pool().len() == before)
 }
 
-/// Whether the key's type is a class.
-fn is_class(w: &World, alloc: Global, k: &TypeKey) -> Result<bool, NoMemory>
+/// Whether it is the class of that name in the assembly itself.
+fn is_class_here(t: &SigType, name: &str) -> bool {
+    match t {
+        SigType::Class(of) => {
+            matches!(of.scope, Scope::Here)
+                && of.path.len() == 1
+                && of.path.at(0).space.is_empty()
+                && of.path.at(0).name.as_bytes() == name.as_bytes()
+        }
+        _ => false,
+    }
+}
+
+/// Whether the key's type is the class of that name in the assembly itself.
+fn names_class(w: &World, alloc: Global, k: &TypeKey, name: &str) -> Result<bool, NoMemory>
     requires { k.now < length w.now.nodes }
 {
     let t = term_of(alloc, w, k)?;
-    Ok(matches!(t, SigType::Class(_)))
+    Ok(is_class_here(&t, name))
 }
 
 /// A has the one interface I.
@@ -130,7 +143,7 @@ fn interfaces_hold(w: &mut World, alloc: Global) -> Result<bool, NoMemory> {
         [one] => id_of(one) == id_of(&interface),
         _ => false,
     };
-    Ok(is_one && is_class(w, alloc, &interface)?)
+    Ok(is_one && names_class(w, alloc, &interface, "I")?)
 }
 
 fn keys_hold(w: &mut World, alloc: Global) -> Result<bool, NoMemory> {

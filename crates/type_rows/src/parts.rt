@@ -1,6 +1,8 @@
 //! The parts of small worlds.
 
-use assembly_tree::{Assembly, ExternAssembly, Externs, Field, Manifest, TypeDef, TypeDefs};
+use assembly_tree::{
+    Assembly, ExternAssembly, Externs, Field, Generic, Generics, Manifest, TypeDef, TypeDefs,
+};
 use il_lists::{Boxed, Items, NoMemory, Text};
 use std::alloc::Global;
 use type_terms::{Owner, Owners, Path, Scope, SigType, TypeId, TypeName, Types};
@@ -87,6 +89,35 @@ pub fn push_class(
     types.push(class)
 }
 
+/// So many generic parameters.
+fn generics(alloc: Global, count: usize) -> Result<Generics, NoMemory> {
+    let mut all = Items::new(alloc);
+    for _ in 0..count {
+        let name = Text::new(alloc, "T")?;
+        all.push(Generic {
+            name,
+            flags: 0,
+            bounds: Items::new(alloc),
+            attributes: Items::new(alloc),
+        })?;
+    }
+    Ok(all)
+}
+
+/// Adds a class without interfaces that has so many generic parameters.
+pub fn push_generic(
+    types: &mut TypeDefs,
+    alloc: Global,
+    name: &str,
+    parameters: usize,
+    extends: Owner,
+) -> Result<(), NoMemory> {
+    let generics = generics(alloc, parameters)?;
+    let mut class = declared(alloc, name, 0, Some(extends), Items::new(alloc))?;
+    class.generics = generics;
+    types.push(class)
+}
+
 /// Adds an interface.
 pub fn push_interface(types: &mut TypeDefs, alloc: Global, name: &str) -> Result<(), NoMemory> {
     let interface = declared(alloc, name, INTERFACE, None, Items::new(alloc))?;
@@ -114,6 +145,19 @@ pub fn push_enum(
         attributes: Items::new(alloc),
     })?;
     types.push(declared)
+}
+
+/// A public static field.
+pub fn static_field(alloc: Global, name: Text, of: SigType) -> Field {
+    Field {
+        name,
+        flags: 0x16,
+        of,
+        constant: None,
+        offset: None,
+        content: None,
+        attributes: Items::new(alloc),
+    }
 }
 
 fn push_extern(externs: &mut Externs, alloc: Global, name: &str) -> Result<(), NoMemory> {

@@ -3,7 +3,7 @@ ghost use Rattle.std.specs.Prelude.{IsTrue};
 ghost use Rattle.assignability.specs.Worlds.{IsFit};
 
 use crate::parts::{
-    assembly, base, class, core_base, instance, push_class, push_enum, push_interface,
+    assembly, base, class, core_base, instance, push_class, push_enum, push_generic, push_interface,
 };
 use assembly_tree::{Assembly, TypeDefs, weight, well_formed};
 use assignability::types::World;
@@ -55,9 +55,9 @@ fn doubled(alloc: Global) -> Result<SigType, NoMemory> {
 /// The classes P, Z, and G1 to G40, each of which extends the one before with P of its parameter twice.
 pub fn growing(alloc: Global) -> Result<Assembly, NoMemory> {
     let mut types: TypeDefs = Items::new(alloc);
-    for plain in ["P`2", "Z", "G0`1"] {
+    for (name, parameters) in [("P`2", 2), ("Z", 0), ("G0`1", 1)] {
         let object = core_base(alloc, "Object")?;
-        push_class(&mut types, alloc, plain, object, Items::new(alloc))?;
+        push_generic(&mut types, alloc, name, parameters, object)?;
     }
     for n in 1..41u32 {
         let before = format!(in alloc; "G{}`1", n - 1)?;
@@ -66,13 +66,7 @@ pub fn growing(alloc: Global) -> Result<Assembly, NoMemory> {
         args.push(argument)?;
         let base = instance(alloc, before.as_str(), args)?;
         let name = format!(in alloc; "G{n}`1")?;
-        push_class(
-            &mut types,
-            alloc,
-            name.as_str(),
-            Owner::Spec(base),
-            Items::new(alloc),
-        )?;
+        push_generic(&mut types, alloc, name.as_str(), 1, Owner::Spec(base))?;
     }
     assembly(alloc, "Growing", types)
 }
@@ -114,13 +108,6 @@ pub fn growing_world(alloc: Global) -> Result<Option<World>, NoMemory> {
     ready(alloc, &a)
 }
 
-/// The world of `classes` with the reference `library`.
-pub fn world_with_library(alloc: Global) -> Result<Option<World>, NoMemory> {
-    let a = classes(alloc)?;
-    let reference = library(alloc)?;
-    within(alloc, &a, reference)
-}
-
 fn settled(answer: Result<World, WorldFault>) -> Result<Option<World>, NoMemory> {
     match answer {
         Ok(w) => Ok(Some(w)),
@@ -138,6 +125,7 @@ fn names(answer: Result<World, WorldFault>, number: u32, name: &str) -> Result<b
             assembly == number
                 && matches!(at.scope, Scope::Here)
                 && at.path.len() == 1
+                && at.path.at(0).space.is_empty()
                 && at.path.at(0).name.as_bytes() == name.as_bytes(),
         ),
     }
