@@ -9,7 +9,7 @@ use Rattle.type_terms.specs.declared.name.TypeName.{TypeName}
 use Rattle.assembly_tree.specs.declared.typedef.TypeDef.{TypeDef}
 use Rattle.assembly_tree.specs.declared.typedef.TypeDef.TheViews.{out-TypeDef}
 use Rattle.assignability.specs.Ancestors.{declared_names}
-use Rattle.assignability.specs.Building.{AreTables, AreValues}
+use Rattle.assignability.specs.Building.{AreEntries, AreTables, AreValues}
 use Rattle.assignability.specs.Declarations.{Place, base_is_in, declaration_at, declaration_by, declaration_of, hierarchy_of, is_class_of, is_value_type, place_of}
 use Rattle.assignability.specs.Gathered.{scope_by}
 use Rattle.assignability.specs.Members.{IsScopes, member}
@@ -73,15 +73,11 @@ entry_is s z r v ok places values k at name t means stands meant is_object is_en
     ap (option_and_then (λ (p : Place). Some (declaration_at s name p))) place.is
     ∙ sym (ap Some (is ∙ (λ i. declaration_by (record { core = values.core i; scope = scopes i; is_value = λ n. values.each n i }) (as_object i) (as_enum i) (out-TypeDef t))))
 
--- each entry says what is declared
-abbrev pub Entered : Sources → List TypeName → List Declared → Type 0
-Entered s names entries = (j : ℕ) (name : TypeName) (d : Declared) → slice_get names j ≡ Some name → slice_get entries j ≡ Some d → declaration_of s name ≡ Some (declaration d)
-
-pub entered_none : (s : Sources) (names : List TypeName) → Entered s names []
+pub entered_none : (s : Sources) (names : List TypeName) → AreEntries s names []
 entered_none s names j name d at is = absurd (let f : ⊥ = cc in f)
 
-pub entered_more : (s : Sources) (names : List TypeName) (entries : List Declared) (k : ℕ) (d : Declared) → length entries ≡ k → Entered s names entries
-    → ((name : TypeName) → slice_get names k ≡ Some name → declaration_of s name ≡ Some (declaration d)) → Entered s names (entries ++ d ∷ [])
+pub entered_more : (s : Sources) (names : List TypeName) (entries : List Declared) (k : ℕ) (d : Declared) → length entries ≡ k → AreEntries s names entries
+    → ((name : TypeName) → slice_get names k ≡ Some name → declaration_of s name ≡ Some (declaration d)) → AreEntries s names (entries ++ d ∷ [])
 entered_more s names entries k d count before one j name e at is = elim (snoc_cases entries d e j is) [
   | inl was ↦ before j name e at was
   | inr last ↦ one name (ap (slice_get names) (sym (last.0 ∙ count)) ∙ at) ∙ ap (λ (x : Declared). Some (declaration x)) (sym last.1)
@@ -123,7 +119,7 @@ unfolding declaration_of
 absent s name None e out = ap (option_and_then (λ (p : Place). Some (declaration_at s name p))) e
 absent s name (Some p) e out = absurd (let h = declared_among s name p e in let f : ⊥ = cc in f)
 
-declared_same : (s : Sources) (names : List TypeName) (entries : List Declared) (name : TypeName) → names ≡ declared_names s → length entries ≡ length names → Entered s names entries
+declared_same : (s : Sources) (names : List TypeName) (entries : List Declared) (name : TypeName) → names ≡ declared_names s → length entries ≡ length names → AreEntries s names entries
     → declaration_in (entry_in names entries name) ≡ declaration_of s name
 declared_same s names entries name all e entered = elim (cases_Bool (is_among names name)) [
   | inl h ↦
@@ -140,7 +136,7 @@ image_same s z means ok at scope = meaning_at s z 0 (record { number = 0; assemb
 
 pub tables_all : (s : Sources) (z : Scopes) (r : Row) (v : Values) (t : Tables) (means : Meanings) → IsScopes s z → ArePlaces s r → AreValues s v
     → t.values ≡ v → t.means ≡ means → slice_get z.meanings 0 ≡ Some means → t.names ≡ r.names → length t.entries ≡ length t.names
-    → Entered s t.names t.entries → AreTables s t
+    → AreEntries s t.names t.entries → AreTables s t
 unfolding hierarchy_in hierarchy_of entry_of
 tables_all s z r v t means ok places values valued meant at named count entered =
     let all = named ∙ places.names in

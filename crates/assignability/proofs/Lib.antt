@@ -6,6 +6,7 @@ pub mod CommonLemmas
 pub mod CycleLemmas
 pub mod DeclaredNames
 pub mod EntryLemmas
+pub mod FieldLemmas
 pub mod FillLemmas
 pub mod FirstCyclic
 pub mod FitIds
@@ -13,9 +14,11 @@ pub mod FitLemmas
 pub mod Gathering
 pub mod GrowLemmas
 pub mod Heights
+pub mod IndexLemmas
 pub mod JoinIds
 pub mod JoinLemmas
 pub mod KeptLemmas
+pub mod KnownTypes
 pub mod LandingLemmas
 pub mod LeadLemmas
 pub mod LowHeights
@@ -26,6 +29,7 @@ pub mod NamingLemmas
 pub mod NodeLemmas
 pub mod Normals
 pub mod Ordering
+pub mod PartLemmas
 pub mod PlaceLemmas
 pub mod Placing
 pub mod Plain

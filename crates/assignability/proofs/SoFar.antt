@@ -72,7 +72,7 @@ module _ (s : Sources) (z : Scopes) (k n : ℕ) (means : Meanings) (ok : IsScope
   here : slice_get (members s) k ≡ Some this
   here = member_at s z.numbers k n ok.numbers number
 
-  own_is : means.own ≡ own_scope s this
+  pub own_is : means.own ≡ own_scope s this
   own_is = ok.meanings k n means number meant Here
 
   any_is : list_any (λ (m : Meanings). same_scope m.own means.own) (take k z.meanings) ≡ list_any (has_scope s (own_scope s this)) (take k (members s))
@@ -95,12 +95,14 @@ module _ (s : Sources) (z : Scopes) (k n : ℕ) (means : Meanings) (ok : IsScope
         ∙ place_at s this from.path t first formed (subst (λ (ts : List TypeDef). IsAt ts from.path t) is from.at);
   }
 
+  pub first_of_scope : (b : Bool) → b ≡ not (list_any (λ (m : Meanings). same_scope m.own means.own) (take k z.meanings)) → b ≡ true → member_of s (own_scope s this) ≡ Some this
+  first_of_scope b e is = is_member_of s k this here (sym any_is ∙ not_false b (list_any (λ (m : Meanings). same_scope m.own means.own) (take k z.meanings)) e is)
+
   pub more_so_far : (b : Bool) (types : List TypeDef) (old new : Row) → b ≡ not (list_any (λ (m : Meanings). same_scope m.own means.own) (take k z.meanings)) → b ≡ true
       → types ≡ this.assembly.types → are_classes this.assembly ≡ true → AreSoFar s k old
       → new.names ≡ placed means.own [] old.names (flat_map typedef_paths types) → IsGrown means.own [] k types old new → AreSoFar s (k + 1) new
   more_so_far b types old new e is of formed before more grown =
-      let first : member_of s (own_scope s this) ≡ Some this =
-      is_member_of s k this here (sym any_is ∙ not_false b (list_any (λ (m : Meanings). same_scope m.own means.own) (take k z.meanings)) e is) in
+      let first = first_of_scope b e is in
       record {
         aligned = grown.aligned before.aligned;
         names = names_with s (take k (members s)) this old.names new.names means.own (declares s this first) own_is before.names

@@ -1,6 +1,6 @@
 -- What stands at the paths of an assembly's types.
 use Rattle.std.proofs.Common.{◌≡◌, ◌∙◌, ◌⊎◌, ap, sym, subst, refl, inl, inr, arith, None, Some, ℕ, zero, suc, Bool, true, false, ◌&&◌, ◌||◌, not, cond, List, [], ◌∷◌, length, map, Option}
-use Rattle.std.specs.Prelude.{◌==◌}
+use Rattle.std.specs.Prelude.{◌==◌, slice_get}
 use Rattle.std.specs.List.{Contains, flat_map, list_all, list_any}
 use Rattle.std.proofs.lemmas.Bool.{cases_Bool}
 use Rattle.std.proofs.lemmas.Bool.Decides.{nat_tests}
@@ -40,6 +40,11 @@ first_in x xs = (0, omega arith, refl)
 
 pub later_in : {X : Type 0} (x y : X) (xs : List X) → Contains xs y → Contains (x ∷ xs) y
 later_in x y xs (k, h, e) = (suc k, omega (arith, h), e)
+
+pub in_by_place : {X : Type 0} (xs : List X) (k : ℕ) (x : X) → slice_get xs k ≡ Some x → Contains xs x
+in_by_place [] k x h = absurd (let f : ⊥ = cc in f)
+in_by_place (y ∷ ys) zero x h = subst (Contains (y ∷ ys)) (same_Some y x h) (first_in y ys)
+in_by_place (y ∷ ys) (suc k) x h = later_in y x ys (in_by_place ys k x h)
 
 pub in_cases : {X : Type 0} (x y : X) (xs : List X) → Contains (x ∷ xs) y → (x ≡ y) ⊎ Contains xs y
 in_cases x y xs (zero, h, e) = inl e
@@ -81,7 +86,7 @@ map_in f (z ∷ zs) x c = elim (in_cases z x zs c) [
 is_itself : (t : TypeDef) → has_id (out-TypeDef t).id t ≡ true
 is_itself t = (id_decides (out-TypeDef t).id (out-TypeDef t).id).1 refl
 
-named_here : (ts : List TypeDef) (t : TypeDef) → all_differ is_same_id ts ≡ true → Contains ts t → named (out-TypeDef t).id ts ≡ Some t
+pub named_here : (ts : List TypeDef) (t : TypeDef) → all_differ is_same_id ts ≡ true → Contains ts t → named (out-TypeDef t).id ts ≡ Some t
 named_here [] t f c = absurd (none_in t c)
 named_here (u ∷ us) t f c = elim (in_cases u t us c) [
   | inl e ↦
@@ -132,15 +137,15 @@ no_types : (ts : List TypeDef) (t : TypeDef) → (length ts == 0) ≡ true → C
 no_types [] t h c = none_in t c
 no_types (u ∷ us) t h c = let f : ⊥ = grind (arith, nat_tests) in f
 
-empty_types : (a : Assembly) (b : Bool) (ts : List TypeDef) (t : TypeDef) → are_types a b zero ts ≡ true → Contains ts t → ⊥
+pub empty_types : (a : Assembly) (b : Bool) (ts : List TypeDef) (t : TypeDef) → are_types a b zero ts ≡ true → Contains ts t → ⊥
 unfolding are_types
 empty_types a b ts t h c = no_types ts t h c
 
-differ_of : (a : Assembly) (b : Bool) (depth : ℕ) (ts : List TypeDef) → are_types a b (suc depth) ts ≡ true → all_differ is_same_id ts ≡ true
+pub differ_of : (a : Assembly) (b : Bool) (depth : ℕ) (ts : List TypeDef) → are_types a b (suc depth) ts ≡ true → all_differ is_same_id ts ≡ true
 unfolding are_types
 differ_of a b depth ts h = and_left (all_differ is_same_id ts) (list_all (λ (t : TypeDef). is_own a b (out-TypeDef t) && are_types a false depth (out-TypeDef t).nested) ts) h
 
-nested_of : (a : Assembly) (b : Bool) (depth : ℕ) (ts : List TypeDef) (t : TypeDef) → are_types a b (suc depth) ts ≡ true → Contains ts t → are_types a false depth (out-TypeDef t).nested ≡ true
+pub nested_of : (a : Assembly) (b : Bool) (depth : ℕ) (ts : List TypeDef) (t : TypeDef) → are_types a b (suc depth) ts ≡ true → Contains ts t → are_types a false depth (out-TypeDef t).nested ≡ true
 unfolding are_types
 nested_of a b depth ts t h c =
     and_right (is_own a b (out-TypeDef t)) (are_types a false depth (out-TypeDef t).nested)

@@ -19,6 +19,7 @@ use Rattle.assignability.specs.Ancestors.{Declared, all_declared, declared_in, d
 use Rattle.assignability.specs.Building.{AreTables}
 use Rattle.assignability.specs.Declarations.{hierarchy_of}
 use Rattle.assignability.specs.Hierarchy.{Hierarchy}
+use Rattle.assignability.specs.Indexed.{KnowsTypes}
 use Rattle.assignability.specs.Landings.{AreSteps, IsListed}
 use Rattle.assignability.specs.Members.{IsScopes, assembly_of, member}
 use Rattle.assignability.specs.Names.{full_name}
@@ -37,7 +38,7 @@ use Rattle.assignability.proofs.FillLemmas.{places_within, within_get}
 use Rattle.assignability.proofs.FirstCyclic.{declared_once, first_is_cyclic, none_is_cyclic, none_is_grounded}
 use Rattle.assignability.proofs.PlaceLemmas.{is_declaring, parts_of}
 use Rattle.assignability.proofs.StepLists.{tables_listed}
-use Rattle.assignability.proofs.TreePlaces.{and_left, and_right, in_cases, none_in, later_in, first_in}
+use Rattle.assignability.proofs.TreePlaces.{and_left, and_right, in_by_place, in_cases, none_in, later_in, first_in}
 
 -- ---- the assemblies that are given
 
@@ -100,12 +101,13 @@ number_of s z r ok places k at number name named inside is =
       is = ap (λ (m : Member). m.number) (same ∙ same_Some place.member (member s number) (sym place.in_member ∙ there));
     }
 
-pub read_all : (s : Sources) (z : Scopes) (r : Row) (read : Read) → IsScopes s z → ArePlaces s r → AreTables s read.tables → read.members ≡ r.members → read.numbers ≡ z.numbers
+pub read_all : (s : Sources) (z : Scopes) (r : Row) (read : Read) → IsScopes s z → ArePlaces s r → AreTables s read.tables → KnowsTypes s.image read.tables → read.members ≡ r.members → read.numbers ≡ z.numbers
     → IsRead s read
-read_all s z r read ok places tables ms ns =
+read_all s z r read ok places tables types ms ns =
     let named : read.tables.names ≡ r.names = tables.names ∙ sym places.names in
     record {
       tables = tables;
+      types = types;
       aligned = ap length ms ∙ places.aligned.members ∙ sym (ap length named);
       within = λ k at h.
           let below = places_within s z r ok places k at (ap (λ l. slice_get l k) (sym ms) ∙ h) in
@@ -136,6 +138,7 @@ world_is s read w is first nodes same =
     record {
       hierarchy = ap hierarchy_in same ∙ is.tables.hierarchy;
       nodes = nodes;
+      types = subst (KnowsTypes s.image) (sym same) is.types;
       acyclic = none_is_cyclic s first.steps are listed first.back;
       grounded = none_is_grounded s first.steps are listed first.back;
     }
@@ -166,15 +169,10 @@ member_passes s (m ∷ ms) d each c = elim (Contains-append_cases (declared_in m
   | inr h ↦ member_passes s ms d (λ n g. each n (later_in m n ms g)) h
 ]
 
-place_in : {X : Type 0} (xs : List X) (k : ℕ) (x : X) → slice_get xs k ≡ Some x → Contains xs x
-place_in [] k x h = absurd (let f : ⊥ = cc in f)
-place_in (y ∷ ys) zero x h = subst (Contains (y ∷ ys)) (same_Some y x h) (first_in y ys)
-place_in (y ∷ ys) (suc k) x h = later_in y x ys (place_in ys k x h)
-
 declared_declaring : (s : Sources) (k : ℕ) (d : Declared) → slice_get (all_declared s) k ≡ Some d → is_declaring s d.member ≡ true
 unfolding all_declared
 declared_declaring s k d h =
-    member_passes s (declaring s) d (λ m c. filter_passes (is_declaring s) (members s) m c) (place_in (flat_map declared_in (declaring s)) k d h)
+    member_passes s (declaring s) d (λ m c. filter_passes (is_declaring s) (members s) m c) (in_by_place (flat_map declared_in (declaring s)) k d h)
 
 number_same : (s : Sources) (d : Declared) (name : TypeName) (m : Member) → is_declaring s d.member ≡ true → world_name s d ≡ name → member_of s name.scope ≡ Some m → m.number ≡ d.member.number
 number_same s d name m is same of =

@@ -1,11 +1,12 @@
 -- What the steps towards the tables of a world find.
-use Rattle.std.specs.Prelude.{◌≡◌, length}
+use Rattle.std.specs.Prelude.{◌≡◌, ℕ, List, length, slice_get, Some}
 use Rattle.type_terms.specs.declared.name.TypeName.{TypeName}
 use Rattle.assignability.specs.Ancestors.{declared_names}
-use Rattle.assignability.specs.Declarations.{hierarchy_of, is_value_type}
+use Rattle.assignability.specs.Declarations.{declaration_of, hierarchy_of, is_value_type}
 use Rattle.assignability.specs.Reading.{value_by}
 use Rattle.assignability.specs.Scopes.{Sources, core_of}
-use Rattle.assignability.specs.Tables.{hierarchy_in}
+use Rattle.assignability.specs.Tables.{declaration, hierarchy_in}
+use Rattle.assignability.specs.declared.tables.Declared.{Declared}
 use Rattle.assignability.specs.declared.tables.Tables.{Tables}
 use Rattle.assignability.specs.declared.values.Values.{Values}
 
@@ -13,6 +14,10 @@ use Rattle.assignability.specs.declared.values.Values.{Values}
 pub record AreValues (s : Sources) (v : Values) : Type 0 where
   pub core : v.core ≡ core_of s
   pub each : (name : TypeName) → value_by v name ≡ is_value_type s name
+
+-- each entry says what the declaration of the name at its place says
+abbrev pub AreEntries : Sources → List TypeName → List Declared → Type 0
+AreEntries s names entries = (j : ℕ) (name : TypeName) (d : Declared) → slice_get names j ≡ Some name → slice_get entries j ≡ Some d → declaration_of s name ≡ Some (declaration d)
 
 -- the tables say what the world says of types, and have its declared names in its order
 pub record AreTables (s : Sources) (t : Tables) : Type 0 where

@@ -8,8 +8,10 @@ pub mod Common
 pub mod Declarations
 pub mod Distinct
 pub mod Entries
+pub mod Fields
 pub mod Gathered
 pub mod Hierarchy
+pub mod Indexed
 pub mod Joining
 pub mod Keys
 pub mod Landings
@@ -19,6 +21,7 @@ pub mod Members
 pub mod NameHash
 pub mod Names
 pub mod Normal
+pub mod Parts
 pub mod Placed
 pub mod Places
 pub mod Pooled

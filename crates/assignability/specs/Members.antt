@@ -29,6 +29,11 @@ scope_seen s is_image a (Extern k) = scope_by_name s is_image (Extern k) (slice_
 abbrev pub IsMeaning : Sources → Member → Meanings → Type 0
 IsMeaning s of m = (scope : Scope) → scope_by m scope ≡ scope_in s of scope
 
+-- `ms` says what the scopes in each of the assemblies with these numbers mean
+pub record AreMeanings (s : Sources) (numbers : List ℕ) (ms : List Meanings) : Type 0 where
+  pub paired : length ms ≡ length numbers
+  pub each : (k n : ℕ) (m : Meanings) → slice_get numbers k ≡ Some n → slice_get ms k ≡ Some m → IsMeaning s (member s n) m
+
 -- `z` says which assemblies count, and what their scopes mean
 pub record IsScopes (s : Sources) (z : Scopes) : Type 0 where
   pub core : z.core ≡ core_of s

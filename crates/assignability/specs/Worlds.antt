@@ -9,6 +9,7 @@ use Rattle.assembly_tree.specs.WellFormed.{is_well_formed}
 use Rattle.assignability.specs.Ancestors.{Declared, all_declared, IsAcyclic, IsFirstCyclic}
 use Rattle.assignability.specs.Building.{AreTables}
 use Rattle.assignability.specs.Declarations.{hierarchy_of}
+use Rattle.assignability.specs.Indexed.{KnowsTypes}
 use Rattle.assignability.specs.Landings.{AreSteps}
 use Rattle.assignability.specs.Laws.{IsGrounded}
 use Rattle.assignability.specs.Names.{full_name}
@@ -30,6 +31,7 @@ IsFit a = IsTrue (is_well_formed a) × (weight_of a ≤ 2 ^ 26)
 pub record IsWorldOf (s : Sources) (w : Content) : Type 0 where
   pub hierarchy : hierarchy w ≡ hierarchy_of s
   pub nodes : w.nodes ≡ []
+  pub types : KnowsTypes s.image w.tables
   pub acyclic : IsAcyclic s
   pub grounded : (height : SigType → ℕ) × IsGrounded (hierarchy_of s) height × ((t : SigType) → height t ≤ length (all_declared s) + 4)
 
@@ -55,6 +57,7 @@ pub record HasNumber (s : Sources) (name : TypeName) (number : ℕ) : Type 0 whe
 -- the tables of a world, and for each declared type the number of its assembly
 pub record IsRead (s : Sources) (r : Read) : Type 0 where
   pub tables : AreTables s r.tables
+  pub types : KnowsTypes s.image r.tables
   pub aligned : length r.members ≡ length r.tables.names
   pub within : (k at : ℕ) → slice_get r.members k ≡ Some at → at < length r.numbers
   pub numbers : (k at number : ℕ) (name : TypeName) → slice_get r.tables.names k ≡ Some name → slice_get r.members k ≡ Some at

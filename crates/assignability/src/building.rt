@@ -1,5 +1,5 @@
 //! A world from an image and its references.
-ghost use Rattle.std.specs.Prelude.{◌≡◌, ◌<◌, ◌≤◌, ℕ, length, slice_get, IfErr, IfOk, IfSome, Some};
+ghost use Rattle.std.specs.Prelude.{◌≡◌, [], ◌<◌, ◌≤◌, ℕ, length, slice_get, IfErr, IfOk, IfSome, Some};
 ghost use Rattle.std.specs.List.{All};
 ghost use Rattle.assignability.specs.Members.{sources};
 ghost use Rattle.assignability.specs.Scopes.{Sources};
@@ -9,7 +9,7 @@ use crate::cyclic::first_cyclic;
 use crate::filling::{fill, value_types};
 use crate::members::Assemblies;
 use crate::places::read_places;
-use crate::scopes::{Scopes, read_scopes};
+use crate::scopes::read_scopes;
 use crate::stepping::all_steps;
 use crate::tables::Tables;
 use crate::types::World;
@@ -70,7 +70,7 @@ fn read_assemblies(alloc: Global, a: &Assembly, references: &Assemblies) -> Resu
     let members = Items::from_slice(alloc, places.members.as_slice())?;
     let values = value_types(alloc, a, references, &scopes, &places)?;
     let tables = fill(alloc, values, &scopes, places)?;
-    let Scopes { numbers, .. } = scopes;
+    let numbers = scopes.into_numbers();
     Ok(Read {
         tables,
         numbers,
@@ -89,11 +89,18 @@ fn world_of(alloc: Global, read: Read) -> Result<World, WorldFault>
     match first_of(alloc, &read.tables) {
         Err(_) => Err(WorldFault::NoMemory),
         Ok(Some(place)) => Err(fault_at(alloc, &read, place)),
-        Ok(None) => {
-            let Read { tables, .. } = read;
-            Ok(World::over(alloc, tables))
-        }
+        Ok(None) => Ok(world_over(alloc, read)),
     }
+}
+
+/// The world of the tables that were read.
+fn world_over(alloc: Global, read: Read) -> World
+    requires { length read.tables.names ≡ length read.tables.entries }
+    ensures nodes { result.nodes ≡ [] }
+    ensures tables { result.tables ≡ read.tables }
+{
+    let Read { tables, .. } = read;
+    World::over(alloc, tables)
 }
 
 /// The place of the first type that is its own ancestor.

@@ -2,7 +2,7 @@
 ghost use Rattle.std.specs.Prelude.{◌≡◌, ◌<◌, ◌&&◌, ◌||◌, ℕ, length, slice_get, IfOk, OnOk, Some};
 ghost use Rattle.type_terms.specs.declared.name.TypeName.{TypeName};
 ghost use Rattle.assembly_tree.specs.declared.typedef.TypeDef.TheViews.{out-TypeDef};
-ghost use Rattle.assignability.specs.Building.{AreTables, AreValues};
+ghost use Rattle.assignability.specs.Building.{AreEntries, AreTables, AreValues};
 ghost use Rattle.assignability.specs.Declarations.{base_is_in, declaration_of};
 ghost use Rattle.assignability.specs.Gathered.{scope_by, with_name};
 ghost use Rattle.assignability.specs.Members.{IsScopes, sources};
@@ -81,21 +81,40 @@ pub fn fill(
     requires some { 0 < length scopes.now.meanings }
     requires aligned { IsAligned (row places) }
     requires within { (k at : ℕ) → slice_get places.members k ≡ Some at → at < length scopes.now.meanings }
-    ensures { IfOk result (λ t. (s : Sources) → IsScopes s scopes.now → ArePlaces s (row places.entry) → AreValues s values → AreTables s t) }
+    ensures tables { IfOk result (λ t. (s : Sources) → IsScopes s scopes.now → ArePlaces s (row places.entry) → AreValues s values → AreTables s t) }
+    ensures names { IfOk result (λ t. t.names ≡ places.entry.names) }
+    ensures indexes { IfOk result (λ t. t.indexes ≡ places.entry.indexes) }
 {
-    let mut entries = Items::with_capacity(alloc, places.types.len())?;
-    for k in 0..places.types.len() {
-        let entry = entry(alloc, &values, scopes, &places, k)?;
-        entries.push(entry)?;
-    }
+    let entries = all_entries(alloc, &values, scopes, &places)?;
     let means = scopes.meanings.at(0).copy(alloc)?;
-    let Places { names, .. } = places;
+    let Places { names, indexes, .. } = places;
     Ok(Tables {
         values,
         means,
         names,
         entries,
+        indexes,
     })
+}
+
+/// What the declaration of each of the types says.
+fn all_entries(
+    alloc: Global,
+    values: &Values,
+    scopes: &Scopes,
+    places: &Places<'_>,
+) -> Result<Items<Declared>, NoMemory>
+    requires aligned { IsAligned (row places.now) }
+    requires within { (k at : ℕ) → slice_get places.now.members k ≡ Some at → at < length scopes.now.meanings }
+    ensures count { IfOk result (λ es. length es ≡ length places.now.types) }
+    ensures each { IfOk result (λ es. (s : Sources) → IsScopes s scopes.now → ArePlaces s (row places.now) → AreValues s values.now → AreEntries s places.now.names es) }
+{
+    let mut entries = Items::with_capacity(alloc, places.types.len())?;
+    for k in 0..places.types.len() {
+        let entry = entry(alloc, values, scopes, places, k)?;
+        entries.push(entry)?;
+    }
+    Ok(entries)
 }
 
 /// What the declaration of the type at place `k` says.

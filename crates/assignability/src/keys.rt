@@ -101,7 +101,7 @@ pub fn interfaces_of(w: &mut World, k: &TypeKey) -> Result<TypeKeys, NoMemory>
 }
 
 /// The keys of the types of ids.
-fn keys_at(alloc: Global, ids: &[SigId]) -> Result<TypeKeys, NoMemory>
+pub(crate) fn keys_at(alloc: Global, ids: &[SigId]) -> Result<TypeKeys, NoMemory>
     ensures { IfOk result (λ ks. ks ≡ ids.now) }
 {
     let mut keys = Items::with_capacity(alloc, ids.len())?;

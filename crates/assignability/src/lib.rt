@@ -2,6 +2,7 @@
 #![tactic(auto)]
 
 mod above;
+mod ancestry;
 mod arrays;
 mod building;
 mod common;
@@ -9,6 +10,7 @@ mod core_types;
 mod cyclic;
 mod declaring;
 mod entries;
+mod fields;
 mod filling;
 mod fits;
 mod interfaces;
@@ -23,12 +25,11 @@ mod names;
 mod naming;
 mod normal;
 mod order;
+mod owners;
 mod parents;
 mod places;
 mod queue;
 mod ranks;
-#[cfg(test)]
-mod ranks_tests;
 mod reach;
 mod scopes;
 mod stack;
@@ -43,12 +44,17 @@ mod value_names;
 mod values;
 mod written;
 
+pub use ancestry::parent;
 pub use building::{WorldFault, world};
+pub use fields::fields_named;
 pub use keys::{
     boxed_of, core_scope, element_of, interfaces_of, is_value, pointer_to, st_of, term_of,
 };
 pub use laws::{assignable_is_a_preorder, joins_are_least_upper_bounds, keys_keep_their_types};
 pub use members::Assemblies;
-pub use order::{assignable, join, parent};
+pub use order::{assignable, join};
+pub use owners::{
+    arguments_of, core_value, is_reference_key, owner_key, primitive_key, type_key, vector_of,
+};
 pub use stack_type::{StackType, TypeKey, TypeKeys, id_of};
 pub use written::{key_of, stack_of};

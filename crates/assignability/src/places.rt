@@ -1,5 +1,5 @@
 //! The types that the assemblies of a world declare, each with its name in it.
-ghost use Rattle.std.specs.Prelude.{◌≡◌, ◌∷◌, ◌++◌, [], ℕ, List, IfOk, IsTrue, OnOk, not};
+ghost use Rattle.std.specs.Prelude.{◌≡◌, ◌∷◌, ◌++◌, [], ℕ, List, IfOk, IsTrue, OnOk, Some, not, slice_get};
 ghost use Rattle.std.specs.List.{Contains, flat_map, list_any};
 ghost use Rattle.type_terms.specs.declared.name.TypeId.{TypeId};
 ghost use Rattle.assembly_tree.specs.declared.typedef.TypeDef.{TypeDef};
@@ -7,6 +7,7 @@ ghost use Rattle.assembly_tree.specs.declared.typedef.TypeDef.TheViews.{out-Type
 ghost use Rattle.assembly_tree.specs.WellFormed.{are_classes};
 ghost use Rattle.assignability.specs.Ancestors.{typedef_paths};
 ghost use Rattle.assignability.specs.Gathered.{with_name};
+ghost use Rattle.assignability.specs.Indexed.{AreIndexed, IsIndexed};
 ghost use Rattle.assignability.specs.Members.{IsScopes, assembly_of, sources};
 ghost use Rattle.assignability.specs.Names.{full_name, same_scope};
 ghost use Rattle.assignability.specs.Placed.{placed, IsGrown};
@@ -30,6 +31,8 @@ pub struct Places<'a> {
     /// The place of its assembly among those that count.
     pub members: Items<usize>,
     pub types: Items<&'a TypeDef>,
+    /// The place of each among the types that its outer type nests, or that stand at the top.
+    pub indexes: Items<usize>,
 }
 
 /// The types that assemblies declare, those of the image first, each before those that it nests. Where two assemblies
@@ -42,12 +45,14 @@ pub fn read_places<'a>(
 ) -> Result<Places<'a>, NoMemory>
     requires scopes { IsScopes (sources image.now references.now) scopes.now }
     requires formed { (n : ℕ) → IsTrue (are_classes (assembly_of (sources image.now references.now) n)) }
-    ensures { IfOk result (λ p. ArePlaces (sources image.now references.now) (row p)) }
+    ensures places { IfOk result (λ p. ArePlaces (sources image.now references.now) (row p)) }
+    ensures indexes { IfOk result (λ p. AreIndexed image.now.types p) }
 {
     let mut into = Places {
         names: Names::new(alloc),
         members: Items::new(alloc),
         types: Items::new(alloc),
+        indexes: Items::new(alloc),
     };
     for (k, number) in scopes.numbers.as_slice().iter().enumerate() {
         let own = scopes.meanings.at(k).own;
@@ -82,10 +87,11 @@ pub fn add_types<'a>(
 ) -> Result<(), NoMemory>
     ensures names { OnOk result (into.new.names ≡ placed scope outer.now into.old.names (flat_map typedef_paths types.now)) }
     ensures types { OnOk result (IsGrown scope outer.now member types.now (row into.old) (row into.new)) }
+    ensures indexes { OnOk result (IsIndexed scope outer.now types.now into.old into.new) }
 {
-    for of in types {
+    for (index, of) in types.iter().enumerate() {
         let path = path_in(alloc, outer, &of.id)?;
-        add_type(alloc, scope, member, &path, of, into)?;
+        add_type(alloc, scope, member, index, &path, of, into)?;
         add_types(
             alloc,
             scope,
@@ -98,17 +104,19 @@ pub fn add_types<'a>(
     Ok(())
 }
 
-/// Adds a type unless its name is there.
+/// Adds a type, which has that place among those side by side, unless its name is there.
 fn add_type<'a>(
     alloc: Global,
     scope: Scope,
     member: usize,
+    index: usize,
     path: &Path,
     of: &'a TypeDef,
     into: &mut Places<'a>,
 ) -> Result<(), NoMemory>
     ensures names { OnOk result (into.new.names ≡ with_name into.old.names (full_name scope path.now)) }
     ensures types { OnOk result ((outer : List TypeId) (types : List TypeDef) → Contains types of.now → path.now ≡ outer ++ (out-TypeDef of.now).id ∷ [] → IsGrown scope outer member types (row into.old) (row into.new)) }
+    ensures indexes { OnOk result ((outer : List TypeId) (types : List TypeDef) → slice_get types index ≡ Some of.now → path.now ≡ outer ++ (out-TypeDef of.now).id ∷ [] → IsIndexed scope outer types into.old into.new) }
 {
     if into.names.has(scope, path.as_slice()) {
         return Ok(());
@@ -117,6 +125,7 @@ fn add_type<'a>(
     into.names.push(TypeName { scope, path })?;
     into.members.push(member)?;
     into.types.push(of)?;
+    into.indexes.push(index)?;
     Ok(())
 }
 
@@ -130,14 +139,22 @@ fn path_in(alloc: Global, outer: &[TypeId], id: &TypeId) -> Result<Path, NoMemor
             Path::new(alloc, id)
         }
         [first, more @ ..] => {
-            let first = first.copy(alloc)?;
-            let mut path = Path::new(alloc, first)?;
-            extend(alloc, &mut path, more)?;
+            let mut path = path_of(alloc, first, more)?;
             let id = id.copy(alloc)?;
             path.push(id)?;
             Ok(path)
         }
     }
+}
+
+/// The path of these ids.
+fn path_of(alloc: Global, first: &TypeId, more: &[TypeId]) -> Result<Path, NoMemory>
+    ensures { IfOk result (λ p. p ≡ first.now ∷ more.now) }
+{
+    let first = first.copy(alloc)?;
+    let mut path = Path::new(alloc, first)?;
+    extend(alloc, &mut path, more)?;
+    Ok(path)
 }
 
 /// Adds copies of the ids at the end of a path.

@@ -1,9 +1,10 @@
 ghost use Rattle.std.specs.Prelude.{◌≡◌, ◌<◌, ◌^◌, ℕ, IfOk, length};
-ghost use Rattle.assignability.specs.Members.{IsScopes, assembly_of, sources};
+ghost use Rattle.assignability.specs.Entries.{IsNaming};
+ghost use Rattle.assignability.specs.Members.{AreMeanings, IsScopes, assembly_of, sources};
 
 use crate::meanings::Meanings;
 use crate::members::{Assemblies, assembly_of, member_numbers};
-use crate::naming::{meanings, read_names};
+use crate::naming::{Naming, meanings, read_names};
 use assembly_tree::Assembly;
 use il_lists::{Items, NoMemory, Numbers};
 use std::alloc::Global;
@@ -20,6 +21,16 @@ pub struct Scopes {
     pub meanings: Items<Meanings>,
 }
 
+impl Scopes {
+    /// The numbers of the assemblies.
+    pub fn into_numbers(self) -> Numbers
+        ensures { result ≡ self.numbers }
+    {
+        let Scopes { numbers, .. } = self;
+        numbers
+    }
+}
+
 /// What the scopes in an image and its references mean.
 pub fn read_scopes(
     alloc: Global,
@@ -32,15 +43,31 @@ pub fn read_scopes(
 {
     let numbers = member_numbers(alloc, image, references)?;
     let naming = read_names(alloc, image, references, &numbers)?;
-    let mut all = Items::with_capacity(alloc, numbers.len())?;
-    for number in numbers.as_slice() {
-        let of = assembly_of(image, references, *number);
-        let means = meanings(alloc, &naming, of, *number == 0)?;
-        all.push(means)?;
-    }
+    let meanings = all_meanings(alloc, image, references, &naming, numbers.as_slice())?;
     Ok(Scopes {
         core: naming.core,
         numbers,
-        meanings: all,
+        meanings,
     })
+}
+
+/// What the scopes mean in each of the assemblies with these numbers.
+fn all_meanings(
+    alloc: Global,
+    image: &Assembly,
+    references: &Assemblies,
+    naming: &Naming,
+    numbers: &[u32],
+) -> Result<Items<Meanings>, NoMemory>
+    requires naming { IsNaming (sources image.now references.now) naming.now }
+    requires externs { (n : ℕ) → length (assembly_of (sources image.now references.now) n).externs < 2 ^ 32 }
+    ensures { IfOk result (λ ms. AreMeanings (sources image.now references.now) numbers.now ms) }
+{
+    let mut all = Items::with_capacity(alloc, numbers.len())?;
+    for number in numbers {
+        let of = assembly_of(image, references, *number);
+        let means = meanings(alloc, naming, of, *number == 0)?;
+        all.push(means)?;
+    }
+    Ok(all)
 }

@@ -41,6 +41,8 @@ pub struct Tables {
     pub names: Names,
     /// What the declaration of each of them says, at the name's place.
     pub entries: Items<Declared>,
+    /// The place of each of them among the types that its outer type nests, or that stand at the top.
+    pub indexes: Items<usize>,
 }
 
 impl Tables {

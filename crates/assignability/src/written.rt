@@ -23,7 +23,7 @@ use type_terms::SigType;
 
 /// The id of a type of the image, normalised.
 #[tactic(auto, unfolding(crate::specs::Tables::hierarchy_in))]
-fn normal_id(
+pub(crate) fn normal_id(
     alloc: Global,
     tables: &Tables,
     pool: &mut SigPool,

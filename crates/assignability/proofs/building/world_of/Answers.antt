@@ -10,5 +10,5 @@ returns-in-Ok-Some-clause-fault c = λ s is.
 
 pub returns-in-Ok-None-clause-world : goal.returns-in-Ok-None-clause-world
 returns-in-Ok-None-clause-world c = λ s is.
-    world_is s c.args.read c.over.result is
-    (subst (λ (o : Option ℕ). IsFirstOf c.args.read.tables o) c.in-Ok-None.field-0-is c.in-Ok-None.ensures.is) c.over.ensures.nodes c.over.ensures.tables
+    world_is s c.args.read c.world_over.result is
+    (subst (λ (o : Option ℕ). IsFirstOf c.args.read.tables o) c.in-Ok-None.field-0-is c.in-Ok-None.ensures.is) c.world_over.ensures.nodes c.world_over.ensures.tables

@@ -6,6 +6,7 @@ use Rattle.assembly_tree.specs.declared.typedef.TypeDef.{TypeDef}
 use Rattle.assignability.specs.Names.{full_name}
 use Rattle.assignability.specs.Places.{row}
 use Rattle.assignability.proofs.Among.{not_among}
+use Rattle.assignability.proofs.IndexLemmas.{indexed_one}
 use Rattle.assignability.proofs.Placing.{grown_one}
 use Rattle.assignability.proofs.places.add_type.Goals as goal
 
@@ -21,3 +22,10 @@ returns-clause-types c = λ outer ts within e.
     (c.in_ok-push.ensures.ok ∙ ap (λ (p : List TypeId). old.names ++ full_name c.args.scope p ∷ []) c.in_ok-path.ensures)
     c.in_ok-push-2.ensures.ok
     (ap (map (λ (t : Bor TypeDef). t.now)) c.in_ok-push-3.ensures.ok ∙ map-append (λ (t : Bor TypeDef). t.now) old.types (c.args.of ∷ []))
+
+pub returns-clause-indexes : goal.returns-clause-indexes
+returns-clause-indexes c = λ outer ts typed e.
+    let old = c.args.into.now in
+    indexed_one c.args.scope outer c.args.path.now ts c.args.of.now c.args.index old _ typed e
+    (c.in_ok-push.ensures.ok ∙ ap (λ (p : List TypeId). old.names ++ full_name c.args.scope p ∷ []) c.in_ok-path.ensures)
+    c.in_ok-push-4.ensures.ok

@@ -1,0 +1,29 @@
+-- The fields that an assembly declares, by the names of types as they are written (ECMA-335 II.10, II.10.8, II.16).
+use Rattle.std.specs.Prelude.{List, [], ◌∷◌, codes, if◌then◌else◌, Option, None, Some}
+use Rattle.type_terms.specs.declared.name.Scope.{Scope}
+use Rattle.type_terms.specs.declared.name.Scope.TheVariants.{Here, Extern}
+use Rattle.type_terms.specs.declared.name.TypeId.{TypeId}
+use Rattle.type_terms.specs.declared.name.TypeName.{TypeName}
+use Rattle.assembly_tree.specs.declared.assembly.Assembly.{Assembly}
+use Rattle.assembly_tree.specs.declared.members.Field.{Field}
+use Rattle.assembly_tree.specs.declared.typedef.TypeDef.{TypeDef}
+use Rattle.assembly_tree.specs.declared.typedef.TypeDef.TheViews.{out-TypeDef}
+use Rattle.assembly_tree.specs.DataSize.{type_at}
+use Rattle.assignability.specs.Names.{same_path}
+
+-- the type `<Module>`, which holds the members that stand outside types
+abbrev pub the_module : List TypeId
+the_module = record { space = []; name = codes "<Module>" } ∷ []
+
+abbrev pub fields_in : Option TypeDef → List Field
+fields_in None = []
+fields_in (Some t) = (out-TypeDef t).fields
+
+abbrev pub fields_by_scope : Assembly → Scope → List TypeId → List Field
+fields_by_scope a Here path = if same_path path the_module then a.fields else fields_in (type_at a.types path)
+fields_by_scope a (Extern k) path = []
+
+-- the fields of the type that has that name here
+abbrev pub fields_of : Assembly → Option TypeName → List Field
+fields_of a None = []
+fields_of a (Some name) = fields_by_scope a name.scope name.path
