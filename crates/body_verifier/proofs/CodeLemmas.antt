@@ -1,8 +1,9 @@
 -- The tests of an instruction tell whether it breaks the rules that ask no stack.
-use Rattle.std.proofs.Common.{◌≡◌, inl, inr, ℕ, ◌+◌, Bool, true, not, ◌&&◌, ◌||◌, List, [], map, length, refl, sym, ◌∙◌, ap, subst, Some, arith}
-use Rattle.std.specs.Prelude.{◌↔◌, IsTrue, nat_eq, nat_lt, slice_get}
-use Rattle.std.specs.List.{Contains}
-use Rattle.std.proofs.lemmas.Bool.{and_parts, and_from, or_cases, or_left, or_right, eqb-true, eq-eqb, ltb-true, lt-ltb, both_ways, not-true, not_from_false, false_from_ne_true}
+use Rattle.std.proofs.Common.{◌≡◌, inl, inr, ℕ, ◌+◌, ◌<◌, Bool, true, false, not, ◌&&◌, ◌||◌, List, [], ◌∷◌, map, length, refl, sym, ◌∙◌, ap, subst, Some, arith}
+use Rattle.std.specs.Prelude.{◌↔◌, IsTrue, nat_eq, slice_get, slice_index_or}
+use Rattle.std.specs.List.{Contains, flat_map}
+use Rattle.std.proofs.lemmas.Bool.{and_parts, and_from, or_cases, or_left, or_right, eqb-true, eq-eqb, cases_lt, both_ways, not-true, not_from_false, false_from_ne_true, true_from_ne_false}
+use Rattle.std.proofs.lemmas.List.{get_or_past}
 use Rattle.assembly_tree.specs.declared.body.Clause.{Clause}
 use Rattle.assembly_tree.specs.declared.body.ClauseKind.{ClauseKind}
 use Rattle.assembly_tree.specs.declared.body.ClauseKind.TheVariants.{Catch, Filter, Finally, Fault}
@@ -17,6 +18,8 @@ use Rattle.body_verifier.specs.Blocks.{filter, Block, try_block, handler_block, 
 use Rattle.body_verifier.specs.BlockTests.{spans_of, filter_span, filter_any, is_held, is_level_test}
 use Rattle.body_verifier.specs.PlaceTests.{may_leave_test, may_rethrow_test, may_end_finally_test, may_end_filter_test}
 use Rattle.body_verifier.specs.Edges.{Does, falls, branches, targets}
+use Rattle.body_verifier.specs.Marks.{HaveMarks, boundary}
+use Rattle.body_verifier.specs.Prefixes.{IsBoundary, boundaries, filter_start}
 use Rattle.body_verifier.specs.Rules.{calls, states_this, MayLeave, MayRethrow, MayEndFinally, MayEndFilter}
 use Rattle.body_verifier.specs.CodeRules.{RunsOff, ReturnsInside, BranchesAcross, FallsAcross, IsMisplaced, leaves, rethrows, ends_finally, ends_filter, IsUnverified, unlisted, explicit}
 use Rattle.body_verifier.specs.CodeTests.{runs_off_by, has_inside, is_inside, is_return, returns_inside_by, goes_across, any_across, branches_across_by, falls_across_by, leaves_badly, misplaced_by, is_unlisted, unverified_by}
@@ -151,17 +154,74 @@ branches_exact f k i spans is e = (
       (any_from (goes_across spans k) (targets i.operand) r.target (subst (λ (z : Ins). Contains (targets z.operand) r.target) (sym same) r.to) (to_across f spans k r.target e r.across)),
 )
 
-pub falls_exact : (f : Frame) (k : ℕ) (i : Ins) (count : ℕ) (spans : List Spans) → slice_get f.code k ≡ Some i → length f.code ≡ count → spans ≡ map spans_of f.clauses
-    → IsTrue (falls_across_by spans count k (operation i.op)) ↔ FallsAcross f k
-falls_exact f k i count spans is len e = (
+-- ---- steps to the next instruction
+
+second : (a b : ℕ) (xs : List ℕ) → Contains (a ∷ b ∷ xs) b
+second a b xs = there a (b ∷ xs) b (here b xs)
+
+past_two : (a b x : ℕ) (xs : List ℕ) → Contains xs x → Contains (a ∷ b ∷ xs) x
+past_two a b x xs h = there a (b ∷ xs) x (there b xs x h)
+
+filter_bounds : (start : ℕ) (x : ClauseKind) (b : Block) → Contains (filter_blocks start x) b → Contains (filter_start x) b.start × (b.end ≡ start)
+filter_bounds start (Filter at) b h = elim (either (record { kind = filter; start = at; end = start }) [] b h) [
+  | inl e ↦ (subst (λ (z : Block). Contains (at ∷ []) z.start) e (here at []), ap (λ (z : Block). z.end) (sym e))
+  | inr more ↦ absurd (none b more)
+]
+filter_bounds start (Catch o) b h = absurd (none b h)
+filter_bounds start Finally b h = absurd (none b h)
+filter_bounds start Fault b h = absurd (none b h)
+
+-- a block starts and ends at boundaries of its clause
+block_bounds : (c : Clause) (b : Block) → Contains (blocks_of c) b → Contains (boundaries c) b.start × Contains (boundaries c) b.end
+block_bounds c b h =
+    let P : Block → Type 0 = λ (z : Block). Contains (boundaries c) z.start × Contains (boundaries c) z.end in
+    let rest : List ℕ = c.handler_start ∷ c.handler_end ∷ filter_start c.kind in
+    let starts : Contains (boundaries c) c.handler_start = past_two c.try_start c.try_end c.handler_start rest (here c.handler_start (c.handler_end ∷ filter_start c.kind)) in
+    elim (either (try_block c) (handling_blocks c) b h) [
+      | inl e ↦ subst P e (here c.try_start (c.try_end ∷ rest), second c.try_start c.try_end rest)
+      | inr more ↦ elim (either (handler_block c) (filter_blocks c.handler_start c.kind) b more) [
+        | inl e ↦ subst P e (starts, past_two c.try_start c.try_end c.handler_end rest (second c.handler_start c.handler_end (filter_start c.kind)))
+        | inr g ↦
+            let r = filter_bounds c.handler_start c.kind b g in (
+              past_two c.try_start c.try_end b.start rest (past_two c.handler_start c.handler_end b.start (filter_start c.kind) r.0),
+              subst (λ (z : ℕ). Contains (boundaries c) z) (sym r.1) starts,
+            )
+      ]
+    ]
+
+-- the step to an instruction at which no block starts or ends is level
+level_unmarked : (f : Frame) (k : ℕ) → (IsBoundary f (k + 1) → ⊥) → IsLevel f.clauses k (k + 1)
+level_unmarked f k off =
+    let start_off : (b : Block) → Contains (blocks f.clauses) b → b.start ≡ k + 1 → ⊥ = λ b is q.
+    let m = of_flat blocks_of f.clauses b is in
+    off (subst (λ (z : ℕ). Contains (flat_map boundaries f.clauses) z) q (in_flat boundaries f.clauses m.0 b.start m.1 (block_bounds m.0 b m.2).0)) in
+    let end_off : (b : Block) → Contains (blocks f.clauses) b → b.end ≡ k + 1 → ⊥ = λ b is q.
+    let m = of_flat blocks_of f.clauses b is in
+    off (subst (λ (z : ℕ). Contains (flat_map boundaries f.clauses) z) q (in_flat boundaries f.clauses m.0 b.end m.1 (block_bounds m.0 b m.2).1)) in
+    record {
+      stays = λ b is h. let ne = end_off b is in record { from = omega (arith, h.from); to = omega (arith, h.to, ne) };
+      enters = λ b is h out. let ne = start_off b is in absurd (out (record { from = omega (arith, h.from, ne); to = omega (arith, h.to) }));
+    }
+
+marked_within : (f : Frame) (marks : List Bool) → HaveMarks f marks → (t : ℕ) → slice_index_or marks t false ≡ true → t < length f.code
+marked_within f marks have t h = elim (cases_lt t (length f.code)) [
+  | inl less ↦ less
+  | inr more ↦ absurd (both_ways (slice_index_or marks t false) (get_or_past marks t false (omega (arith, more, have.count))) h)
+]
+
+pub falls_exact : (f : Frame) (k : ℕ) (i : Ins) (marks : List Bool) (spans : List Spans) → slice_get f.code k ≡ Some i → HaveMarks f marks → spans ≡ map spans_of f.clauses
+    → IsTrue (falls_across_by spans marks k (operation i.op)) ↔ FallsAcross f k
+falls_exact f k i marks spans is have e = (
   λ h.
-      let p = and_parts (falls (operation i.op) && nat_lt (k + 1) count) (goes_across spans k (k + 1)) h in
-      let q = and_parts (falls (operation i.op)) (nat_lt (k + 1) count) p.0 in
-      let less = ltb-true (k + 1) count q.1 in
-      record { ins = i; operation = operation i.op; does = record { is = is; does = refl }; falls = q.0; next = omega (arith, less); across = across_to f spans k (k + 1) e p.1 },
+      let p = and_parts (falls (operation i.op) && slice_index_or marks (k + 1) false) (goes_across spans k (k + 1)) h in
+      let q = and_parts (falls (operation i.op)) (slice_index_or marks (k + 1) false) p.0 in
+      record { ins = i; operation = operation i.op; does = record { is = is; does = refl }; falls = q.0; next = marked_within f marks have (k + 1) q.1; across = across_to f spans k (k + 1) e p.1 },
   λ r.
-      and_from (falls (operation i.op) && nat_lt (k + 1) count) (goes_across spans k (k + 1))
-      (and_from (falls (operation i.op)) (nat_lt (k + 1) count) (ap falls (what f k i r.ins r.operation is r.does) ∙ r.falls) (lt-ltb (k + 1) count (omega (arith, r.next))))
+      let there_is : slice_index_or marks (k + 1) false ≡ true =
+      true_from_ne_false (slice_index_or marks (k + 1) false)
+      (λ off. r.across (level_unmarked f k (λ b. both_ways (slice_index_or marks (k + 1) false) off ((have.are (k + 1) r.next).1 (boundary b))))) in
+      and_from (falls (operation i.op) && slice_index_or marks (k + 1) false) (goes_across spans k (k + 1))
+      (and_from (falls (operation i.op)) (slice_index_or marks (k + 1) false) (ap falls (what f k i r.ins r.operation is r.does) ∙ r.falls) there_is)
       (to_across f spans k (k + 1) e r.across),
 )
 

@@ -28,8 +28,8 @@ use Rattle.body_verifier.specs.Potential.{IsLow, reached}
 use Rattle.body_verifier.specs.StateMeanings.{state_meant, state_or_none, state_depth, depth_or_none, IsStateWithin, typing_of}
 use Rattle.body_verifier.specs.Typings as typings
 use Rattle.body_verifier.specs.Waiting.{Waiting, has, pushed}
-use Rattle.body_verifier.specs.Ways.{Setup, IsSetUp, IsShallow, HasNoMore, brought, AreStated, Says, AreWays, charge_of, charge, Raises, stays, rises}
-use Rattle.body_verifier.proofs.Budgets.{changed_budget, no_more_then}
+use Rattle.body_verifier.specs.Ways.{Setup, IsSetUp, IsShallow, HasNoMore, brought, AreStated, Says, AreWays, charge_of, charge, Raises, stays, rises, IsDepth, HasLessAt, depth_charge, depth_charges}
+use Rattle.body_verifier.proofs.Budgets.{changed_budget, no_more_then, changed_less, less_then}
 use Rattle.body_verifier.proofs.FollowLemmas.{state_kept, states_kept, typing_kept}
 use Rattle.body_verifier.proofs.Following.{Follows, IsChanged, follow_stays, follow_rises, brings_low, shallow_changed, reached_changed, reached_low, at_most_one}
 use Rattle.body_verifier.proofs.Totals.{still_waits, waits_now, same_count}
@@ -73,6 +73,8 @@ pub record IsFollowing (at : Setup) (k : ℕ) (stated : Stated) (after : State) 
   pub grown : reached (typing_of a.nodes states0) (length at.frame.code) ≤ reached (typing_of b.nodes states) (length at.frame.code)
   pub no_more : HasNoMore at (typing_of a.nodes states0) list0.numbers (typing_of b.nodes states) list.numbers
   pub spent : steps ≤ steps0 + charge (length at.frame.code) (take j gs)
+  pub less : (d : ℕ) → IsDepth at.frame d → HasLessAt d at (typing_of a.nodes states0) list0.numbers (typing_of b.nodes states) list.numbers
+  pub few : (d : ℕ) → IsDepth at.frame d → steps ≤ steps0 + depth_charges d (take j gs)
 
 -- ---- what comes
 
@@ -120,6 +122,16 @@ charged ns s Flowing after n d h le = omega arith
 charged ns s Nothing after n d h le = let e = depth_meant ns s.nothing 0 h.no_value in omega arith
 charged ns s Object after n d h le = let e = depth_meant ns s.object 1 h.one_value in omega arith
 charged ns s (Caught k) after n d h le = let e = depth_meant ns (get_or s.caught k s.nothing) 1 (h.one_caught k) in omega arith
+
+charged_less : (ns : List Node) (s : Stated) (c : Carried) (after : State) (n d : ℕ) → AreStated ns s → n ≤ d → min n (state_depth (brought s c after)) ≤ depth_charge d c
+charged_less ns s Flowing after n d h le = omega arith
+charged_less ns s Nothing after n d h le = let e = depth_meant ns s.nothing 0 h.no_value in omega arith
+charged_less ns s Object after n d h le = let e = depth_meant ns s.object 1 h.one_value in omega arith
+charged_less ns s (Caught k) after n d h le = let e = depth_meant ns (get_or s.caught k s.nothing) 1 (h.one_caught k) in omega arith
+
+less_more : (d : ℕ) (gs : List Going) (j : ℕ) → j < length gs → depth_charges d (take (j + 1) gs) ≡ depth_charges d (take j gs) + depth_charge d (going_at gs j).carries
+less_more d gs j below =
+    ap (depth_charges d) (take_more gs j no_going below) ∙ sum_by-append (λ (g : Going). depth_charge d g.carries) (take j gs) (going_at gs j ∷ []) ∙ (omega arith)
 
 charge_more : (n : ℕ) (gs : List Going) (j : ℕ) → j < length gs → charge n (take (j + 1) gs) ≡ charge n (take j gs) + charge_of n (going_at gs j).carries
 charge_more n gs j below =
@@ -190,6 +202,39 @@ asks_joins at k stated after gs a states0 list0 steps0 b states list steps j bel
     let d = depth_there b.nodes (reached typing n) (slice_get states (target_of gs j)) (h.shallow (target_of gs j) next.into) in
     charged a.nodes stated (going_at gs j).carries after n (depth_or_none (slice_get states (target_of gs j))) s.stacks (omega arith)
 
+-- the joins of one edge, where stacks are no deeper than that
+joins_less : (at : Setup) (k : ℕ) (stated : Stated) (after : State) (gs : List Going) (a : Content) (states0 : List State) (list0 : Waiting) (steps0 : ℕ)
+    (b : Content) (states : List State) (list : Waiting) (steps j d : ℕ) → j < length gs → IsSetOff at k stated after gs a states0
+    → IsFollowing at k stated after gs a states0 list0 steps0 b states list steps j → IsDepth at.frame d
+    → min (depth_or_none (slice_get states (target_of gs j))) (state_depth (comes_of stated after gs j)) ≤ depth_charge d (going_at gs j).carries
+joins_less at k stated after gs a states0 list0 steps0 b states list steps j d below s h deep =
+    let next = next_edge at k stated after gs a states0 j below s in
+    let typing = typing_of b.nodes states in
+    let there = depth_there b.nodes d (slice_get states (target_of gs j)) (deep typing h.follows.below (target_of gs j) next.into) in
+    charged_less a.nodes stated (going_at gs j).carries after (depth_or_none (slice_get states (target_of gs j))) d s.stacks there
+
+pub less_low : (d : ℕ) (gs : List Going) (j : ℕ) → depth_charges d (take j gs) ≤ depth_charges d gs
+less_low d gs j =
+    let e : depth_charges d (take j gs ++ drop j gs) ≡ depth_charges d gs = ap (depth_charges d) (take-append-drop j gs) in
+    let f = sum_by-append (λ (g : Going). depth_charge d g.carries) (take j gs) (drop j gs) in
+    omega arith
+
+next_few : (d : ℕ) (gs : List Going) (j steps0 steps later n : ℕ) → j < length gs → steps ≤ steps0 + depth_charges d (take j gs) → later ≤ steps + n → n ≤ depth_charge d (going_at gs j).carries
+    → later ≤ steps0 + depth_charges d (take (j + 1) gs)
+next_few d gs j steps0 steps later n below h more low = let e = less_more d gs j below in omega arith
+
+-- the call for an edge goes no further
+pub asks_few : (at : Setup) (k : ℕ) (stated : Stated) (after : State) (gs : List Going) (a : Content) (states0 : List State) (list0 : Waiting) (steps0 : ℕ)
+    (b : Content) (states : List State) (list : Waiting) (steps j d : ℕ) → j < length gs → IsSetOff at k stated after gs a states0
+    → IsFollowing at k stated after gs a states0 list0 steps0 b states list steps j → IsDepth at.frame d
+    → steps + min (depth_or_none (slice_get states (target_of gs j))) (state_depth (comes_of stated after gs j)) ≤ steps0 + depth_charges d gs
+asks_few at k stated after gs a states0 list0 steps0 b states list steps j d below s h deep =
+    let one = joins_less at k stated after gs a states0 list0 steps0 b states list steps j d below s h deep in
+    let few = h.few d deep in
+    let more = less_more d gs j below in
+    let low = less_low d gs (j + 1) in
+    omega arith
+
 take_low : (n : ℕ) (gs : List Going) (j : ℕ) → charge n (take j gs) ≤ charge n gs
 take_low n gs j =
     let e : charge n (take j gs ++ drop j gs) ≡ charge n gs = ap (charge n) (take-append-drop j gs) in
@@ -247,6 +292,11 @@ follows_stays at k stated after gs a states0 list0 steps0 b c states list steps 
       grown = subst R (sym same) h.grown;
       no_more = subst N (sym same) h.no_more;
       spent = next_spent (length f.code) gs j steps0 steps later (min (depth_or_none (slice_get states (target_of gs j))) (state_depth (comes_of stated after gs j))) below h.spent more one;
+      less = λ d deep.
+          let L : typings.Typing → Type 0 = λ (t : typings.Typing). HasLessAt d at (typing_of a.nodes states0) list0.numbers t list.numbers in
+          subst L (sym same) (h.less d deep);
+      few = λ d deep. next_few d gs j steps0 steps later (min (depth_or_none (slice_get states (target_of gs j))) (state_depth (comes_of stated after gs j))) below (h.few d deep) more
+          (joins_less at k stated after gs a states0 list0 steps0 b states list steps j d below s h deep);
     }
 
 -- the target rises
@@ -283,18 +333,26 @@ follows_rises at k stated after gs a states0 list0 steps0 b c states list steps 
     let low = reached_low new (length f.code) in
     let Z : typings.State → Type 0 = λ (v : typings.State). IsLow (reached new (length f.code)) v in
     let low_z : IsLow (reached new (length f.code)) zs = subst Z changed.at (shallow t next.into) in
+    let follows : Follows f new (pushed list t).numbers k (typing_of a.nodes states0 k) (value_of a.nodes stated after gs) (target_of gs) (j + 1) =
+    follow_rises f order s.setup.monotone old new list.numbers (pushed list t).numbers k (typing_of a.nodes states0 k) (value_of a.nodes stated after gs) (target_of gs) j zs h.follows
+    next.into next.brings changed meeting.meets (still_waits list t) (waits_now list t) in
     record {
       stays = ac;
       count = same_count list t ∙ h.count;
       long = length-set states t z ∙ h.long;
       within = All-set (IsStateWithin (length c.nodes)) states t z in_z (states_kept b c states bc h.within);
-      follows = follow_rises f order s.setup.monotone old new list.numbers (pushed list t).numbers k (typing_of a.nodes states0 k) (value_of a.nodes stated after gs) (target_of gs) j zs h.follows
-          next.into next.brings changed meeting.meets (still_waits list t) (waits_now list t);
+      follows = follows;
       shallow = shallow;
       grown = omega arith;
       no_more = no_more_then at (typing_of a.nodes states0) old new list0.numbers list.numbers (pushed list t).numbers h.no_more
           (changed_budget (hierarchy a) at old new list t (value_of a.nodes stated after gs j) zs s.setup next.into changed meeting_a (λ u e. let d = low_z u e in omega arith));
       spent = next_spent (length f.code) gs j steps0 steps later (min (depth_or_none (slice_get states t)) (state_depth (comes_of stated after gs j))) below h.spent more one;
+      less = λ d deep.
+          let D : typings.State → Type 0 = λ (v : typings.State). IsLow d v in
+          less_then at d (typing_of a.nodes states0) old new list0.numbers list.numbers (pushed list t).numbers (h.less d deep)
+          (changed_less (hierarchy a) at d old new list t (value_of a.nodes stated after gs j) zs s.setup next.into changed meeting_a (subst D changed.at (deep new follows.below t next.into)));
+      few = λ d deep. next_few d gs j steps0 steps later (min (depth_or_none (slice_get states t)) (state_depth (comes_of stated after gs j))) below (h.few d deep) more
+          (joins_less at k stated after gs a states0 list0 steps0 b states list steps j d below s h deep);
     }
 
 pub follows_more : (at : Setup) (k : ℕ) (stated : Stated) (after : State) (gs : List Going) (a : Content) (states0 : List State) (list0 : Waiting) (steps0 : ℕ)

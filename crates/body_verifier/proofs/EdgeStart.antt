@@ -30,7 +30,7 @@ use Rattle.body_verifier.specs.Rows as rows
 use Rattle.body_verifier.specs.StateMeanings.{state_meant, state_or_none, is_unreached, IsStateWithin, typing_of}
 use Rattle.body_verifier.specs.Typings as typings
 use Rattle.body_verifier.specs.Waiting.{Waiting}
-use Rattle.body_verifier.specs.Ways.{Setup, IsSetUp, IsOnTheWay, IsShallow, IsUnderWay, HasNoMore, flows, AreStated, Says, AreWays, charge}
+use Rattle.body_verifier.specs.Ways.{Setup, IsSetUp, IsOnTheWay, IsShallow, IsUnderWay, HasNoMore, flows, AreStated, Says, AreWays, charge, HasLessAt}
 use Rattle.body_verifier.proofs.EdgeLoop.{IsSetOff, IsFollowing, going_at, target_of, value_of, says_what}
 use Rattle.body_verifier.proofs.FollowLemmas.{state_kept, states_kept, typing_kept}
 use Rattle.body_verifier.proofs.Following.{has_cases, follow_none, follow_all}
@@ -172,6 +172,8 @@ follows_none at k stated after gs w a states list steps keeps under s =
       grown = omega arith;
       no_more = λ cost. omega arith;
       spent = omega arith;
+      less = λ d deep cost. omega arith;
+      few = λ d deep. omega arith;
     }
 
 -- ---- at the end
@@ -201,6 +203,12 @@ pub no_more_from : (at : Setup) (w a : Content) (states0 : List State) (xs ys : 
     → HasNoMore at (typing_of a.nodes states0) xs later ys → HasNoMore at (typing_of w.nodes states0) xs later ys
 no_more_from at w a states0 xs ys later keeps within h =
     let P : typings.Typing → Type 0 = λ (u : typings.Typing). HasNoMore at u xs later ys in
+    subst P (typing_kept w a states0 keeps within) h
+
+pub less_from : (at : Setup) (d : ℕ) (w a : Content) (states0 : List State) (xs ys : List ℕ) (later : typings.Typing) → KeepsKeys w a → All (IsStateWithin (length w.nodes)) states0
+    → HasLessAt d at (typing_of a.nodes states0) xs later ys → HasLessAt d at (typing_of w.nodes states0) xs later ys
+less_from at d w a states0 xs ys later keeps within h =
+    let P : typings.Typing → Type 0 = λ (u : typings.Typing). HasLessAt d at u xs later ys in
     subst P (typing_kept w a states0 keeps within) h
 
 -- an instruction that isn't reached has nothing that comes along its edges

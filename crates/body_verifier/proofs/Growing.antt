@@ -1,5 +1,5 @@
 -- What rows, stacks and frames mean as a pool of types grows.
-use Rattle.std.proofs.Common.{◌≡◌, ◌∙◌, ap, refl, ℕ, suc, ◌≤◌, arith, List, [], ◌∷◌, ◌++◌, length, map}
+use Rattle.std.proofs.Common.{rules, ◌≡◌, ◌∙◌, ap, refl, ℕ, suc, ◌≤◌, arith, List, [], ◌∷◌, ◌++◌, length, map}
 use Rattle.std.specs.List.{All}
 use Rattle.std.proofs.lemmas.List.{append_assoc, length-append}
 use Rattle.std.proofs.lemmas.List.Elements.{All-weaker, All-head, All-tail}
@@ -32,6 +32,9 @@ extends_trans ns ms ls x y = record {
   nodes = y.nodes ∙ ap (λ l. l ++ y.more) x.nodes ∙ append_assoc ns x.more y.more;
   terms = λ k h. y.terms k (let l = extends_long ns ms x in omega arith) ∙ x.terms k h;
 }
+
+pub stays_still : (a : Content) → Stays a a
+stays_still a = record { tables = refl; nodes = record { more = []; nodes = search rules; terms = λ k h. refl } }
 
 pub stays_on : (a b c : Content) → Stays a b → Stays b c → Stays a c
 stays_on a b c s t = record { tables = t.tables ∙ s.tables; nodes = extends_trans a.nodes b.nodes c.nodes s.nodes t.nodes }

@@ -10,6 +10,7 @@ use Rattle.assembly_tree.specs.declared.body.Clause.{Clause}
 use Rattle.assembly_tree.specs.declared.body.ClauseKind.{ClauseKind}
 use Rattle.assembly_tree.specs.declared.body.ClauseKind.TheVariants.{Catch, Filter, Finally, Fault}
 use Rattle.assembly_tree.specs.declared.body.Ins.{Ins}
+use Rattle.body_verifier.specs.declared.blocks.Spans.{Spans}
 use Rattle.body_verifier.specs.Frames.{Frame}
 use Rattle.body_verifier.specs.BlockTests.{spans_of, filter_span}
 use Rattle.body_verifier.specs.Edges.{targets}
@@ -23,17 +24,17 @@ length_by : (b : Bool) (m : List Bool) (p : ℕ) → length (if b then slice_set
 length_by true m p = length-set m p true
 length_by false m p = refl
 
-set_length : (m : List Bool) (p : ℕ) → length (set_mark m p) ≡ length m
+pub set_length : (m : List Bool) (p : ℕ) → length (set_mark m p) ≡ length m
 set_length m p = length_by (nat_lt p (length m)) m p
 
-after_to : (b : Bool) (m : List Bool) (p t : ℕ) → slice_index_or (if b then slice_set m p true else m) t false ≡ true → (slice_index_or m t false ≡ true) ⊎ (p ≡ t)
+pub after_to : (b : Bool) (m : List Bool) (p t : ℕ) → slice_index_or (if b then slice_set m p true else m) t false ≡ true → (slice_index_or m t false ≡ true) ⊎ (p ≡ t)
 after_to false m p t h = inl h
 after_to true m p t h = elim (cases_Bool (nat_eq p t)) [
   | inl e ↦ inr (eqb-true p t e)
   | inr e ↦ inl (sym (get_or-set_other m p t true false (λ q. eqb-false p t e (sym q))) ∙ h)
 ]
 
-was_kept : (b : Bool) (m : List Bool) (p t : ℕ) → t < length m → slice_index_or m t false ≡ true → slice_index_or (if b then slice_set m p true else m) t false ≡ true
+pub was_kept : (b : Bool) (m : List Bool) (p t : ℕ) → t < length m → slice_index_or m t false ≡ true → slice_index_or (if b then slice_set m p true else m) t false ≡ true
 was_kept false m p t less h = h
 was_kept true m p t less h = elim (cases_Bool (nat_eq p t)) [
   | inl e ↦ let at = eqb-true p t e in get_or-set_at m p t true false (sym at) (omega (arith, at))
@@ -44,7 +45,7 @@ now_by : (b : Bool) (m : List Bool) (p : ℕ) → b ≡ true → p < length m �
 now_by true m p e less = get_or-set_same m p true false less
 now_by false m p e less = absurd (let z : ⊥ = cc in z)
 
-now_set : (m : List Bool) (p : ℕ) → p < length m → slice_index_or (set_mark m p) p false ≡ true
+pub now_set : (m : List Bool) (p : ℕ) → p < length m → slice_index_or (set_mark m p) p false ≡ true
 now_set m p less = now_by (nat_lt p (length m)) m p (lt-ltb p (length m) less) less
 
 -- ---- a list of marks
@@ -151,7 +152,15 @@ to_clauses m (x ∷ xs) t less c =
 
 -- ---- all of them
 
-blank : (n t : ℕ) → t < n → slice_index_or (replicate n false) t false ≡ true → ⊥
+spans_length : (m : List Bool) (ss : List Spans) → length (marked_clauses m ss) ≡ length m
+spans_length m [] = refl
+spans_length m (s ∷ ss) = spans_length (marked m (span_places s)) ss ∙ marked_length m (span_places s)
+
+pub marks_long : (code : List Ins) (ss : List Spans) → length (all_marks code ss) ≡ length code
+marks_long code ss =
+    spans_length (marked_code (replicate (length code) false) code) ss ∙ code_length (replicate (length code) false) code ∙ length-replicate (length code) false
+
+pub blank : (n t : ℕ) → t < n → slice_index_or (replicate n false) t false ≡ true → ⊥
 blank n t less h = let e = get_or-replicate n t false false less in let z : ⊥ = cc in z
 
 marks_at : (f : Frame) (t : ℕ) → t < length f.code → IsMarked f t → slice_index_or (all_marks f.code (map spans_of f.clauses)) t false ≡ true

@@ -74,7 +74,7 @@ row_means ns r os t ps e hd hp = record {
 
 -- ---- the object of a field or a call
 
-option_same : (a b : Content) (k : Option ℕ) → Stays a b → IfSome k (λ j. j < length a.nodes) → type_option b.nodes k ≡ type_option a.nodes k
+pub option_same : (a b : Content) (k : Option ℕ) → Stays a b → IfSome k (λ j. j < length a.nodes) → type_option b.nodes k ≡ type_option a.nodes k
 option_same a b None t h = refl
 option_same a b (Some k) t h = ap Some (t.nodes.terms k h)
 

@@ -19,7 +19,7 @@ use Rattle.body_verifier.specs.declared.state.State.TheVariants.{Unreached, Stac
 use Rattle.body_verifier.specs.declared.row.Row.{Row}
 use Rattle.body_verifier.specs.declared.stated.Stated.{Stated}
 use Rattle.body_verifier.specs.Frames.{Frame}
-use Rattle.body_verifier.specs.Potential.{changes, ranks, total, potential}
+use Rattle.body_verifier.specs.Potential.{changes, ranks, total, potential, potential_at}
 use Rattle.body_verifier.specs.RowMeanings.{row_meant, IsRowWithin}
 use Rattle.body_verifier.specs.Rows as rows
 use Rattle.body_verifier.specs.StateMeanings.{state_meant, state_or_none, IsStateWithin, typing_of}
@@ -111,17 +111,25 @@ total_list f xs (suc n) h =
 pub cost_total : (n : ℕ) (all : List (List Going)) → length all ≡ n → total (cost_of n all) n ≡ sum_by (charge n) all
 cost_total n all e = total_list (charge n) all n (omega arith) ∙ ap (sum_by (charge n)) (take_all n all (omega arith))
 
-first_budget : (height : SigType → ℕ) (top n : ℕ) (cost : ℕ → ℕ) (typing : typings.Typing) → 0 < n → typing 0 ≡ typings.stack [] → ((k : ℕ) → k ≢ 0 → typing k ≡ typings.unreached)
-    → potential height top cost typing (0 ∷ []) n ≤ (2 + (n + 1) * top) * total cost n
-first_budget height top n cost typing some here there =
-    let u : ℕ → ℕ = λ (k : ℕ). changes height top (n + 1) (typing k) in
-    let all : ℕ = (n + 1) * top + 2 in
-    let first : u 0 ≡ 1 = ap (changes height top (n + 1)) here ∙ first_changes height top (n + 1) in
-    let rest : (k : ℕ) → k ≢ 0 → u k ≡ all = λ k ne. ap (changes height top (n + 1)) (there k ne) ∙ unreached_changes height top (n + 1) in
+first_budget : (height : SigType → ℕ) (top depth n : ℕ) (cost : ℕ → ℕ) (typing : typings.Typing) → 0 < n → typing 0 ≡ typings.stack [] → ((k : ℕ) → k ≢ 0 → typing k ≡ typings.unreached)
+    → potential_at height top depth cost typing (0 ∷ []) n ≤ (2 + depth * top) * total cost n
+first_budget height top depth n cost typing some here there =
+    let u : ℕ → ℕ = λ (k : ℕ). changes height top depth (typing k) in
+    let all : ℕ = depth * top + 2 in
+    let first : u 0 ≡ 1 = ap (changes height top depth) here ∙ first_changes height top depth in
+    let rest : (k : ℕ) → k ≢ 0 → u k ≡ all = λ k ne. ap (changes height top depth) (there k ne) ∙ unreached_changes height top depth in
     let sum = products_fall (λ k. all) u cost n 0 some (omega arith) rest in
     let times = total_times cost all n in
-    let same : all * total cost n ≡ (2 + (n + 1) * top) * total cost n = ap (λ (m : ℕ). m * total cost n) (let e : all ≡ 2 + (n + 1) * top = omega arith in e) in
+    let same : all * total cost n ≡ (2 + depth * top) * total cost n = ap (λ (m : ℕ). m * total cost n) (let e : all ≡ 2 + depth * top = omega arith in e) in
     omega arith
+
+-- where no stack is deeper than `d`
+pub set_out_less : (at : Setup) (w : Content) (states : List State) (n d : ℕ) (cost : ℕ → ℕ) → n ≡ length at.frame.code → 0 < n → states ≡ Stack [] ∷ replicate (n - 1) Unreached
+    → potential_at at.height at.top d cost (typing_of w.nodes states) (0 ∷ []) (length at.frame.code) ≤ (2 + d * at.top) * total cost (length at.frame.code)
+set_out_less at w states n d cost long some is =
+    let m = length at.frame.code in
+    let P : List State → Type 0 = λ (xs : List State). potential_at at.height at.top d cost (typing_of w.nodes xs) (0 ∷ []) m ≤ (2 + d * at.top) * total cost m in
+    subst P (sym is) (first_budget at.height at.top d m cost (typing_of w.nodes (Stack [] ∷ replicate (n - 1) Unreached)) (omega arith) refl (first_meant w.nodes (n - 1)))
 
 pub set_out_budget : (at : Setup) (w : Content) (states : List State) (n : ℕ) (all : List (List Going)) → n ≡ length at.frame.code → 0 < n → length all ≡ length at.frame.code
     → states ≡ Stack [] ∷ replicate (n - 1) Unreached
@@ -129,7 +137,7 @@ pub set_out_budget : (at : Setup) (w : Content) (states : List State) (n : ℕ) 
 set_out_budget at w states n all long some whole is =
     let m = length at.frame.code in
     let P : List State → Type 0 = λ (xs : List State). potential at.height at.top (cost_of m all) (typing_of w.nodes xs) (0 ∷ []) m ≤ step_budget at all in
-    let low = first_budget at.height at.top m (cost_of m all) (typing_of w.nodes (Stack [] ∷ replicate (n - 1) Unreached)) (omega arith) refl (first_meant w.nodes (n - 1)) in
+    let low = first_budget at.height at.top (m + 1) m (cost_of m all) (typing_of w.nodes (Stack [] ∷ replicate (n - 1) Unreached)) (omega arith) refl (first_meant w.nodes (n - 1)) in
     let same = cost_total m all whole in
     let product : (2 + (m + 1) * at.top) * total (cost_of m all) m ≡ step_budget at all = ap (λ (c : ℕ). (2 + (m + 1) * at.top) * c) same in
     subst P (sym is) (omega arith)
@@ -172,6 +180,15 @@ pub taken_budget : (at : Setup) (cost : ℕ → ℕ) (typing : typings.Typing) (
 taken_budget at cost typing n k xs ys e =
     let s : sum_by cost (k ∷ ys) ≡ cost k + sum_by cost ys = sum_by-append cost (k ∷ []) ys ∙ (omega arith) in
     ap (λ (zs : List ℕ). potential at.height at.top cost typing zs n) e ∙ (omega arith)
+
+pub taken_less : (at : Setup) (depth : ℕ) (cost : ℕ → ℕ) (typing : typings.Typing) (n k : ℕ) (xs ys : List ℕ) → xs ≡ k ∷ ys
+    → potential_at at.height at.top depth cost typing xs n ≡ potential_at at.height at.top depth cost typing ys n + cost k
+taken_less at depth cost typing n k xs ys e =
+    let s : sum_by cost (k ∷ ys) ≡ cost k + sum_by cost ys = sum_by-append cost (k ∷ []) ys ∙ (omega arith) in
+    ap (λ (zs : List ℕ). potential_at at.height at.top depth cost typing zs n) e ∙ (omega arith)
+
+pub goings_at : (all : List (List Going)) (k : ℕ) (gs : List Going) → slice_get all k ≡ Some gs → get_or all k [] ≡ gs
+goings_at all k gs at = get_or_from_slice_get all k gs [] at
 
 pub first_pushed : (l m : Waiting) (n : ℕ) → l ≡ record { count = n; numbers = [] } → m ≡ pushed l 0 → (m.numbers ≡ 0 ∷ []) × (m.count ≡ n)
 first_pushed l m n e f =

@@ -1,5 +1,5 @@
 -- Tests of the rules that an instruction breaks whatever the stack is.
-use Rattle.std.specs.Prelude.{ℕ, nat_le, ◌+◌, Bool, true, false, not, ◌&&◌, ◌||◌, nat_eq, nat_lt, List}
+use Rattle.std.specs.Prelude.{ℕ, nat_le, ◌+◌, Bool, true, false, not, ◌&&◌, ◌||◌, nat_eq, slice_index_or, List}
 use Rattle.std.specs.List.{list_any}
 use Rattle.assembly_tree.specs.declared.body.Ins.{Ins}
 use Rattle.assembly_tree.specs.declared.body.Operand as operand
@@ -39,8 +39,8 @@ any_across clauses k ts = list_any (goes_across clauses k) ts
 abbrev pub branches_across_by : List Spans → ℕ → Ins → Bool
 branches_across_by clauses k i = branches (operation i.op) && any_across clauses k (targets i.operand)
 
-abbrev pub falls_across_by : List Spans → ℕ → ℕ → Operation → Bool
-falls_across_by clauses count k o = falls o && nat_lt (k + 1) count && goes_across clauses k (k + 1)
+abbrev pub falls_across_by : List Spans → List Bool → ℕ → Operation → Bool
+falls_across_by clauses marks k o = falls o && slice_index_or marks (k + 1) false && goes_across clauses k (k + 1)
 
 abbrev pub leaves_badly : List Spans → ℕ → ℕ → Bool
 leaves_badly clauses k t = not (may_leave_test clauses k t)

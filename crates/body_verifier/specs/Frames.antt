@@ -4,15 +4,16 @@ use Rattle.std.specs.Prelude.{ℕ, zero, suc, ◌+◌, false, if◌then◌else�
 use Rattle.type_terms.specs.declared.name.Scope.TheVariants.{Here}
 use Rattle.type_terms.specs.declared.name.TypeId.{TypeId}
 use Rattle.type_terms.specs.declared.term.Owner.{Owner}
-use Rattle.type_terms.specs.declared.term.Owner.TheOpen.{SigType-F, Prim, Class, Value, Inst, Var, MVar, SzArray, Array, ByRef, Pointer, Mod, Pinned}
-use Rattle.type_terms.specs.declared.term.SigType.{SigType, out-SigType}
+use Rattle.type_terms.specs.declared.term.SigType.{SigType}
 use Rattle.type_terms.specs.declared.term.SigType.TheVariants as type
 use Rattle.assembly_tree.specs.declared.assembly.Assembly.{Assembly}
 use Rattle.assembly_tree.specs.declared.body.Body.{Body}
 use Rattle.assembly_tree.specs.declared.body.Clause.{Clause}
 use Rattle.assembly_tree.specs.declared.body.Ins.{Ins}
 use Rattle.sig_pool.specs.Replaced.{replaced}
+use Rattle.assignability.specs.Keys.{reading_of}
 use Rattle.assignability.specs.Normal.{Reading, normal, normal_owner}
+use Rattle.assignability.specs.Parts.{type_arguments}
 use Rattle.assignability.specs.Hierarchy.{Hierarchy}
 use Rattle.assignability.specs.Stack.{is_reference}
 use Rattle.body_verifier.specs.Methods.{Declared}
@@ -31,7 +32,7 @@ pub record Frame : Type 0 where
 -- ---- types of the image, normalised
 
 abbrev pub reading : Hierarchy → Reading
-reading w = record { core = w.core; scope = w.scope; is_value = w.is_value }
+reading w = reading_of w
 
 abbrev pub type_in : Hierarchy → SigType → SigType
 type_in w t = normal (reading w) t
@@ -44,23 +45,9 @@ owner_in w o = normal_owner (reading w) o
 
 -- ---- generic arguments
 
-abbrev pub layer_arguments : SigType-F Owner SigType → List SigType
-layer_arguments (Inst value name args) = args
-layer_arguments (Prim p) = []
-layer_arguments (Class name) = []
-layer_arguments (Value name) = []
-layer_arguments (Var n) = []
-layer_arguments (MVar n) = []
-layer_arguments (SzArray of) = []
-layer_arguments (Array of rank sizes lower) = []
-layer_arguments (ByRef of) = []
-layer_arguments (Pointer of) = []
-layer_arguments (Mod required by of) = []
-layer_arguments (Pinned of) = []
-
 -- the generic arguments of an owner
 abbrev pub class_arguments : Hierarchy → Owner → List SigType
-class_arguments w o = layer_arguments (out-SigType (owner_in w o))
+class_arguments w o = type_arguments (owner_in w o)
 
 -- the generic arguments of a method's instantiation
 abbrev pub method_arguments : Hierarchy → Option (List SigType) → List SigType

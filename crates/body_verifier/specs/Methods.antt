@@ -1,8 +1,6 @@
 -- The methods of an assembly by their places, and what is declared (ECMA-335 II.10, II.15, II.16).
-use Rattle.std.specs.Prelude.{◌≡◌, ℕ, Bool, not, nat_eq, bit_and, List, [], ◌∷◌, ◌++◌, codes, length, slice_get, is_some, if◌then◌else◌, Option, None, Some, option_and_then}
+use Rattle.std.specs.Prelude.{◌≡◌, ℕ, Bool, not, nat_eq, bit_and, List, [], ◌∷◌, ◌++◌, length, slice_get, is_some, if◌then◌else◌, Option, None, Some, option_and_then}
 use Rattle.std.specs.List.{Contains, flat_map, enumerate_from}
-use Rattle.type_terms.specs.declared.name.Scope.{Scope}
-use Rattle.type_terms.specs.declared.name.Scope.TheVariants.{Here, Extern}
 use Rattle.type_terms.specs.declared.name.TypeId.{TypeId}
 use Rattle.type_terms.specs.declared.name.TypeName.{TypeName}
 use Rattle.type_terms.specs.declared.reference.FieldRef.{FieldRef}
@@ -17,14 +15,9 @@ use Rattle.assembly_tree.specs.declared.typedef.TypeDef.{TypeDef}
 use Rattle.assembly_tree.specs.declared.typedef.TypeDef.TheOpen.{TypeDef-F}
 use Rattle.assembly_tree.specs.declared.typedef.TypeDef.TheFolds.{fold-TypeDef}
 use Rattle.assembly_tree.specs.declared.typedef.TypeDef.TheViews.{out-TypeDef}
-use Rattle.assembly_tree.specs.DataSize.{type_at}
-use Rattle.assignability.specs.Names.{same_path}
+use Rattle.assignability.specs.Fields.{the_module, fields_of}
 
 -- ---- a method by its place
-
--- the type `<Module>`, which holds the members that stand outside types
-abbrev pub the_module : List TypeId
-the_module = record { space = []; name = codes "<Module>" } ∷ []
 
 -- a method with its type: the type's path, and the number of its generic parameters
 pub record Declared : Type 0 where
@@ -108,19 +101,6 @@ owner_layer_name (Spec t) = layer_name (out-SigType t)
 -- the name of a type as it is written, that of an instantiation included
 abbrev pub written_name : Owner → Option TypeName
 written_name o = owner_layer_name (out-Owner o)
-
-abbrev pub fields_in : Option TypeDef → List Field
-fields_in None = []
-fields_in (Some t) = (out-TypeDef t).fields
-
-abbrev pub fields_by_scope : Assembly → Scope → List TypeId → List Field
-fields_by_scope a Here path = if same_path path the_module then a.fields else fields_in (type_at a.types path)
-fields_by_scope a (Extern k) path = []
-
--- the fields of the type that has that name here
-abbrev pub fields_of : Assembly → Option TypeName → List Field
-fields_of a None = []
-fields_of a (Some name) = fields_by_scope a name.scope name.path
 
 -- the image declares the field: owner, name and type are equal as they are written
 pub record DeclaresField (a : Assembly) (r : FieldRef) (field : Field) : Type 0 where

@@ -47,6 +47,11 @@ one_if_reached clash = 1
 abbrev pub reached : Typing → ℕ → ℕ
 reached typing n = total (λ k. one_if_reached (typing k)) n
 
--- where it costs `cost k` to look at instruction `k` once: what the first `n` and those that wait can still cost
+-- where it costs `cost k` to look at instruction `k` once, and no stack is deeper than `depth`: what the first `n` and those
+-- that wait can still cost
+abbrev pub potential_at : (SigType → ℕ) → ℕ → ℕ → (ℕ → ℕ) → Typing → List ℕ → ℕ → ℕ
+potential_at height top depth cost typing waiting n = total (λ k. changes height top depth (typing k) * cost k) n + sum_by cost waiting
+
+-- no stack of `n` instructions is deeper than one more than those
 abbrev pub potential : (SigType → ℕ) → ℕ → (ℕ → ℕ) → Typing → List ℕ → ℕ → ℕ
-potential height top cost typing waiting n = total (λ k. changes height top (n + 1) (typing k) * cost k) n + sum_by cost waiting
+potential height top cost typing waiting n = potential_at height top (n + 1) cost typing waiting n

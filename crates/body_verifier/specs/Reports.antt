@@ -5,17 +5,13 @@ use Rattle.assembly_tree.specs.declared.body.Body.{Body}
 use Rattle.assembly_tree.specs.declared.typedef.MethodPath.{MethodPath}
 use Rattle.assembly_tree.specs.WellFormedBodies.{offset_of}
 use Rattle.assignability.specs.Hierarchy.{Hierarchy}
+use Rattle.body_verifier.specs.declared.report.Broken.{Broken}
 use Rattle.body_verifier.specs.declared.report.Failure.{Failure}
 use Rattle.body_verifier.specs.Methods.{Declared, method_at, all_methods}
 use Rattle.body_verifier.specs.Frames.{Frame, frame}
 use Rattle.body_verifier.specs.Blocks.{ClausesNest}
 use Rattle.body_verifier.specs.Typings.{Typing, IsLeast}
 use Rattle.body_verifier.specs.Rules.{BreaksFirst}
-
--- an instruction, and the rule that it breaks
-pub record Broken : Type 0 where
-  pub at : ℕ
-  pub rule : ℕ
 
 -- ---- the instructions of a body
 

@@ -1,15 +1,21 @@
 -- What the rows, stacks and frames of the code mean in a pool of types.
 use Rattle.std.specs.Prelude.{◌≡◌, ℕ, ◌<◌, Bool, ◌||◌, List, [], ◌∷◌, map, length, Option, None, Some}
 use Rattle.std.specs.List.{All}
+use Rattle.type_terms.specs.declared.reference.FieldRef.{FieldRef}
+use Rattle.type_terms.specs.declared.reference.MethodRef.{MethodRef}
 use Rattle.type_terms.specs.declared.term.SigType.{SigType}
+use Rattle.assembly_tree.specs.declared.body.Operand as operand
 use Rattle.sig_pool.specs.declared.node.Node.{Node}
 use Rattle.sig_pool.specs.Pool.{Has, HasAll}
 use Rattle.sig_pool.specs.Terms.{AllBelow, term_of}
 use Rattle.assignability.specs.declared.stack_type.StackType.{StackType}
 use Rattle.assignability.specs.Hierarchy.{Hierarchy}
-use Rattle.assignability.specs.Meaning.{meant, IsWithin}
-use Rattle.assignability.specs.Stack.{Stack}
+use Rattle.assignability.specs.Meaning.{meant, IsWithin, Means}
+use Rattle.assignability.specs.Stack.{Stack, stack_of, pointer_to}
+use Rattle.body_verifier.specs.declared.calls.CallParts.{CallParts}
+use Rattle.body_verifier.specs.declared.fields.FieldParts.{FieldParts}
 use Rattle.body_verifier.specs.declared.frame.CodeFrame.{CodeFrame}
+use Rattle.body_verifier.specs.declared.operation.Operation.{Operation}
 use Rattle.body_verifier.specs.declared.row.Demand.{Demand}
 use Rattle.body_verifier.specs.declared.row.Demand.TheVariants.{Nothing, Any, Number, Integer, Index, Object, Condition, Comparable, Exactly, OneOf, To, ObjectPointer, Vector, VectorOf, ObjectVector}
 use Rattle.body_verifier.specs.declared.row.Pairing.{Pairing}
@@ -19,8 +25,9 @@ use Rattle.body_verifier.specs.declared.row.Pushed.TheVariants.{Always, Same, Sa
 use Rattle.body_verifier.specs.declared.row.Row.{Row}
 use Rattle.body_verifier.specs.declared.row.Together.{Together}
 use Rattle.body_verifier.specs.declared.row.Together.TheVariants.{Apart, Paired, Stored}
+use Rattle.body_verifier.specs.declared.naming.Named.{Named}
 use Rattle.body_verifier.specs.Demands as demands
-use Rattle.body_verifier.specs.Frames.{Frame}
+use Rattle.body_verifier.specs.Frames.{Frame, owner_in, class_arguments, method_arguments}
 use Rattle.body_verifier.specs.Rows as rows
 
 -- ---- stacks
@@ -174,3 +181,50 @@ framed w ns v f = record {
 abbrev pub type_option : List Node → Option ℕ → Option SigType
 type_option ns None = None
 type_option ns (Some k) = Some (term_of ns k)
+
+-- ---- what instructions name
+
+-- a key of the type `t`, what its values are on the stack, and a pointer to it
+pub record MeansNamed (ns : List Node) (v : Named) (w : Hierarchy) (t : SigType) : Type 0 where
+  pub key : Has ns v.key t
+  pub value : Means ns v.value (stack_of w t)
+  pub pointer : Means ns v.pointer (pointer_to w t)
+
+-- the owner and the type of a field
+pub record MeansField (ns : List Node) (v : FieldParts) (w : Hierarchy) (r : FieldRef) : Type 0 where
+  pub owner : Has ns v.owner (owner_in w r.owner)
+  pub type : MeansNamed ns v.of w (rows.field_type w r)
+
+abbrev pub field_in : operand.Operand → Option FieldRef
+field_in (operand.TheVariants.Field r) = Some r
+field_in o = None
+
+-- the row of an instruction on the field that its operand names, where it names one
+abbrev pub field_row_by : Hierarchy → Option SigType → Operation → Option FieldRef → rows.Row
+field_row_by w constrained o None = rows.row [] []
+field_row_by w constrained o (Some r) = rows.field_row w constrained o r
+
+pub record IsCallWithin (n : ℕ) (v : CallParts) : Type 0 where
+  pub owner : v.owner < n
+  pub class_args : AllBelow n v.class_args
+  pub method_args : AllBelow n v.method_args
+
+-- the owner of a method, and the generic arguments
+pub record MeansCall (ns : List Node) (v : CallParts) (w : Hierarchy) (m : MethodRef) : Type 0 where
+  pub owner : Has ns v.owner (owner_in w m.owner)
+  pub class_args : HasAll ns v.class_args (class_arguments w m.owner)
+  pub method_args : HasAll ns v.method_args (method_arguments w m.args)
+
+abbrev pub method_in : operand.Operand → Option MethodRef
+method_in (operand.TheVariants.Method m) = Some m
+method_in o = None
+
+-- the row of a call of the method that its operand names, where it names one
+abbrev pub method_row_by : Hierarchy → Option SigType → Operation → Option MethodRef → rows.Row
+method_row_by w constrained o None = rows.row [] []
+method_row_by w constrained o (Some m) = rows.method_row w constrained o (operand.TheVariants.Method m)
+
+-- the value that is returned, or none
+abbrev pub MeansResult : List Node → Option StackType → List rows.Pushed → Type 0
+MeansResult ns None ps = ps ≡ []
+MeansResult ns (Some s) ps = (x : Stack) × (ps ≡ rows.pushes x) × Means ns s x

@@ -1,5 +1,5 @@
 -- On the way to the least typing of a body.
-use Rattle.std.specs.Prelude.{◌≡◌, ℕ, ◌+◌, ◌*◌, ◌<◌, ◌≤◌, true, List, [], ◌∷◌, length, slice_get, slice_set, get_or, Option, Some}
+use Rattle.std.specs.Prelude.{◌≡◌, ℕ, ◌+◌, ◌*◌, ◌<◌, ◌≤◌, min, true, List, [], ◌∷◌, length, slice_get, slice_set, get_or, Option, Some}
 use Rattle.std.specs.List.{All, sum_by}
 use Rattle.type_terms.specs.declared.term.SigType.{SigType}
 use Rattle.assembly_tree.specs.declared.body.Ins.{Ins}
@@ -19,7 +19,7 @@ use Rattle.body_verifier.specs.Frames.{Frame}
 use Rattle.body_verifier.specs.Goings.{found_in}
 use Rattle.body_verifier.specs.Laws.{AreMonotone}
 use Rattle.body_verifier.specs.Meetings.{IsNewMeeting, IsMeeting}
-use Rattle.body_verifier.specs.Potential.{IsLow, reached, potential}
+use Rattle.body_verifier.specs.Potential.{IsLow, reached, potential, potential_at}
 use Rattle.body_verifier.specs.RowMeanings.{row_meant, IsRowWithin}
 use Rattle.body_verifier.specs.Rows as rows
 use Rattle.body_verifier.specs.StateMeanings.{state_meant, IsStateWithin, typing_of}
@@ -75,6 +75,40 @@ pub record IsUnderWay (at : Setup) (ns : List Node) (states : List State) (waiti
 abbrev pub HasNoMore : Setup → typings.Typing → List ℕ → typings.Typing → List ℕ → Type 0
 HasNoMore at old old_waiting new new_waiting =
     (cost : ℕ → ℕ) → potential at.height at.top cost new new_waiting (length at.frame.code) ≤ potential at.height at.top cost old old_waiting (length at.frame.code)
+
+-- ---- where stacks are no deeper than that
+
+-- at most each solution
+abbrev pub IsUnderAll : Frame → typings.Typing → Type 0
+IsUnderAll f typing = (other : typings.Typing) → typings.IsSolution f other → typings.IsAtMost f typing other
+
+-- what is known on the way has no deeper stacks
+abbrev pub IsDepth : Frame → ℕ → Type 0
+IsDepth f depth = (typing : typings.Typing) → IsUnderAll f typing → (k : ℕ) → k < length f.code → IsLow depth (typing k)
+
+-- the same where stacks are no deeper than that
+abbrev pub HasLessAt : ℕ → Setup → typings.Typing → List ℕ → typings.Typing → List ℕ → Type 0
+HasLessAt depth at old old_waiting new new_waiting =
+    (cost : ℕ → ℕ) → potential_at at.height at.top depth cost new new_waiting (length at.frame.code) ≤ potential_at at.height at.top depth cost old old_waiting (length at.frame.code)
+
+-- the joins that one edge can take there
+abbrev pub depth_charge : ℕ → Carried → ℕ
+depth_charge d Flowing = d
+depth_charge d Nothing = 0
+depth_charge d Object = min 1 d
+depth_charge d (Caught k) = min 1 d
+
+abbrev pub depth_charges : ℕ → List Going → ℕ
+depth_charges d all = sum_by (λ (g : Going). depth_charge d g.carries) all
+
+-- `cost k` is enough for instruction `k`, if it is reached
+abbrev pub IsCost : Frame → ℕ → List (List Going) → (ℕ → ℕ) → Type 0
+IsCost f d all cost = (k : ℕ) (typing : typings.Typing) → k < length f.code → IsUnderAll f typing → (typing k ≡ typings.unreached → ⊥) → depth_charges d (get_or all k []) ≤ cost k
+
+-- no two edges lead from a reached instruction to one, one that brings what it leaves and one that states a stack
+abbrev pub FlowsApart : Frame → Type 0
+FlowsApart f = (typing : typings.Typing) (k t : ℕ) (xs : List Stack) → k < length f.code → t < length f.code → IsUnderAll f typing → (typing k ≡ typings.unreached → ⊥)
+    → edges.Edge f k t edges.flowing → edges.Edge f k t (edges.stated xs) → ⊥
 
 -- ---- rows and edges
 

@@ -1,4 +1,4 @@
-ghost use Rattle.std.specs.Prelude.{◌≡◌, ◌↔◌, ℕ, ◌<◌, ◌-◌, ◌^◌, List, map, length, slice_get, IsTrue, Some};
+ghost use Rattle.std.specs.Prelude.{◌≡◌, ◌↔◌, ℕ, ◌<◌, ◌-◌, ◌^◌, List, map, length, slice_get, slice_index_or, false, IsTrue, Some};
 ghost use Rattle.std.specs.List.{list_any};
 ghost use Rattle.body_verifier.specs.Blocks.{ClausesNest};
 ghost use Rattle.body_verifier.specs.BlockTests.{spans_of};
@@ -6,6 +6,7 @@ ghost use Rattle.body_verifier.specs.CodeRules.{RunsOff, ReturnsInside, Branches
 ghost use Rattle.body_verifier.specs.CodeTests.{runs_off_by, has_inside, is_inside, is_return, returns_inside_by, goes_across, any_across, branches_across_by, falls_across_by, leaves_badly, misplaced_by, is_unlisted, unverified_by};
 ghost use Rattle.body_verifier.specs.Edges.{targets};
 ghost use Rattle.body_verifier.specs.Frames.{Frame};
+ghost use Rattle.body_verifier.specs.Marks.{HaveMarks};
 ghost use Rattle.body_verifier.specs.Operations.{operation};
 ghost use Rattle.body_verifier.specs.Rules.{calls, states_this};
 
@@ -108,11 +109,21 @@ fn branches_out(clauses: &[Spans], k: u32, ins: &Ins) -> bool
     operation_of(ins.op).branches() && any_across(clauses, k, targets_of(&ins.operand))
 }
 
-fn falls_out(clauses: &[Spans], count: u32, k: u32, ins: &Ins) -> bool
-    requires { k < count }
-    ensures { result ≡ falls_across_by clauses.now count k (operation ins.now.op) }
+/// Whether there is a mark at a place.
+fn is_marked(marks: &[bool], at: u32) -> bool
+    ensures { result ≡ slice_index_or marks.now at false }
 {
-    operation_of(ins.op).falls() && k + 1 < count && goes_across(clauses, k, k + 1)
+    match marks.get(at as usize) {
+        Some(mark) => *mark,
+        None => false,
+    }
+}
+
+fn falls_out(clauses: &[Spans], marks: &[bool], k: u32, ins: &Ins) -> bool
+    requires { k < 2 ^ 32 - 1 }
+    ensures { result ≡ falls_across_by clauses.now marks.now k (operation ins.now.op) }
+{
+    operation_of(ins.op).falls() && is_marked(marks, k + 1) && goes_across(clauses, k, k + 1)
 }
 
 fn leaves_badly(clauses: &[Spans], k: u32, t: u32) -> bool
@@ -171,12 +182,13 @@ pub(crate) fn branches_across(clauses: &[Spans], k: u32, ins: &Ins) -> bool
     branches_out(clauses, k, ins)
 }
 
-/// Whether instruction `k` of `count` falls to the next, and the step isn't level (V13).
-pub(crate) fn falls_across(clauses: &[Spans], count: u32, k: u32, ins: &Ins) -> bool
-    requires { k < count }
-    ensures { (f : Frame) → slice_get f.code k ≡ Some ins.now → length f.code ≡ count → clauses.now ≡ map spans_of f.clauses → (IsTrue result ↔ FallsAcross f k) }
+/// Whether instruction `k` falls to the next, and the step isn't level (V13); `marks` tell to which instructions control
+/// may come from elsewhere.
+pub(crate) fn falls_across(clauses: &[Spans], marks: &[bool], k: u32, ins: &Ins) -> bool
+    requires { k < 2 ^ 32 - 1 }
+    ensures { (f : Frame) → slice_get f.code k ≡ Some ins.now → HaveMarks f marks.now → clauses.now ≡ map spans_of f.clauses → (IsTrue result ↔ FallsAcross f k) }
 {
-    falls_out(clauses, count, k, ins)
+    falls_out(clauses, marks, k, ins)
 }
 
 /// Whether instruction `k` is a `leave`, `rethrow`, `endfinally` or `endfilter` out of its place (V15).

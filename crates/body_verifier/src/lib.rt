@@ -1,42 +1,60 @@
 //! Which instructions of a method's body break the rules of verifiable code (ECMA-335 III.1.8).
 //!
-//! What stands: the definitions (`specs/`), their laws, what each opcode does, blocks and level steps, where
-//! `leave` and the ends of handlers may stand, the edges of a body, the rules that ask no stack, the worklist,
-//! the texts of the rules and the report. The check of a method isn't written yet.
+//! `check_method` answers the failures of one method: for each instruction that control reaches the first rule that it
+//! breaks in the least typing of the body. Its parts: what each opcode does, blocks and level steps, the edges of a body,
+//! the rows of instructions, the least typing by the instructions that wait, and the rules.
 #![tactic(auto)]
 
 mod alike;
 mod asking;
 mod blocks;
+mod calls;
+mod checking;
+mod code_breaks;
+mod code_marks;
 mod code_rules;
+mod declaring;
 mod effect;
+mod fields;
+mod finding;
 mod flowing;
 mod frame;
+mod framing;
 mod goings;
 mod guarding;
+mod judging;
 mod kinds;
 mod laws;
 mod leaving;
 mod making;
 mod marks;
 mod meeting;
+mod naming;
+mod naming_rules;
 mod operands;
 mod operation;
 mod pairs;
 mod places;
 mod prefixes;
+mod primitive_rows;
 mod report;
 mod row;
+mod rows;
 mod rule;
+mod sizes;
 mod solving;
 mod stack;
 mod state;
 mod stated;
 mod type_kinds;
+mod type_rows;
 mod variable_rules;
 mod variables;
+mod verdicts;
 mod worklist;
 
+pub use checking::check_method;
+pub use finding::has_body;
 pub use laws::{a_body_has_one_least_typing, instructions_are_monotone, paths_are_right};
 pub use report::{Failure, Report};
 pub use rule::rule_text;

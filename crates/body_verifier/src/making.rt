@@ -24,6 +24,18 @@ pub(crate) fn plain(alloc: Global, operands: &[Demand], pushed: &[Pushed]) -> Re
     })
 }
 
+/// The row of lists of what is asked and pushed. Takes no memory.
+pub(crate) fn made(operands: Items<Demand>, pushed: Items<Pushed>) -> Row
+    ensures { (ns : List Node) (os : List demands.Demand) (ps : List rows.Pushed) → AllZip (MeansDemand ns) operands os → AllZip (MeansPushed ns) pushed ps → MeansRow ns result (rows.row os ps) }
+{
+    Row {
+        operands,
+        together: Together::Apart,
+        pushed,
+        empties: false,
+    }
+}
+
 /// The row of an operation on a pair.
 pub(crate) fn pair(alloc: Global, pairing: Pairing, pushed: &[Pushed]) -> Result<Row, NoMemory>
     ensures { (ns : List Node) (ps : List rows.Pushed) → AllZip (MeansPushed ns) pushed.now ps → IfOk result (λ r. MeansRow ns r (rows.pair_row (pairing_meant pairing) ps)) }

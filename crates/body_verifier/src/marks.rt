@@ -1,4 +1,4 @@
-ghost use Rattle.std.specs.Prelude.{◌≡◌, List, map, IfOk};
+ghost use Rattle.std.specs.Prelude.{◌≡◌, List, map, length, IfOk};
 ghost use Rattle.body_verifier.specs.BlockTests.{spans_of};
 ghost use Rattle.body_verifier.specs.Frames.{Frame};
 ghost use Rattle.body_verifier.specs.Marks.{HaveMarks, set_mark, marked, filter_places, span_places, marked_code, marked_clauses, all_marks};
@@ -9,7 +9,8 @@ use assembly_tree::Ins;
 use il_lists::NoMemory;
 use std::alloc::Global;
 
-fn mark(marks: &mut Vec<bool>, place: u32)
+/// Sets the mark at a place, where there is one.
+pub(crate) fn mark(marks: &mut Vec<bool>, place: u32)
     ensures { marks.new.items ≡ set_mark marks.old.items place }
 {
     if (place as usize) < marks.len() {
@@ -77,7 +78,8 @@ pub(crate) fn marks_of(
     code: &[Ins],
     clauses: &[Spans],
 ) -> Result<Vec<bool>, NoMemory>
-    ensures { IfOk result (λ marks. (f : Frame) → f.code ≡ code.now → clauses.now ≡ map spans_of f.clauses → HaveMarks f marks.items) }
+    ensures are { IfOk result (λ marks. (f : Frame) → f.code ≡ code.now → clauses.now ≡ map spans_of f.clauses → HaveMarks f marks.items) }
+    ensures count { IfOk result (λ marks. length marks.items ≡ length code.now) }
 {
     let marks = all_marks(alloc, code, clauses)?;
     Ok(marks)

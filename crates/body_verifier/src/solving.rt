@@ -1,5 +1,5 @@
 //! The least typing of a body, by the instructions that wait.
-ghost use Rattle.std.specs.Prelude.{◌≡◌, ℕ, List, ◌+◌, ◌-◌, ◌<◌, ◌≤◌, ◌^◌, [], ◌∷◌, length, min, replicate, slice_get, Some, IfOk, OnOk};
+ghost use Rattle.std.specs.Prelude.{◌≡◌, ℕ, List, ◌+◌, ◌-◌, ◌*◌, ◌<◌, ◌≤◌, ◌^◌, [], ◌∷◌, length, min, replicate, slice_get, Some, IfOk, OnOk};
 ghost use Rattle.std.specs.List.{All};
 ghost use Rattle.assignability.specs.World.{hierarchy, Stays};
 ghost use Rattle.body_verifier.specs.Goings.{IsGoings};
@@ -8,7 +8,9 @@ ghost use Rattle.body_verifier.specs.RowMeanings.{row_meant, IsRowWithin};
 ghost use Rattle.body_verifier.specs.StateMeanings.{state_meant, IsStateWithin, state_depth, depth_or_none, typing_of};
 ghost use Rattle.assembly_tree.specs.declared.body.Ins.{Ins};
 ghost use Rattle.body_verifier.specs.Rows.{row_of};
-ghost use Rattle.body_verifier.specs.Ways.{Setup, IsSetUp, IsUnderWay, IsSolved, HasNoMore, flows, AreRows, AreStated, AreStatedFor, AreWays, AreAllWays, Raises, charge, step_budget};
+ghost use Rattle.body_verifier.specs.Potential.{total};
+ghost use Rattle.body_verifier.specs.Typings as typings;
+ghost use Rattle.body_verifier.specs.Ways.{Setup, IsSetUp, IsUnderWay, IsSolved, IsCost, IsDepth, FlowsApart, HasNoMore, HasLessAt, flows, AreRows, AreStated, AreStatedFor, AreWays, AreAllWays, Raises, charge, depth_charges, step_budget};
 
 use crate::effect::stack_after;
 use crate::goings::{Going, Goings};
@@ -92,6 +94,8 @@ fn follow(
     ensures count { OnOk result (list.new.count ≡ list.old.count) }
     ensures stays { Stays w.old w.new }
     ensures steps { steps.new ≤ steps.old + charge (length at.frame.code) goings.now }
+    ensures less { (d : ℕ) → IsDepth at.frame d → OnOk result (HasLessAt d at (typing_of w.old.nodes states.old) list.old.numbers (typing_of w.new.nodes states.new) list.new.numbers) }
+    ensures few { (d m : ℕ) → IsDepth at.frame d → ((typing_of w.old.nodes states.old k ≡ typings.unreached → ⊥) → depth_charges d goings.now ≤ m) → steps.new ≤ steps.old + m }
 {
     keys_keep_their_types();
     let known = states.at(k as usize);
@@ -143,6 +147,7 @@ pub(crate) fn solve(
     ensures ok { IfOk result (λ states. IsSolved at.frame w.new.nodes states) }
     ensures stays { Stays w.old w.new }
     ensures steps { steps.new ≤ steps.old + step_budget at goings.now }
+    ensures shallow { (d : ℕ) (cost : ℕ → ℕ) → IsDepth at.frame d → IsCost at.frame d goings.now cost → IfOk result (λ _. steps.new ≤ steps.old + (2 + d * at.top) * total cost (length at.frame.code)) }
 {
     let mut states = first_states(alloc, rows.len())?;
     let mut list = Worklist::new(alloc, rows.len() as u32)?;
@@ -168,7 +173,8 @@ pub(crate) fn solve(
 
 /// The least typing of a body by its instructions' rows and edges, with the bound on the joins that it
 /// takes: for each pair of instructions with an edge, one for each value and for each time that what is
-/// known before an instruction can change.
+/// known before an instruction can change. Where stacks are no deeper than `d`, and what an instruction leaves
+/// goes apart from what its edges state, it takes no more values than `d`.
 pub(crate) fn least_typing(
     alloc: Global,
     w: &mut World,
@@ -187,6 +193,7 @@ pub(crate) fn least_typing(
     ensures ok { IfOk result (λ states. IsSolved at.frame w.new.nodes states) }
     ensures stays { Stays w.old w.new }
     ensures bound { (pairs : List (ℕ × ℕ)) → AreEdges at.frame pairs → steps.new ≤ steps.old + step_bound (length pairs) (length at.frame.code + 1) at.top }
+    ensures shallow { (d : ℕ) (pairs : List (ℕ × ℕ)) → IsDepth at.frame d → FlowsApart at.frame → AreEdges at.frame pairs → IfOk result (λ _. steps.new ≤ steps.old + step_bound (length pairs) d at.top) }
 {
     solve(alloc, w, rows, goings, stated, steps)
 }

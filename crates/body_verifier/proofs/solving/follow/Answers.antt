@@ -1,10 +1,12 @@
 use Rattle.std.proofs.Common.{◌≡◌, ◌∙◌, ◌∷◌, ◌<◌, sym, ap, subst, ℕ, arith, length, List}
 use Rattle.body_verifier.specs.declared.state.State.{State}
 use Rattle.body_verifier.specs.StateMeanings.{state_depth, typing_of, IsStateWithin}
+use Rattle.body_verifier.specs.Typings as typings
 use Rattle.body_verifier.specs.Ways.{Raises}
 use Rattle.assignability.specs.World.{hierarchy}
-use Rattle.body_verifier.proofs.EdgeLoop.{IsSetOff, IsFollowing, asks_within, asks_target, asks_room, follows_more, target_of}
-use Rattle.body_verifier.proofs.EdgeStart.{set_off, follows_none, all_followed_at, no_more_from, unreached_settled, unreached_true, unreached_false, within_there}
+use Rattle.body_verifier.proofs.EdgeLoop.{IsSetOff, IsFollowing, asks_within, asks_target, asks_room, asks_few, less_low, follows_more, target_of}
+use Rattle.body_verifier.proofs.EdgeStart.{set_off, follows_none, all_followed_at, no_more_from, less_from, unreached_settled, unreached_true, unreached_false, within_there}
+use Rattle.body_verifier.proofs.FollowLemmas.{typing_kept}
 use Rattle.body_verifier.proofs.solving.follow.Goals as goal
 
 pub returns-then-is_unreached-clause-ok : goal.returns-then-is_unreached-clause-ok
@@ -82,3 +84,27 @@ returns-clause-no_more g c =
     let i = c.loop-going.invariant in
     no_more_from g.at c.args.w.now c.state_after.new.w c.args.states.now c.args.list.now.numbers c.loop-going.list.numbers (typing_of c.loop-going.w.nodes c.loop-going.states)
     (c.keys_keep_their_types.ensures.keys c.args.w.now c.state_after.new.w c.in_ok-after.ensures.stays) c.requires.1.0.within i.1.no_more
+
+pub returns-in_err-raise-clause-few : goal.returns-in_err-raise-clause-few
+returns-in_err-raise-clause-few g c = λ d m deep enough.
+    let i = c.loop-going.invariant in
+    let same = typing_kept c.args.w.now c.state_after.new.w c.args.states.now (c.keys_keep_their_types.ensures.keys c.args.w.now c.state_after.new.w c.in_ok-after.ensures.stays) c.requires.1.0.within in
+    let low = enough (λ e. i.0.known (ap (λ (t : typings.Typing). t c.args.k) same ∙ e)) in
+    let room = asks_few g.at c.args.k c.args.stated.now _ c.args.goings.now c.state_after.new.w c.args.states.now c.args.list.now c.args.steps.now
+    c.loop-going.w c.loop-going.states c.loop-going.list c.loop-going.steps c.loop-going.going-index d (omega arith) i.0 i.1 deep in
+    omega (arith, room, low, ap state_depth c.along-comes.ensures, c.raise.ensures.steps)
+
+pub returns-clause-less : goal.returns-clause-less
+returns-clause-less g c = λ d deep.
+    let i = c.loop-going.invariant in
+    less_from g.at d c.args.w.now c.state_after.new.w c.args.states.now c.args.list.now.numbers c.loop-going.list.numbers (typing_of c.loop-going.w.nodes c.loop-going.states)
+    (c.keys_keep_their_types.ensures.keys c.args.w.now c.state_after.new.w c.in_ok-after.ensures.stays) c.requires.1.0.within (i.1.less d deep)
+
+pub returns-clause-few : goal.returns-clause-few
+returns-clause-few g c = λ d m deep enough.
+    let i = c.loop-going.invariant in
+    let same = typing_kept c.args.w.now c.state_after.new.w c.args.states.now (c.keys_keep_their_types.ensures.keys c.args.w.now c.state_after.new.w c.in_ok-after.ensures.stays) c.requires.1.0.within in
+    let low = enough (λ e. i.0.known (ap (λ (t : typings.Typing). t c.args.k) same ∙ e)) in
+    let few = i.1.few d deep in
+    let most = less_low d c.args.goings.now c.loop-going.going-index in
+    omega (arith, few, most, low)

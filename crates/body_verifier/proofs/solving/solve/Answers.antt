@@ -1,12 +1,13 @@
-use Rattle.std.proofs.Common.{◌≡◌, ◌∙◌, ◌∷◌, [], ◌<◌, ◌≤◌, ◌+◌, sym, ap, subst, ℕ, arith, length, List, refl}
+use Rattle.std.proofs.Common.{◌≡◌, ◌∙◌, ◌∷◌, [], ◌<◌, ◌≤◌, ◌+◌, ◌*◌, sym, ap, subst, ℕ, arith, length, List, refl}
 use Rattle.assignability.specs.World.{hierarchy}
-use Rattle.body_verifier.specs.Potential.{potential}
+use Rattle.body_verifier.specs.Potential.{potential, potential_at, total}
+use Rattle.body_verifier.specs.Typings as typings
 use Rattle.body_verifier.specs.StateMeanings.{typing_of}
 use Rattle.body_verifier.specs.declared.goings.Going.{Going}
 use Rattle.body_verifier.specs.Waiting.{Waiting}
-use Rattle.body_verifier.specs.Ways.{IsUnderWay, AreWays, charge, step_budget}
+use Rattle.body_verifier.specs.Ways.{IsUnderWay, AreWays, charge, depth_charges, step_budget}
 use Rattle.body_verifier.proofs.EdgeStart.{setup_kept, stated_kept, stays_itself}
-use Rattle.body_verifier.proofs.SolveLemmas.{cost_of, set_out, set_out_budget, row_ready, ways_ready, charge_is, first_pushed, taken_budget}
+use Rattle.body_verifier.proofs.SolveLemmas.{cost_of, set_out, set_out_budget, set_out_less, taken_less, goings_at, row_ready, ways_ready, charge_is, first_pushed, taken_budget}
 use Rattle.body_verifier.proofs.solving.solve.Goals as goal
 
 pub loop-k-init : goal.loop-k-init
@@ -19,8 +20,17 @@ loop-k-init g c =
     let P : List ℕ → Type 0 = λ (xs : List ℕ). IsUnderWay g.at c.args.w.now.nodes c.in_ok-states.states xs in
     let Q : List ℕ → Type 0 = λ (xs : List ℕ).
     potential g.at.height g.at.top (cost_of (length g.at.frame.code) c.args.goings.now) (typing_of c.args.w.now.nodes c.in_ok-states.states) xs (length g.at.frame.code) ≤ step_budget g.at c.args.goings.now in
-    let low = subst Q (sym waits) (set_out_budget g.at c.args.w.now c.in_ok-states.states n c.args.goings.now long some c.requires.1.1.0.long c.in_ok-states.ensures) in
-    (stays_itself c.args.w.now, subst P (sym waits) (set_out g.at c.args.w.now c.in_ok-states.states n long some c.in_ok-states.ensures), first.1 ∙ c.len-2.ensures ∙ c.requires.1.0.long, omega (arith, low))
+    let low = subst Q (sym waits) (set_out_budget g.at c.args.w.now c.in_ok-states.states n c.args.goings.now long some c.requires.1.1.0.long c.in_ok-states.ensures) in (
+      stays_itself c.args.w.now,
+      subst P (sym waits) (set_out g.at c.args.w.now c.in_ok-states.states n long some c.in_ok-states.ensures),
+      first.1 ∙ c.len-2.ensures ∙ c.requires.1.0.long,
+      omega (arith, low),
+      λ d cost deep enough.
+          let R : List ℕ → Type 0 = λ (xs : List ℕ).
+          potential_at g.at.height g.at.top d cost (typing_of c.args.w.now.nodes c.in_ok-states.states) xs (length g.at.frame.code) ≤ (2 + d * g.at.top) * total cost (length g.at.frame.code) in
+          let least = subst R (sym waits) (set_out_less g.at c.args.w.now c.in_ok-states.states n d cost long some c.in_ok-states.ensures) in
+          omega (arith, least),
+    )
 
 pub follow-requires : goal.follow-requires
 follow-requires g c =
@@ -54,6 +64,16 @@ loop-k-preserved g c =
       c.in_ok-follow.ensures.ok,
       c.in_ok-follow.ensures.count ∙ sym count ∙ i.2,
       omega (arith, taken, charged, less, i.3, c.in_ok-follow.ensures.steps),
+      λ d m deep enough.
+          let typing = typing_of c.loop-k.w.nodes c.loop-k.states in
+          let below : c.in-Some.k < length g.at.frame.code = omega (arith, c.in-Some.ensures.below, count, i.2) in
+          let one = taken_less g.at d m typing n c.in-Some.k c.loop-k.list.numbers c.pop.new.self.numbers numbers in
+          let C : List Going → Type 0 = λ (x : List Going). depth_charges d x ≤ m c.in-Some.k in
+          let cheap : (typing c.in-Some.k ≡ typings.unreached → ⊥) → depth_charges d c.as_slice-from.result.now ≤ m c.in-Some.k = λ reached.
+          subst C (goings_at c.args.goings.now c.in-Some.k c.at.result.now c.at.ensures ∙ sym c.as_slice-from.ensures) (enough c.in-Some.k typing below i.1.way.below reached) in
+          let spent = c.in_ok-follow.ensures.few d (m c.in-Some.k) deep cheap in
+          let fell = c.in_ok-follow.ensures.less d deep m in
+          omega (arith, one, spent, fell, i.4 d m deep enough),
     )
 
 pub returns-in_err-follow-clause-steps : goal.returns-in_err-follow-clause-steps

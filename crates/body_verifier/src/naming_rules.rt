@@ -1,0 +1,165 @@
+//! The rules on the member or the variable that an instruction names (V10, V19). Nothing here takes memory.
+ghost use Rattle.std.specs.Prelude.{◌≡◌, ◌↔◌, ◌<◌, ℕ, length, slice_get, codes, IsTrue, Some};
+ghost use Rattle.sig_pool.specs.Terms.{AllBelow};
+ghost use Rattle.assignability.specs.Indexed.{KnowsTypes};
+ghost use Rattle.assignability.specs.Names.{same_text};
+ghost use Rattle.body_verifier.specs.Frames.{Frame};
+ghost use Rattle.body_verifier.specs.Judging.{Misfits, PointsToReference};
+ghost use Rattle.body_verifier.specs.MemberTests.{IsOther, HasOther, is_reference_there, addresses_reference};
+ghost use Rattle.body_verifier.specs.Methods.{is_static};
+ghost use Rattle.body_verifier.specs.Operations.{operation};
+ghost use Rattle.body_verifier.specs.RowMeanings.{type_option, MeansFrame, IsFrameWithin};
+ghost use Rattle.body_verifier.specs.Rows.{variable};
+ghost use Rattle.body_verifier.specs.Rules.{misfits_method, wants_static, MisfitsField, MisfitsMember};
+
+use crate::declaring::fields_of;
+use crate::frame::CodeFrame;
+use crate::operation::{Operation, operation_of};
+use crate::type_kinds::is_by_reference;
+use crate::variables::variable_key;
+use assembly_tree::{Assembly, Field, Ins, Operand};
+use assignability::types::World;
+use assignability::{TypeKeys, id_of};
+use std::cmp::Ordering;
+use type_terms::{FieldRef, MethodRef, SigType, compare_terms};
+
+impl Operation {
+    /// Whether it wants a static field, where it wants a field (ECMA-335 III.4.10 to III.4.30).
+    fn wants_static(self) -> Option<bool>
+        ensures { result ≡ wants_static self }
+    {
+        match self {
+            Operation::LoadField | Operation::FieldAddress | Operation::StoreField => Some(false),
+            Operation::LoadStatic | Operation::StaticAddress | Operation::StoreStatic => Some(true),
+            _ => None,
+        }
+    }
+}
+
+/// Whether a method has the name of instance constructors.
+fn is_constructor(m: &MethodRef) -> bool
+    ensures { result ≡ same_text m.now.name (codes ".ctor") }
+{
+    m.name.as_bytes() == ".ctor".as_bytes()
+}
+
+/// Whether a method doesn't fit the instruction: `newobj` wants an instance method `.ctor`, `callvirt` an instance
+/// method (ECMA-335 III.4.21, III.4.2).
+fn misfits_method(does: Operation, m: &MethodRef) -> bool
+    ensures { result ≡ misfits_method does m.now }
+{
+    match does {
+        Operation::NewObject => !m.sig.has_this || !is_constructor(m),
+        Operation::CallVirtual => !m.sig.has_this,
+        _ => false,
+    }
+}
+
+fn is_static(field: &Field) -> bool
+    ensures { result ≡ is_static field.now }
+{
+    field.flags & 0x10 != 0
+}
+
+fn has_same_name(field: &Field, r: &FieldRef) -> bool
+    ensures { IsTrue result ↔ (field.now.name ≡ r.now.name) }
+{
+    field.name.as_bytes() == r.name.as_bytes()
+}
+
+fn is_same_type(t: &SigType, u: &SigType) -> bool
+    ensures { IsTrue result ↔ (t.now ≡ u.now) }
+{
+    match compare_terms(t, u) {
+        Ordering::Equal => true,
+        Ordering::Less | Ordering::Greater => false,
+    }
+}
+
+/// Whether a field has the name and the type of a reference, and isn't static where a static one is wanted, or the other
+/// way round.
+fn is_other(field: &Field, r: &FieldRef, wanted: bool) -> bool
+    ensures { IsTrue result ↔ IsOther r.now wanted field.now }
+{
+    wanted != is_static(field) && has_same_name(field, r) && is_same_type(&field.of, &r.of)
+}
+
+/// Whether one of some fields is such a field.
+pub(crate) fn misfits_field(fields: &[Field], r: &FieldRef, wanted: bool) -> bool
+    ensures { IsTrue result ↔ HasOther fields.now r.now wanted }
+{
+    for field in fields {
+        if is_other(field, r, wanted) {
+            return true;
+        }
+    }
+    false
+}
+
+/// Whether a field that the image declares is static where the instruction wants one of an instance, or the other way
+/// round.
+fn misfits_declared(w: &World, a: &Assembly, does: Operation, r: &FieldRef) -> bool
+    requires { KnowsTypes a.now w.now.tables }
+    ensures { (f : Frame) → f.image ≡ a.now → (IsTrue result ↔ MisfitsField f does r.now) }
+{
+    match does.wants_static() {
+        Some(wanted) => misfits_field(fields_of(w, a, &r.owner), r, wanted),
+        None => false,
+    }
+}
+
+fn misfits_operand(w: &World, a: &Assembly, does: Operation, operand: &Operand) -> bool
+    requires { KnowsTypes a.now w.now.tables }
+    ensures { (f : Frame) → f.image ≡ a.now → (IsTrue result ↔ MisfitsMember f does operand.now) }
+{
+    match operand {
+        Operand::Method(m) => misfits_method(does, m),
+        Operand::Field(r) => misfits_declared(w, a, does, r),
+        Operand::Nothing => false,
+        Operand::Var(_) => false,
+        Operand::Int(_) => false,
+        Operand::Real(_) => false,
+        Operand::Target(_) => false,
+        Operand::Targets(_) => false,
+        Operand::Of(_) => false,
+        Operand::Text(_) => false,
+    }
+}
+
+/// Whether an instruction of a body of the image names a member that doesn't fit it (V10). The world is one of that image.
+pub(crate) fn misfits(w: &World, a: &Assembly, ins: &Ins) -> bool
+    requires { KnowsTypes a.now w.now.tables }
+    ensures { (f : Frame) (k : ℕ) → f.image ≡ a.now → slice_get f.code k ≡ Some ins.now → (IsTrue result ↔ Misfits f k) }
+{
+    misfits_operand(w, a, operation_of(ins.op), &ins.operand)
+}
+
+/// Whether the variable of an instruction is a pointer.
+fn is_reference(w: &World, keys: &TypeKeys, ins: &Ins) -> bool
+    requires { AllBelow (length w.now.nodes) keys.now }
+    ensures { result ≡ is_reference_there (type_option w.now.nodes (slice_get keys.now (variable ins.now))) }
+{
+    match variable_key(keys, ins) {
+        Some(key) => is_by_reference(w.pool(), id_of(&key)),
+        None => false,
+    }
+}
+
+fn addresses_reference(w: &World, frame: &CodeFrame, ins: &Ins) -> bool
+    requires { IsFrameWithin (length w.now.nodes) frame.now }
+    ensures { result ≡ addresses_reference w.now.nodes frame.now (variable ins.now) (operation ins.now.op) }
+{
+    match operation_of(ins.op) {
+        Operation::ArgumentAddress => is_reference(w, &frame.arguments, ins),
+        Operation::LocalAddress => is_reference(w, &frame.locals, ins),
+        _ => false,
+    }
+}
+
+/// Whether an instruction takes the address of a variable that is a pointer already (V19, ECMA-335 I.12.1.1.2).
+pub(crate) fn points_to_reference(w: &World, frame: &CodeFrame, ins: &Ins) -> bool
+    requires { IsFrameWithin (length w.now.nodes) frame.now }
+    ensures { (f : Frame) (k : ℕ) → MeansFrame w.now.nodes frame.now f → slice_get f.code k ≡ Some ins.now → (IsTrue result ↔ PointsToReference f k) }
+{
+    addresses_reference(w, frame, ins)
+}

@@ -1,0 +1,79 @@
+//! How many bytes instructions take (ECMA-335 III.1.2). Nothing here takes memory.
+ghost use Rattle.std.specs.Prelude.{◌≡◌, ◌+◌, ◌<◌, ◌^◌, sum_by};
+ghost use Rattle.assembly_tree.specs.WellFormedBodies.{opcode_size, operand_size, targets_size, size_of};
+
+use assembly_tree::{Ins, Operand};
+use opcode_table::{Op, OperandKind, bytes_of, kind_of};
+
+/// The bytes of an opcode.
+#[tactic(auto, unfolding(assembly_tree::specs::WellFormedBodies::opcode_size))]
+fn opcode_size(op: Op) -> u32
+    ensures { result ≡ opcode_size op }
+{
+    match bytes_of(op) {
+        (_, None) => 1,
+        (_, Some(_)) => 2,
+    }
+}
+
+/// The bytes of the operand of a switch: its count, and 4 for each target.
+fn targets_size(operand: &Operand) -> u32
+    requires { targets_size operand.now < 2 ^ 32 }
+    ensures { result ≡ targets_size operand.now }
+{
+    match operand {
+        Operand::Targets(targets) => 4 + 4 * targets.len() as u32,
+        Operand::Nothing
+        | Operand::Var(_)
+        | Operand::Int(_)
+        | Operand::Real(_)
+        | Operand::Target(_)
+        | Operand::Method(_)
+        | Operand::Field(_)
+        | Operand::Of(_)
+        | Operand::Text(_) => 4,
+    }
+}
+
+/// The bytes of an operand of that form.
+fn operand_size(kind: OperandKind, operand: &Operand) -> u32
+    requires { operand_size kind operand.now < 2 ^ 32 }
+    ensures { result ≡ operand_size kind operand.now }
+{
+    match kind {
+        OperandKind::Nothing => 0,
+        OperandKind::Var8 | OperandKind::Num8 | OperandKind::Byte | OperandKind::Branch8 => 1,
+        OperandKind::Var16 => 2,
+        OperandKind::Num64 | OperandKind::Real8 => 8,
+        OperandKind::Switch => targets_size(operand),
+        OperandKind::Num32
+        | OperandKind::Real4
+        | OperandKind::Branch32
+        | OperandKind::Method
+        | OperandKind::Field
+        | OperandKind::Of
+        | OperandKind::Text
+        | OperandKind::Token => 4,
+    }
+}
+
+/// The bytes of an instruction.
+#[tactic(auto, unfolding(assembly_tree::specs::WellFormedBodies::size_of, assembly_tree::specs::WellFormedBodies::operand_kind))]
+fn size_of(ins: &Ins) -> u32
+    requires { size_of ins.now < 2 ^ 32 }
+    ensures { result ≡ size_of ins.now }
+{
+    opcode_size(ins.op) + operand_size(kind_of(ins.op), &ins.operand)
+}
+
+/// The bytes of instructions.
+pub(crate) fn code_size(code: &[Ins]) -> u32
+    requires { sum_by size_of code.now < 2 ^ 32 }
+    ensures { result ≡ sum_by size_of code.now }
+{
+    let mut size = 0;
+    for ins in code {
+        size += size_of(ins);
+    }
+    size
+}

@@ -1,0 +1,60 @@
+//! The first rule that an instruction breaks, by what is known before it.
+ghost use Rattle.std.specs.Prelude.{◌≡◌, ◌<◌, ◌^◌, ℕ, length, slice_get, Some, IfOk};
+ghost use Rattle.assembly_tree.specs.declared.body.Ins.{Ins};
+ghost use Rattle.assignability.specs.Indexed.{KnowsTypes};
+ghost use Rattle.assignability.specs.World.{hierarchy, Stays};
+ghost use Rattle.body_verifier.specs.CodeMarks.{AreAsMany, IsBody};
+ghost use Rattle.body_verifier.specs.Frames.{Frame};
+ghost use Rattle.body_verifier.specs.RowMeanings.{row_meant, IsRowWithin, IsFrameWithin};
+ghost use Rattle.body_verifier.specs.Rows.{row_of};
+ghost use Rattle.body_verifier.specs.StateMeanings.{state_meant, IsStateWithin};
+ghost use Rattle.body_verifier.specs.Typings.{Typing};
+ghost use Rattle.body_verifier.specs.Verdicts.{Judges};
+
+use crate::blocks::Spans;
+use crate::code_breaks::code_breaks;
+use crate::code_marks::CodeMarks;
+use crate::frame::CodeFrame;
+use crate::judging::judge;
+use crate::operation::operation_of;
+use crate::row::Row;
+use crate::state::State;
+use assembly_tree::{Assembly, Ins};
+use assignability::types::World;
+use il_lists::NoMemory;
+
+/// The number of the first rule that instruction `k` of a body breaks, by its row and what is known before it; none where
+/// it isn't reached.
+pub(crate) fn verdict(
+    w: &mut World,
+    a: &Assembly,
+    frame: &CodeFrame,
+    code: &[Ins],
+    clauses: &[Spans],
+    marks: &CodeMarks,
+    bound: u16,
+    k: u32,
+    row: &Row,
+    state: &State,
+) -> Result<Option<u8>, NoMemory>
+    requires few { length code.now < 2 ^ 32 }
+    requires k { k < length code.now }
+    requires many { AreAsMany code.now marks.now }
+    requires frame { IsFrameWithin (length w.old.nodes) frame.now }
+    requires known { KnowsTypes a.now w.old.tables }
+    requires row { IsRowWithin (length w.old.nodes) row.now }
+    requires state { IsStateWithin (length w.old.nodes) state.now }
+    ensures ok { IfOk result (λ r. (f : Frame) (typing : Typing) (i : Ins) → IsBody f a.now w.old.nodes frame.now code.now clauses.now marks.now → f.types ≡ hierarchy w.old → f.bound ≡ bound → slice_get f.code k ≡ Some i → row_meant w.old.nodes row.now ≡ row_of f k i → typing k ≡ state_meant w.old.nodes state.now → Judges f typing k r) }
+    ensures stays { Stays w.old w.new }
+{
+    match state {
+        State::Unreached => Ok(None),
+        State::Clash => Ok(Some(2)),
+        State::Stack(stack) => {
+            let breaks = code_breaks(w, a, frame, code, clauses, marks, k);
+            let does = operation_of(code[k as usize].op);
+            let rule = judge(w, row, does, bound, stack, &breaks)?;
+            Ok(rule)
+        }
+    }
+}
