@@ -1,6 +1,6 @@
 -- Numbers digit by digit.
-use Rattle.std.proofs.Common.{◌≡◌, ℕ, ◌+◌, ◌*◌, ◌<◌, ◌≤◌, ◌%◌, List, [], ◌∷◌, length, drop, take, get_or, ap, sym, ◌∙◌, arith, take-append-drop}
-use Rattle.std.proofs.Math.Nat.{mul-le-mul_left, mod-add-mod}
+use Rattle.std.proofs.Common.{◌≡◌, ℕ, ◌+◌, ◌*◌, ◌<◌, ◌≤◌, ◌%◌, ◌^◌, List, [], ◌∷◌, length, drop, take, get_or, ap, sym, ◌∙◌, arith, take-append-drop}
+use Rattle.std.proofs.Math.Nat.{mul-le-mul_left, mod-add-mod, mod-eq_of_lt}
 use Rattle.std.proofs.lemmas.Nat.{mul-mod_first}
 use Rattle.std.specs.List.{fold}
 use Rattle.std.proofs.lemmas.List.Sums.{fold_more, fold-append}
@@ -42,3 +42,7 @@ too_great base limit some ds k less h =
 
 pub wrapped_more : (m base d n : ℕ) → (m % n * base % n + d) % n ≡ (m * base + d) % n
 wrapped_more m base d n = ap (λ t. (t + d) % n) (mul-mod_first m base n) ∙ mod-add-mod (m * base) n d
+
+-- a number of 32 bits is its own rest modulo 2^64
+pub small_rest : (n : ℕ) → n < 2 ^ 32 → n % 2 ^ 64 ≡ n
+small_rest n less = mod-eq_of_lt (omega (arith, less))

@@ -1,8 +1,8 @@
 //! Looking for productions among the nodes of a derivation.
 
-ghost use Rattle.std.specs.Prelude.{◌≡◌, ℕ, [], ◌∷◌, IfOk, MatchOption};
-ghost use Rattle.elaborate.specs.Walk.{IsForest, Finds};
-ghost use Rattle.source_model.specs.Forest.{Forest, child, first_token, has, leaf_at, parts, preorder, the};
+ghost use Rattle.std.specs.Prelude.{◌≡◌, ℕ, [], ◌∷◌, take, drop, IfOk, MatchOption};
+ghost use Rattle.elaborate.specs.Walk.{IsForest, Finds, Opens, count_below, is_of};
+ghost use Rattle.source_model.specs.Forest.{Forest, child, first_token, has, last_token, leaf_at, parts, preorder, the};
 
 use il_base::{Items, NoMemory};
 use ilasm_grammar::TreeNode;
@@ -14,6 +14,63 @@ use std::alloc::Global;
 pub(crate) struct Found {
     pub at: usize,
     pub count: usize,
+}
+
+/// The first node of a forest: what stands below it, what stands after that, and all nodes behind it.
+#[derive(Clone, Copy)]
+pub(crate) struct Opened<'a> {
+    pub node: TreeNode,
+    pub below: &'a [TreeNode],
+    pub after: &'a [TreeNode],
+    pub behind: &'a [TreeNode],
+}
+
+/// How many nodes stand below a node.
+fn count_below(node: TreeNode) -> usize
+    ensures { result ≡ count_below node }
+{
+    match node {
+        TreeNode::Branch { nodes, .. } => nodes as usize,
+        TreeNode::Leaf { .. } => 0,
+    }
+}
+
+/// The first so many nodes, and those behind them.
+fn cut(nodes: &[TreeNode], count: usize) -> (&[TreeNode], &[TreeNode])
+    ensures front { result.0.now ≡ take count nodes.now }
+    ensures back { result.1.now ≡ drop count nodes.now }
+{
+    if count < nodes.len() {
+        nodes.split_at(count)
+    } else {
+        (nodes, &[])
+    }
+}
+
+/// The first node with what stands below and after it, where there is one.
+pub(crate) fn open(nodes: &[TreeNode]) -> Option<Opened<'_>>
+    ensures { MatchOption result (nodes.now ≡ []) (λ x. Opens nodes.now x) }
+{
+    forests_open();
+    forests_join();
+    let (node, behind) = next(nodes)?;
+    let (below, after) = cut(behind, count_below(node));
+    Some(Opened {
+        node,
+        below,
+        after,
+        behind,
+    })
+}
+
+/// Whether a node is a branch with this production.
+pub(crate) fn is_of(node: TreeNode, production: u16) -> bool
+    ensures { result ≡ is_of production node }
+{
+    match node {
+        TreeNode::Branch { production: p, .. } => production == p,
+        TreeNode::Leaf { .. } => false,
+    }
 }
 
 /// The outermost branches with this production, in order.
@@ -51,7 +108,7 @@ pub(crate) fn each(
 }
 
 /// The first node and those behind it, where there is one.
-fn next(nodes: &[TreeNode]) -> Option<(TreeNode, &[TreeNode])>
+pub(crate) fn next(nodes: &[TreeNode]) -> Option<(TreeNode, &[TreeNode])>
     ensures { MatchOption result (nodes.now ≡ []) (λ step. nodes.now ≡ step.0 ∷ step.1.now) }
 {
     match nodes {
@@ -179,4 +236,26 @@ pub(crate) fn first_token(nodes: &[TreeNode]) -> u32
         }
     }
     0
+}
+
+/// The last token; 0 where there is none.
+pub(crate) fn last_token(nodes: &[TreeNode]) -> u32
+    requires { IsForest nodes.now }
+    ensures { (f : Forest) → preorder f ≡ nodes.now → result ≡ last_token f }
+{
+    derivations_are_forests();
+    forests_open();
+    forests_join();
+    let mut left = nodes;
+    let mut last = 0;
+    while let Some((node, rest)) = next(left) {
+        match node {
+            TreeNode::Branch { .. } => left = rest,
+            TreeNode::Leaf { token } => {
+                last = token;
+                left = rest;
+            }
+        }
+    }
+    last
 }

@@ -1,0 +1,107 @@
+-- What a rule finds at the productions of a forest, piece by piece.
+use Rattle.std.proofs.Common.{◌≡◌, ℕ, suc, ◌<◌, ◌≤◌, List, [], ◌∷◌, ◌++◌, length, take, drop, ap, sym, ◌∙◌, refl, arith, length-drop}
+use Rattle.std.specs.Prelude.{Bool, true, false, ◌==◌, ◌||◌, if◌then◌else◌, Option, None, Some}
+use Rattle.std.specs.List.{flat_map}
+use Rattle.std.proofs.lemmas.List.{length-take}
+use Rattle.ilasm_grammar.specs.declared.productions.TheConstants.{CLASS, METHOD}
+use Rattle.ilasm_grammar.specs.declared.tree.TreeNode.{TreeNode}
+use Rattle.ilasm_grammar.specs.declared.tree.TreeNode.TheVariants.{Branch}
+use Rattle.source_model.specs.Forest as tree
+use Rattle.source_model.specs.Forest.{Forest, joined}
+use Rattle.source_model.specs.Laws.{ForestsJoin}
+use Rattle.source_model.specs.Nodes.{Around, Node, entered, nodes_in, class_token, type_id}
+use Rattle.source_model.specs.Source.{Source}
+use Rattle.elaborate.specs.Least.{least, sooner}
+use Rattle.elaborate.specs.Surroundings.{found_in, is_scope, IsSurrounding}
+use Rattle.elaborate.specs.Readers.{Reads}
+use Rattle.elaborate.specs.declared.asking.Surrounding.{Surrounding}
+use Rattle.elaborate.specs.declared.reader.Reader.{Reader}
+use Rattle.elaborate.proofs.LeastLemmas.{flat_append, least_append, sooner_assoc}
+
+-- a source that is read, and what stands around a place
+pub record At (r : Reader) (p : Surrounding) : Type 0 where
+  pub source : Source
+  pub around : Around
+  pub reads : Reads r source
+  pub place : IsSurrounding p around
+
+module _ (broken : Source → Node → List ℕ) where
+  -- the least of what was found and of what the rest has
+  abbrev pub sought : (r : Reader) (p : Surrounding) → Option ℕ → At r p → Forest → Option ℕ
+  sought r p found i f = sooner found (least (found_in broken i.source i.around f))
+
+  module _ (s : Source) (a : Around) where
+    abbrev pub node_of : ℕ → Forest → Node
+    node_of p b = record { production = p; below = b; around = entered s a p b }
+
+    pub at_branch : (p : ℕ) (b f : Forest) → least (found_in broken s a (tree.branch p b f))
+        ≡ sooner (sooner (least (broken s (node_of p b))) (least (found_in broken s (entered s a p b) b))) (least (found_in broken s a f))
+    at_branch p b f =
+        let n = node_of p b in
+        let inner = nodes_in s (entered s a p b) b in
+        ap least (flat_append (broken s) (n ∷ inner) (nodes_in s a f))
+        ∙ least_append (broken s n ++ flat_map (broken s) inner) (flat_map (broken s) (nodes_in s a f))
+        ∙ ap (λ x. sooner x (least (found_in broken s a f))) (least_append (broken s n) (flat_map (broken s) inner))
+
+    -- past a class or a method, whose parts were asked
+    pub past_scope : (p : ℕ) (b f : Forest) (found here within : Option ℕ)
+        → here ≡ least (broken s (node_of p b)) → within ≡ least (found_in broken s (entered s a p b) b)
+        → sooner (sooner found (sooner here within)) (least (found_in broken s a f)) ≡ sooner found (least (found_in broken s a (tree.branch p b f)))
+    past_scope p b f found here within h w =
+        sooner_assoc found (sooner here within) (least (found_in broken s a f))
+        ∙ ap (λ x. sooner found (sooner (sooner x within) (least (found_in broken s a f)))) h
+        ∙ ap (λ x. sooner found (sooner (sooner (least (broken s (node_of p b))) x) (least (found_in broken s a f)))) w
+        ∙ ap (sooner found) (sym (at_branch p b f))
+
+    same_around : (p : ℕ) (b : Forest) → is_scope p ≡ false → entered s a p b ≡ a
+    same_around p b e = go (p == CLASS) (p == METHOD) e
+      where
+        go : (c m : Bool) → (c || m) ≡ false
+            → (if c then record { path = a.path ++ type_id s (class_token b) ∷ []; class = b; method = tree.none }
+            else if m then record { path = a.path; class = a.class; method = b }
+            else a) ≡ a
+        go true m e = absurd cc
+        go false true e = absurd cc
+        go false false e = refl
+
+    -- into any other production
+    pub into_parts : ForestsJoin → (p : ℕ) (b f : Forest) (found here : Option ℕ) → is_scope p ≡ false → here ≡ least (broken s (node_of p b))
+        → sooner (sooner found here) (least (found_in broken s a (joined b f))) ≡ sooner found (least (found_in broken s a (tree.branch p b f)))
+    into_parts joins p b f found here scope h =
+        let same = same_around p b scope in
+        let both : least (found_in broken s a (joined b f)) ≡ sooner (least (found_in broken s a b)) (least (found_in broken s a f)) =
+        ap (λ ns. least (flat_map (broken s) ns)) (joins.productions s a b f)
+        ∙ ap least (flat_append (broken s) (nodes_in s a b) (nodes_in s a f))
+        ∙ least_append (flat_map (broken s) (nodes_in s a b)) (flat_map (broken s) (nodes_in s a f)) in
+        sooner_assoc found here (least (found_in broken s a (joined b f)))
+        ∙ ap (λ x. sooner found (sooner here x)) both
+        ∙ ap (sooner found) (sym (sooner_assoc here (least (found_in broken s a b)) (least (found_in broken s a f))))
+        ∙ ap (λ x. sooner found (sooner (sooner x (least (found_in broken s a b))) (least (found_in broken s a f)))) h
+        ∙ ap (λ (x : Around). sooner found (sooner (sooner (least (broken s (node_of p b))) (least (found_in broken s x b))) (least (found_in broken s a f)))) (sym same)
+        ∙ ap (sooner found) (sym (at_branch p b f))
+
+-- ---- lengths
+
+length_is : {xs ys : List TreeNode} → xs ≡ ys → length xs ≡ length ys
+length_is e = ap length e
+
+pub below_shorter : (p count : ℕ) (left rest nodes below : List TreeNode) (t : ℕ) → left ≡ Branch p count ∷ rest → below ≡ take count rest
+    → length left ≤ length nodes → length nodes ≡ t → length below < t
+below_shorter p count left rest nodes below t e h within is =
+    let whole : length left ≡ suc (length rest) = length_is e in
+    let front : length below ≡ length (take count rest) = length_is h in
+    omega (arith, whole, front, length-take count rest)
+
+pub rest_shorter : (p count : ℕ) (left rest nodes after : List TreeNode) → left ≡ Branch p count ∷ rest → after ≡ drop count rest
+    → length left ≤ length nodes → length after ≤ length nodes
+rest_shorter p count left rest nodes after e h within =
+    let whole : length left ≡ suc (length rest) = length_is e in
+    let back : length after ≡ length (drop count rest) = length_is h in
+    omega (arith, whole, back, length-drop count rest)
+
+pub next_shorter : (left rest nodes : List TreeNode) (node : TreeNode) → left ≡ node ∷ rest → length left ≤ length nodes → length rest ≤ length nodes
+next_shorter left rest nodes node e within = let whole : length left ≡ suc (length rest) = length_is e in omega (arith, whole)
+
+pub nothing_more : (found : Option ℕ) → found ≡ sooner found None
+nothing_more None = refl
+nothing_more (Some x) = refl

@@ -1,0 +1,11 @@
+use Rattle.std.proofs.Common.{length}
+use Rattle.std.specs.Prelude.{None, pos}
+use Rattle.elaborate.proofs.RangeLemmas.{out_after}
+use Rattle.elaborate.proofs.Stepping.{Steps}
+use Rattle.elaborate.proofs.ranges.above_in_each.Given as goal
+
+abbrev pub invariant-loop-node : goal.invariant-loop-node
+invariant-loop-node l = Steps (out_after (pos 0) (pos l.high) l.production l.reader l.found) (out_after (pos 0) (pos l.high) l.production l.reader None) l.nodes l.left
+
+abbrev pub decreases-loop-node : goal.decreases-loop-node
+decreases-loop-node l = length l.left

@@ -1,0 +1,167 @@
+//! Numbers that a source keeps within bounds.
+
+ghost use Rattle.std.specs.Prelude.{◌≡◌, ◌<◌, ◌^◌, [], ◌∷◌, false, pos, if◌then◌else◌, MatchOption};
+ghost use Rattle.std.specs.List.{flat_map};
+ghost use Rattle.assembly_tree.specs.WellFormedTypes.{is_pack};
+ghost use Rattle.source_model.specs.Forest.{Forest, each, leaf_at, preorder};
+ghost use Rattle.source_model.specs.OutOfRange.{is_32_bits, is_natural_with};
+ghost use Rattle.source_model.specs.Source.{Source};
+ghost use Rattle.source_model.specs.TypeRules.{is_within, unless};
+ghost use Rattle.source_model.specs.Values.{int_at};
+ghost use Rattle.elaborate.specs.Integers.{distance};
+ghost use Rattle.elaborate.specs.Least.{least};
+ghost use Rattle.elaborate.specs.NumberTests.{test_of};
+ghost use Rattle.elaborate.specs.Readers.{Reads};
+ghost use Rattle.elaborate.specs.Walk.{IsForest};
+
+use crate::least::sooner;
+use crate::reader::Reader;
+use crate::walk::{leaf_at, next};
+use ilasm_grammar::TreeNode;
+use source_model::{derivations_are_forests, forests_join, forests_open};
+
+/// A test that a number without a sign must pass.
+#[derive(Debug, Clone, Copy, PartialEq, Eq, Drop)]
+pub(crate) enum Test {
+    ImageBase,
+    FileAlignment,
+    /// Flags of the CLI header.
+    CorFlags,
+    /// Flags of a method's implementation.
+    Implementation,
+    /// A packing size.
+    Pack,
+}
+
+/// The token, unless the number that it spells lies from one to another.
+pub(crate) fn outside(reader: &Reader, token: u32, low: i128, high: i128) -> Option<u32>
+    requires low { distance low < 2 ^ 64 }
+    requires high { distance high < 2 ^ 64 }
+    ensures { (s : Source) → Reads reader.now s → result ≡ least (unless (is_within low high) s token) }
+{
+    unless(is_within(reader, token, low, high), token)
+}
+
+/// The token, unless the number that it spells has no sign and passes the test.
+pub(crate) fn failing(reader: &Reader, token: u32, test: Test) -> Option<u32>
+    ensures { (s : Source) → Reads reader.now s → result ≡ least (unless (is_natural_with (test_of test)) s token) }
+{
+    unless(is_natural_with(reader, token, test), token)
+}
+
+/// The token, unless the number that it spells lies from 0 to another.
+pub(crate) fn above(reader: &Reader, token: u32, high: u32) -> Option<u32>
+    ensures { (s : Source) → Reads reader.now s → result ≡ least (unless (is_within (pos 0) (pos high)) s token) }
+{
+    outside(reader, token, 0, i128::from(high))
+}
+
+/// The least of the tokens in second place of the parts of this production whose numbers don't lie from 0 to another.
+pub(crate) fn above_in_each(
+    reader: &Reader,
+    nodes: &[TreeNode],
+    production: u16,
+    high: u32,
+) -> Option<u32>
+    requires { IsForest nodes.now }
+    ensures { (s : Source) (f : Forest) → Reads reader.now s → preorder f ≡ nodes.now →
+        result ≡ least (flat_map (λ g. unless (is_within (pos 0) (pos high)) s (leaf_at 1 g)) (each production f)) }
+{
+    derivations_are_forests();
+    forests_open();
+    forests_join();
+    let mut left = nodes;
+    let mut found = None;
+    while let Some((node, rest)) = next(left) {
+        match node {
+            TreeNode::Branch {
+                production: p,
+                nodes: count,
+            } => {
+                if p == production {
+                    let (below, after) = rest.split_at(count as usize);
+                    let here = above(reader, leaf_at(below, 1), high);
+                    found = sooner(found, here);
+                    left = after;
+                } else {
+                    left = rest;
+                }
+            }
+            TreeNode::Leaf { .. } => left = rest,
+        }
+    }
+    found
+}
+
+// The token, unless something holds.
+fn unless(holds: bool, token: u32) -> Option<u32>
+    ensures { result ≡ least (if holds then [] else token ∷ []) }
+{
+    if holds { None } else { Some(token) }
+}
+
+// Whether the number that an INT spells lies from one to another.
+fn is_within(reader: &Reader, token: u32, low: i128, high: i128) -> bool
+    requires low { distance low < 2 ^ 64 }
+    requires high { distance high < 2 ^ 64 }
+    ensures { (s : Source) → Reads reader.now s → result ≡ is_within low high (int_at s token) }
+{
+    match reader.integer(token) {
+        Some(value) => lies_within(value, low, high),
+        None => false,
+    }
+}
+
+fn lies_within(value: i128, low: i128, high: i128) -> bool
+    ensures { result ≡ is_within low high value }
+{
+    low <= value && value <= high
+}
+
+// Whether the number that an INT spells has no sign and passes the test.
+fn is_natural_with(reader: &Reader, token: u32, test: Test) -> bool
+    ensures { (s : Source) → Reads reader.now s → result ≡ is_natural_with (test_of test) (int_at s token) }
+{
+    match natural_32(reader, token) {
+        Some(n) => passes(test, n),
+        None => false,
+    }
+}
+
+// The number that an INT spells, where it has no sign and 32 bits.
+fn natural_32(reader: &Reader, token: u32) -> Option<u32>
+    ensures { (s : Source) → Reads reader.now s → MatchOption result (is_32_bits (int_at s token) ≡ false) (λ n. int_at s token ≡ pos n) }
+{
+    match reader.integer(token) {
+        Some(value) => in_32_bits(value),
+        None => None,
+    }
+}
+
+fn in_32_bits(value: i128) -> Option<u32>
+    ensures { MatchOption result (is_32_bits value ≡ false) (λ n. value ≡ pos n) }
+{
+    if 0 <= value && value <= 0xFFFF_FFFF {
+        Some(value as u32)
+    } else {
+        None
+    }
+}
+
+fn passes(test: Test, n: u32) -> bool
+    ensures { result ≡ test_of test n }
+{
+    match test {
+        Test::ImageBase => n % 0x10000 == 0 && 0x10000 <= n && n <= 0xF000_0000,
+        Test::FileAlignment => n == 0x200 || n == 0x400 || n == 0x800 || n == 0x1000,
+        Test::CorFlags => n & 1 == 1 && n & 0x10 == 0,
+        Test::Implementation => n <= 0xFFFF && n & 7 == 0,
+        Test::Pack => is_pack(n),
+    }
+}
+
+fn is_pack(n: u32) -> bool
+    ensures { result ≡ is_pack n }
+{
+    n == 0 || n == 1 || n == 2 || n == 4 || n == 8 || n == 16 || n == 32 || n == 64 || n == 128
+}
