@@ -12,7 +12,7 @@ use Rattle.type_terms.specs.declared.term.Owner.TheVariants as owners
 use Rattle.type_terms.specs.declared.term.SigType.{SigType}
 use Rattle.image_writer.specs.Blobs.{HoldsBlob, KeepsBlobs}
 use Rattle.image_writer.specs.Found.{token_in}
-use Rattle.image_writer.specs.Indexes.{token_of}
+use Rattle.image_writer.specs.Indexes.{IsToken}
 use Rattle.image_writer.specs.KnownTokens.{names_apart, types_apart, layer_token}
 use Rattle.image_writer.specs.NameTokens.{HasNameToken, AreNames, Learns}
 use Rattle.image_writer.specs.Noted.{longest, IsNamed, IsSpecified}
@@ -25,7 +25,7 @@ use Rattle.image_writer.specs.declared.row_set.Cells.{Cells}
 use Rattle.image_writer.proofs.GrowthLemmas.{grows_refl, grows_trans, still, still_known, learns_one, token_kept, all_and, tokens_kept, signature_kept}
 use Rattle.image_writer.proofs.NameLemmas.{found_last, holds_of_found}
 use Rattle.image_writer.proofs.PathLemmas.{goes_on}
-use Rattle.image_writer.proofs.SizeLemmas.{names_grown, blobs_grown, specs_grown, few_names, few_specs, name_weight_is, declared_kind, spec_kind, row_within}
+use Rattle.image_writer.proofs.SizeLemmas.{names_grown, blobs_grown, specs_grown, name_weight_is, declared_kind, spec_kind}
 
 -- ---- blobs
 
@@ -114,14 +114,12 @@ named a strings rows names name (Ok token) known room h at all l k on more few =
     let s = still a b g known in
     let grown : size b ≤ size a + (path_size name.path + 12 * length name.path) = names_grown a b (path_size name.path) (length name.path) more few refl refl refl refl refl refl in
     let weighs = name_weight_is name in
-    let fits : size b + 0 ≤ 2 ^ 26 = omega arith in
-    let rows_few = few_names b 0 fits in
     record {
       grows = g;
       known = record { few = s.few; names = all; specs = s.specs; methods = s.methods; fields = s.fields; locals = s.locals; texts = s.texts };
       room = omega arith;
       token_is = name_token_of b name token at;
-      declared = declared_kind strings a.declared.types rows name token known.few (omega arith) h;
+      declared = declared_kind strings a.declared.types rows name token h;
     }
 
 -- ---- types
@@ -156,16 +154,16 @@ specs_grow a rows specs on l = let g = grows_refl a in record {
 spec_token_of : (r : References) (t : SigType) (token : ℕ) → token_in types_apart r.known.specs t ≡ Some token → tokens_of r (owners.Spec t) ≡ Some token
 spec_token_of r t token at = ap (λ l. layer_token r.known.names r.known.specs l) (owners.outs-Spec t) ∙ at
 
-one_more : (old new : List Cells) (cells : Cells) → (new ≡ old) ⊎ ((new ≡ old ++ cells ∷ []) × Lacks old cells) → length new ≤ length old + 1
+pub one_more : (old new : List Cells) (cells : Cells) → (new ≡ old) ⊎ ((new ≡ old ++ cells ∷ []) × Lacks old cells) → length new ≤ length old + 1
 one_more old new cells (inl e) = omega (arith, ap (length {A = Cells}) e)
 one_more old new cells (inr e) = omega (arith, ap (length {A = Cells}) e.0 ∙ length-append old (cells ∷ []))
 
 -- a row more, or one that was there
 pub spec_added : (a : References) (rows : List Cells) (specs : List (SigType × ℕ)) (t : SigType) (blob row token : ℕ)
     → AreKnown a → token_in types_apart a.known.specs t ≡ None → HasSignature SpellsType a t blob → IsRowAt rows (one_cell blob) row
-    → (rows ≡ a.referred.specs) ⊎ ((rows ≡ a.referred.specs ++ one_cell blob ∷ []) × Lacks a.referred.specs (one_cell blob)) → row < 2 ^ 24
-    → token ≡ token_of 0x1B row → specs ≡ a.known.specs ++ (t, token) ∷ [] → IsSpecified a (with_specs a rows specs) t 4 token
-spec_added a rows specs t blob row token known lacks signature at kept few is learnt =
+    → (rows ≡ a.referred.specs) ⊎ ((rows ≡ a.referred.specs ++ one_cell blob ∷ []) × Lacks a.referred.specs (one_cell blob))
+    → IsToken token 0x1B row → specs ≡ a.known.specs ++ (t, token) ∷ [] → IsSpecified a (with_specs a rows specs) t 4 token
+spec_added a rows specs t blob row token known lacks signature at kept is learnt =
     let b : References = with_specs a rows specs in
     let on : GoesOn a.referred.specs rows = goes_on a.referred.specs rows (one_cell blob) kept in
     let g : Grows a b = specs_grow a rows specs on (learns_one a.known.specs specs t token learnt) in
@@ -184,22 +182,20 @@ spec_added a rows specs t blob row token known lacks signature at kept few is le
       };
       room = specs_grown a b (one_more a.referred.specs rows (one_cell blob) kept) refl refl refl refl refl;
       token_is = spec_token_of b t token (ap (λ es. token_in types_apart es t) learnt ∙ found_last types_apart a.known.specs t token lacks);
-      kind = spec_kind token row few is;
+      kind = spec_kind token row is;
     }
 
 -- a type that has a token
-pub spec_found : (a : References) (t : SigType) (n token : ℕ) → AreKnown a → size a + (n + 12) ≤ 2 ^ 26 → token_in types_apart a.known.specs t ≡ Some token
+pub spec_found : (a : References) (t : SigType) (n token : ℕ) → AreKnown a → token_in types_apart a.known.specs t ≡ Some token
     → IsSpecified a a t (n + 12) token
-spec_found a t n token known room at =
+spec_found a t n token known at =
     let h : IsSpecToken a t token = holds_of_found types_apart (λ e. IsSpecToken a e.0 e.1) a.known.specs t token known.specs at in
-    let few = few_specs a n room in
-    let le = row_within a.referred.specs h.row (one_cell h.blob) h.at in
     record {
       grows = grows_refl a;
       known = known;
       room = omega arith;
       token_is = spec_token_of a t token at;
-      kind = spec_kind token h.row (omega arith) h.is;
+      kind = spec_kind token h.row h.is;
     }
 
 -- a signature that has been written

@@ -17,7 +17,7 @@ use Rattle.image_writer.specs.Blobs.{HoldsBlob, KeepsBlobs}
 use Rattle.image_writer.specs.Found.{same_term, token_in}
 use Rattle.image_writer.specs.KnownTokens.{layer_token, owner_token, names_apart, types_apart}
 use Rattle.image_writer.specs.NameTokens.{AreNames, Learns}
-use Rattle.image_writer.specs.References.{tokens_of, HasSignature, IsSpecToken, IsMemberRow, HasMemberToken, of_declared, of_referred, IsMethodToken, plain, instance, IsFieldToken, IsLocalsToken, IsTextToken, AreKnown, Grows}
+use Rattle.image_writer.specs.References.{tokens_of, HasSignature, IsSpecToken, IsMemberRow, HasMemberToken, HasGenericToken, of_declared, of_referred, IsMethodToken, plain, instance, IsFieldToken, IsLocalsToken, IsTextToken, AreKnown, Grows}
 use Rattle.image_writer.specs.Rows.{IsRowAt}
 use Rattle.image_writer.specs.Texts.{HoldsText, KeepsTexts}
 use Rattle.image_writer.specs.TypePaths.{GoesOn}
@@ -140,7 +140,10 @@ member_kept Spells a b table rows more owner name x token g same (of_declared {t
 member_kept Spells a b table rows more owner name x token g same (of_referred {type = type} {row = row} o m is) =
     of_referred (tokens_kept a b g owner type o) (member_row_kept Spells a b a.referred.members b.referred.members _ name x row g g.members m) is
 
-method_kept : (a b : References) (m : MethodRef) (token : ℕ) → Grows a b → IsMethodToken a m token → IsMethodToken b m token
+pub generic_kept : (a b : References) (m : MethodRef) (token : ℕ) → Grows a b → HasGenericToken a m token → HasGenericToken b m token
+generic_kept a b m token g h = member_kept SpellsMethod a b 0x06 a.declared.methods b.declared.methods m.owner m.name m.sig token g (ap (λ d. d.methods) g.declared) h
+
+pub method_kept : (a b : References) (m : MethodRef) (token : ℕ) → Grows a b → IsMethodToken a m token → IsMethodToken b m token
 method_kept a b m token g (plain none h) =
     plain none (member_kept SpellsMethod a b 0x06 a.declared.methods b.declared.methods m.owner m.name m.sig token g (ap (λ d. d.methods) g.declared) h)
 method_kept a b m token g (instance {args = args} {generic = generic} {blob = blob} {row = row} some h at signature is) =

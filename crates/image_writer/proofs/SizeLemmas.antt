@@ -1,18 +1,17 @@
 -- How much a step adds to the size of all references.
 use Rattle.std.proofs.Common.{◌≡◌, ap, refl, sym, ◌∙◌, subst, ℕ, ◌+◌, ◌*◌, ◌/◌, ◌%◌, ◌^◌, ◌<◌, ◌≤◌, ◌-◌, List, [], ◌∷◌, length, Some, None, zero, suc, inl, inr, arith}
-use Rattle.std.specs.Prelude.{slice_get, sum_by}
+use Rattle.std.specs.Prelude.{sum_by}
 use Rattle.std.proofs.lemmas.List.Sums.{sum_by-cons}
 use Rattle.heaps.specs.Heap.{Heap}
 use Rattle.type_terms.specs.declared.name.TypeId.{TypeId}
 use Rattle.type_terms.specs.declared.name.TypeName.{TypeName}
 use Rattle.assembly_tree.specs.Weight.{id_weight, name_weight}
 use Rattle.sig_codec.specs.Tokens.{IsTypeToken, IsDeclared}
-use Rattle.image_writer.specs.Indexes.{token_of}
-use Rattle.image_writer.specs.NameTokens.{HasNameToken, of_declared, of_referred, in_extern}
+use Rattle.image_writer.specs.Indexes.{IsToken}
+use Rattle.image_writer.specs.NameTokens.{HasNameToken, of_declared, of_referred}
 use Rattle.image_writer.specs.References.{size}
-use Rattle.image_writer.specs.Rows.{IsRowAt}
 use Rattle.image_writer.specs.Texts.{id_size}
-use Rattle.image_writer.specs.TypePaths.{Follows, last, on, path_size, in_declared, in_reference}
+use Rattle.image_writer.specs.TypePaths.{path_size}
 use Rattle.image_writer.specs.declared.references.References.{References}
 use Rattle.image_writer.specs.declared.row_set.Cells.{Cells}
 
@@ -73,10 +72,6 @@ pub few_names : (r : References) (n : ℕ) → size r + n ≤ 2 ^ 26 → length 
 unfolding size
 few_names r n h = omega arith
 
-pub few_specs : (r : References) (n : ℕ) → size r + (n + 12) ≤ 2 ^ 26 → length r.referred.specs < 2 ^ 24 - 1
-unfolding size
-few_specs r n h = omega arith
-
 -- ---- what a name weighs
 
 pub path_weight : (path : List TypeId) → path_size path + 12 * length path ≤ sum_by id_weight path
@@ -94,35 +89,20 @@ name_weight_is name = path_weight name.path
 
 -- ---- tokens of rows
 
-last_of : (strings : Heap) (rows : List Cells) (inner : ℕ → ℕ) (scope row : ℕ) (path : List TypeId) → Follows strings rows inner scope path row
-    → (cells : Cells) × IsRowAt rows cells row
-last_of strings rows inner scope row path (last t is) = (t.cells, t.at)
-last_of strings rows inner scope row path (on {row = first} {rest = rest} t is f) = last_of strings rows inner (inner first) row rest f
+-- the highest byte of a token is its table
+pub table_is : (token table row : ℕ) → IsToken token table row → token / 2 ^ 24 ≡ table
+table_is token table row t = let is = t.is in let fits = t.fits in omega arith
 
-pub within : (rows : List Cells) (k : ℕ) (cells : Cells) → slice_get rows k ≡ Some cells → k < length rows
-within [] k cells h = absurd cc
-within (x ∷ rows) zero cells h = omega arith
-within (x ∷ rows) (suc k) cells h = let less = within rows k cells h in omega arith
+-- and the other three are its row
+pub row_is : (token table row : ℕ) → IsToken token table row → token % 2 ^ 24 ≡ row
+row_is token table row t = let is = t.is in let fits = t.fits in omega arith
 
-pub row_within : (rows : List Cells) (row : ℕ) (cells : Cells) → IsRowAt rows cells row → row ≤ length rows
-row_within rows row cells h = let less = within rows (row - 1) cells h.at in let some = h.counted in omega arith
+pub declared_kind : (strings : Heap) (declared referred : List Cells) (name : TypeName) (token : ℕ) → HasNameToken strings declared referred name token → IsDeclared token
+declared_kind strings declared referred name token (of_declared {row = row} here f is) = inr (table_is token 0x02 row is)
+declared_kind strings declared referred name token (of_referred {row = row} there f is) = inl (table_is token 0x01 row is)
 
-token_table : (table row : ℕ) → row < 2 ^ 24 → token_of table row / 2 ^ 24 ≡ table
-token_table table row h = omega arith
-
-pub declared_kind : (strings : Heap) (declared referred : List Cells) (name : TypeName) (token : ℕ) → length declared < 2 ^ 24 → length referred < 2 ^ 24
-    → HasNameToken strings declared referred name token → IsDeclared token
-declared_kind strings declared referred name token few also (of_declared {row = row} here f is) =
-    let r = last_of strings declared in_declared 0 row name.path f in
-    let le = row_within declared row r.0 r.1 in
-    inr (ap (λ t. t / 2 ^ 24) is ∙ token_table 0x02 row (omega arith))
-declared_kind strings declared referred name token few also (of_referred {number = number} {row = row} there f is) =
-    let r = last_of strings referred in_reference (in_extern number) row name.path f in
-    let le = row_within referred row r.0 r.1 in
-    inl (ap (λ t. t / 2 ^ 24) is ∙ token_table 0x01 row (omega arith))
-
-pub spec_kind : (token row : ℕ) → row < 2 ^ 24 → token ≡ token_of 0x1B row → IsTypeToken token
-spec_kind token row less is = inr (inr (ap (λ t. t / 2 ^ 24) is ∙ token_table 0x1B row less))
+pub spec_kind : (token row : ℕ) → IsToken token 0x1B row → IsTypeToken token
+spec_kind token row is = inr (inr (table_is token 0x1B row is))
 
 -- ---- room for a name
 

@@ -7,7 +7,7 @@ use Rattle.type_terms.specs.declared.name.Scope.{Scope}
 use Rattle.type_terms.specs.declared.name.Scope.TheVariants.{Here, Extern}
 use Rattle.type_terms.specs.declared.name.TypeId.{TypeId}
 use Rattle.type_terms.specs.declared.name.TypeName.{TypeName}
-use Rattle.image_writer.specs.Indexes.{token_of, index_of}
+use Rattle.image_writer.specs.Indexes.{IsToken, index_of}
 use Rattle.image_writer.specs.TypePaths.{Follows, in_reference, in_declared}
 use Rattle.image_writer.specs.declared.row_set.Cells.{Cells}
 
@@ -17,10 +17,10 @@ in_extern number = index_of ResolutionScope 0x23 (number + 1)
 
 -- a token is that of a name: the row of TypeDef at its path, or that of TypeRef
 pub data HasNameToken (strings : Heap) (declared referred : List Cells) (name : TypeName) : ℕ → Type 0 where
-  of_declared : {row token : ℕ} → name.scope ≡ Here → Follows strings declared in_declared 0 name.path row → token ≡ token_of 0x02 row
+  of_declared : {row token : ℕ} → name.scope ≡ Here → Follows strings declared in_declared 0 name.path row → IsToken token 0x02 row
       → HasNameToken strings declared referred name token
   of_referred : {number row token : ℕ} → name.scope ≡ Extern number → Follows strings referred in_reference (in_extern number) name.path row
-      → token ≡ token_of 0x01 row → HasNameToken strings declared referred name token
+      → IsToken token 0x01 row → HasNameToken strings declared referred name token
 
 -- a name in this assembly is declared, and the number of an extern is that of a row
 abbrev pub NameableIn : Heap → List Cells → List TypeId → Scope → Type 0

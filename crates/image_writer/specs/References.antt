@@ -11,7 +11,7 @@ use Rattle.type_terms.specs.declared.reference.MethodRef.{MethodRef}
 use Rattle.type_terms.specs.declared.term.Owner.{Owner}
 use Rattle.type_terms.specs.declared.term.SigType.{SigType}
 use Rattle.image_writer.specs.Blobs.{HoldsBlob, KeepsBlobs}
-use Rattle.image_writer.specs.Indexes.{token_of, index_of_token}
+use Rattle.image_writer.specs.Indexes.{IsToken, index_of_token}
 use Rattle.image_writer.specs.KnownTokens.{owner_token}
 use Rattle.image_writer.specs.NameTokens.{AreNames, Learns}
 use Rattle.image_writer.specs.Rows.{IsRowAt}
@@ -52,7 +52,7 @@ pub record IsSpecToken (r : References) (t : SigType) (token : ℕ) : Type 0 whe
   pub blob : ℕ
   pub at : IsRowAt r.referred.specs (one_cell blob) row
   pub signature : HasSignature SpellsType r t blob
-  pub is : token ≡ token_of 0x1B row
+  pub is : IsToken token 0x1B row
 
 -- a row with a parent, a name and a signature
 pub record IsMemberRow {X : Type 0} (Spells : Notation → X → List ℕ → Type 0) (r : References) (rows : List Cells) (parent : ℕ) (name : List ℕ) (x : X) (row : ℕ) : Type 0 where
@@ -65,9 +65,9 @@ pub record IsMemberRow {X : Type 0} (Spells : Notation → X → List ℕ → Ty
 -- a member: the row that a declared type has for it, or that of MemberRef (II.22.25)
 pub data HasMemberToken {X : Type 0} (Spells : Notation → X → List ℕ → Type 0) (r : References) (table : ℕ) (declared : List Cells) (owner : Owner) (name : List ℕ) (x : X) : ℕ → Type 0 where
   of_declared : {type row token : ℕ} → tokens_of r owner ≡ Some type → type / 2 ^ 24 ≡ 0x02 → IsMemberRow Spells r declared (type % 2 ^ 24) name x row
-      → token ≡ token_of table row → HasMemberToken Spells r table declared owner name x token
+      → IsToken token table row → HasMemberToken Spells r table declared owner name x token
   of_referred : {type row token : ℕ} → tokens_of r owner ≡ Some type → IsMemberRow Spells r r.referred.members (index_of_token MemberRefParent type) name x row
-      → token ≡ token_of 0x0A row → HasMemberToken Spells r table declared owner name x token
+      → IsToken token 0x0A row → HasMemberToken Spells r table declared owner name x token
 
 abbrev pub HasGenericToken : References → MethodRef → ℕ → Type 0
 HasGenericToken r m token = HasMemberToken SpellsMethod r 0x06 r.declared.methods m.owner m.name m.sig token
@@ -77,7 +77,7 @@ pub data IsMethodToken (r : References) (m : MethodRef) : ℕ → Type 0 where
   plain : {token : ℕ} → m.args ≡ None → HasGenericToken r m token → IsMethodToken r m token
   instance : {args : List SigType} {generic blob row token : ℕ} → m.args ≡ Some args → HasGenericToken r m generic
       → IsRowAt r.referred.instances (record { first = index_of_token MethodDefOrRef generic; second = blob; third = 0 }) row
-      → HasSignature SpellsInstantiation r args blob → token ≡ token_of 0x2B row → IsMethodToken r m token
+      → HasSignature SpellsInstantiation r args blob → IsToken token 0x2B row → IsMethodToken r m token
 
 abbrev pub IsFieldToken : References → FieldRef → ℕ → Type 0
 IsFieldToken r f token = HasMemberToken SpellsField r 0x04 r.declared.fields f.owner f.name f.of token
@@ -88,13 +88,13 @@ pub record IsLocalsToken (r : References) (ts : List SigType) (token : ℕ) : Ty
   pub blob : ℕ
   pub at : IsRowAt r.referred.locals (one_cell blob) row
   pub signature : HasSignature SpellsLocals r ts blob
-  pub is : token ≡ token_of 0x11 row
+  pub is : IsToken token 0x11 row
 
 -- a user string (III.1.9)
 pub record IsTextToken (r : References) (units : List ℕ) (token : ℕ) : Type 0 where
   pub index : ℕ
   pub holds : HoldsUnits r.heaps.user (bytes_of_units units) index
-  pub is : token ≡ token_of 0x70 index
+  pub is : IsToken token 0x70 index
 
 -- each token that has been given stands for its part of the tree
 pub record AreKnown (r : References) : Type 0 where

@@ -1,6 +1,6 @@
 -- UTF-16 units as bytes, two for each, the low one first, and texts of them in a heap that is being filled (ECMA-335 II.22.9,
 -- II.24.2.4).
-use Rattle.std.specs.Prelude.{ℕ, List, Contains}
+use Rattle.std.specs.Prelude.{ℕ, ◌^◌, ◌<◌, List, Contains}
 use Rattle.std.specs.List.{flat_map}
 use Rattle.std.specs.Int.{w16, to_le_bytes}
 use Rattle.heaps.specs.Content.{HasUnits}
@@ -18,3 +18,7 @@ pub record HoldsUnits (user : Heap) (units : List ℕ) (index : ℕ) : Type 0 wh
 pub record KeepsUnits (old new : Heap) : Type 0 where
   pub units : (index : ℕ) (units : List ℕ) → HasUnits old.bytes index units → HasUnits new.bytes index units
   pub used : (index : ℕ) → Contains old.used index → Contains new.used index
+
+-- a text stands at an index that a token has room for
+abbrev pub IsLoadable : Heap → List ℕ → Type 0
+IsLoadable user units = (index : ℕ) × HoldsUnits user (bytes_of_units units) index × (index < 2 ^ 24)

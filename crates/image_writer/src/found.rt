@@ -1,5 +1,5 @@
 //! What stands in a tree, found again by its hash, with the token that it has.
-ghost use Rattle.std.specs.Prelude.{◌≡◌, ◌++◌, ◌∷◌, [], None, OnOk, OnErr};
+ghost use Rattle.std.specs.Prelude.{◌≡◌, ◌++◌, ◌∷◌, ◌⊎◌, [], Some, None, IfOk, OnOk, OnErr};
 ghost use Rattle.image_writer.specs.Found.{token_in};
 
 use il_base::{Items, NoMemory};
@@ -81,6 +81,19 @@ impl<'a, T: Term> Found<'a, T> {
             at = entry.next;
         }
         None
+    }
+
+    /// The token of a term, which is given this one where it has none.
+    #[tactic(auto, using(crate::proofs::NameLemmas::found_last))]
+    pub(crate) fn give(&mut self, term: &'a T, token: u32) -> Result<u32, NoMemory>
+        ensures found { IfOk result (λ given. token_in T.stored self.new term.now ≡ Some given) }
+        ensures kept { OnOk result ((self.new ≡ self.old) ⊎ (self.new ≡ self.old ++ (term.now, token) ∷ [])) }
+    {
+        if let Some(given) = self.find(term) {
+            return Ok(given);
+        }
+        self.add(term, token)?;
+        Ok(token)
     }
 
     /// Adds a term, which isn't there, with its token.

@@ -3,11 +3,15 @@
 #![tactic(auto)]
 
 mod blobs;
+mod body_tokens;
 mod equality;
 mod found;
 mod hashing;
 mod heap_contents;
 mod known;
+mod locals;
+mod members;
+mod methods;
 mod name_tokens;
 mod naming;
 mod noting;
@@ -18,3 +22,4 @@ mod texts;
 mod tokens;
 mod type_paths;
 mod type_specs;
+mod user_texts;

@@ -18,7 +18,7 @@ returns-in_ok-row-in-Here-clause-token c =
     let same : d.0 ≡ c.in_ok-row-in-Here.row = cc (k.0, was) in
     of_declared c.in-Here.is
     (subst (λ (s : Heap). Follows s rows in_declared 0 name.path c.in_ok-row-in-Here.row) (sym k.1)
-    (subst (λ (x : ℕ). Follows c.args.strings.now rows in_declared 0 name.path x) same d.1)) c.token_of.ensures
+    (subst (λ (x : ℕ). Follows c.args.strings.now rows in_declared 0 name.path x) same d.1)) (record { is = c.token_of.ensures; fits = c.in_ok-row-in-Here.ensures.few })
 
 pub returns-in_ok-row-in-Extern-clause-token : goal.returns-in_ok-row-in-Extern-clause-token
 returns-in_ok-row-in-Extern-clause-token c =
@@ -28,4 +28,4 @@ returns-in_ok-row-in-Extern-clause-token c =
     let from_extern : Follows strings rows in_reference (in_extern c.in-Extern.number) c.as_slice-path.result.now row =
     subst (λ (x : ℕ). Follows strings rows in_reference x c.as_slice-path.result.now row) c.index_of-scope.ensures c.in_ok-row-in-Extern.ensures.follows in
     of_referred c.in-Extern.is
-    (subst (λ (xs : List TypeId). Follows strings rows in_reference (in_extern c.in-Extern.number) xs row) c.as_slice-path.ensures.ids from_extern) c.token_of-in-Extern.ensures
+    (subst (λ (xs : List TypeId). Follows strings rows in_reference (in_extern c.in-Extern.number) xs row) c.as_slice-path.ensures.ids from_extern) (record { is = c.token_of-in-Extern.ensures; fits = c.in_ok-row-in-Extern.ensures.small })

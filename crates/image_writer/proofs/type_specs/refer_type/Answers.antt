@@ -10,7 +10,7 @@ use Rattle.image_writer.proofs.SpellingSizes.{type_within}
 use Rattle.image_writer.proofs.type_specs.refer_type.Goals as goal
 
 pub returns-in-Some : goal.returns-in-Some
-returns-in-Some c = spec_found c.args.refs.now c.args.of.now (longest c.args.of.now) c.in-Some.token c.requires.known c.requires.room (sym c.in-Some.ensures)
+returns-in-Some c = spec_found c.args.refs.now c.args.of.now (longest c.args.of.now) c.in-Some.token c.requires.known (sym c.in-Some.ensures)
 
 pub refer_blob-requires-clause-room : goal.refer_blob-requires-clause-room
 refer_blob-requires-clause-room c =

@@ -1,0 +1,29 @@
+use Rattle.std.proofs.Common.{◌≡◌, ◌∙◌, ap, sym, subst, ℕ, ◌+◌, ◌*◌, ◌%◌, ◌<◌, List, length, Ok, arith}
+use Rattle.heaps.specs.Content.{HasUnits}
+use Rattle.image_writer.specs.Units.{HoldsUnits, bytes_of_units}
+use Rattle.image_writer.proofs.LoadedLemmas.{two_each, found_is}
+use Rattle.image_writer.proofs.user_texts.add_units.Goals as goal
+
+pub add-requires-clause-whole : goal.add-requires-clause-whole
+add-requires-clause-whole c =
+    let two = two_each c.args.units.now in
+    let same = ap (length {A = ℕ}) (c.as_slice.ensures ∙ c.in_ok-bytes.ensures) in
+    omega arith
+
+pub add-requires-clause-room : goal.add-requires-clause-room
+add-requires-clause-room c =
+    let two = two_each c.args.units.now in
+    let same = ap (length {A = ℕ}) (c.as_slice.ensures ∙ c.in_ok-bytes.ensures) in
+    let room = c.requires in
+    omega arith
+
+pub returns-clause-same : goal.returns-clause-same
+returns-clause-same c =
+    let content : c.as_slice.result.now ≡ bytes_of_units c.args.units.now = c.as_slice.ensures ∙ c.in_ok-bytes.ensures in
+    λ index h. (c.add.ensures.known index h.used (subst (λ (xs : List ℕ). HasUnits c.args.user.now.bytes index xs) (sym content) h.there)).1
+
+pub returns-clause-known : goal.returns-clause-known
+returns-clause-known c =
+    let content : c.as_slice.result.now ≡ bytes_of_units c.args.units.now = c.as_slice.ensures ∙ c.in_ok-bytes.ensures in
+    found_is (HoldsUnits c.args.user.now (bytes_of_units c.args.units.now)) c.add.result
+    (λ index h. (c.add.ensures.known index h.used (subst (λ (xs : List ℕ). HasUnits c.args.user.now.bytes index xs) (sym content) h.there)).0)

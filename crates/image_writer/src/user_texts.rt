@@ -1,0 +1,43 @@
+//! The texts that instructions load, as user strings and their tokens (ECMA-335 II.24.2.4, III.1.9,
+//! III.4.16).
+ghost use Rattle.std.specs.Prelude.{◌≡◌, ℕ, ◌+◌, ◌*◌, ◌^◌, ◌<◌, ◌≤◌, length, IfOk};
+ghost use Rattle.image_writer.specs.Members.{Leaves, HasLoaded};
+ghost use Rattle.image_writer.specs.References.{size, AreKnown};
+ghost use Rattle.image_writer.specs.Units.{bytes_of_units, HoldsUnits, KeepsUnits, IsLoadable};
+
+use crate::heap_contents::bytes_of_units;
+use crate::references::References;
+use crate::tokens::{USER_STRING, token_of};
+use heaps::UserHeap;
+use il_base::{NoMemory, Units};
+use std::alloc::Global;
+
+/// The index of a text, which the heap gets where it lacks it.
+pub(crate) fn add_units(alloc: Global, user: &mut UserHeap, units: &Units) -> Result<u32, NoMemory>
+    requires { length user.old.bytes + 2 * length units.now + 8 < 2 ^ 29 }
+    ensures holds { IfOk result (HoldsUnits user.new (bytes_of_units units.now)) }
+    ensures same { (index : ℕ) → HoldsUnits user.old (bytes_of_units units.now) index → user.new ≡ user.old }
+    ensures known { IfOk result (λ found. (index : ℕ) → HoldsUnits user.old (bytes_of_units units.now) index → found ≡ index) }
+    ensures keeps { KeepsUnits user.old user.new }
+{
+    let bytes = bytes_of_units(alloc, units)?;
+    user.add(bytes.as_slice())
+}
+
+/// The token of a text that stands in the heap, which is given to it where it has none.
+pub(crate) fn refer_loaded<'a>(
+    alloc: Global,
+    refs: &mut References<'a>,
+    units: &'a Units,
+) -> Result<u32, NoMemory>
+    requires known { AreKnown refs.old }
+    requires loadable { IsLoadable refs.old.heaps.user units.now }
+    requires room { size refs.old + 2 * length units.now ≤ 2 ^ 26 }
+    ensures { IfOk result (Leaves (HasLoaded units.now) refs.old refs.new 0) }
+{
+    if let Some(token) = refs.known.texts.find(units) {
+        return Ok(token);
+    }
+    let index = add_units(alloc, &mut refs.heaps.user, units)?;
+    refs.known.texts.give(units, token_of(USER_STRING, index))
+}
