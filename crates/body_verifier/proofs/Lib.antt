@@ -3,6 +3,7 @@ pub mod Asks
 pub mod Breaking
 pub mod Budgets
 pub mod Calling
+pub mod ChainLemmas
 pub mod Checked
 pub mod CodeLemmas
 pub mod Crossing
@@ -14,6 +15,7 @@ pub mod Following
 pub mod FrameLemmas
 pub mod Growing
 pub mod Grown
+pub mod Guards
 pub mod Handlers
 pub mod Heights
 pub mod Innermost
@@ -44,6 +46,7 @@ pub mod RowParts
 pub mod RuleLemmas
 pub mod Shallow
 pub mod Shapes
+pub mod Sharing
 pub mod Sizing
 pub mod Solutions
 pub mod SolveLemmas
@@ -53,6 +56,7 @@ pub mod StateLemmas
 pub mod StatedLemmas
 pub mod Taking
 pub mod Targets
+pub mod Topmost
 pub mod Totals
 pub mod TryMarks
 pub mod TypeNodes

@@ -1,6 +1,7 @@
 pub mod Asking
 pub mod BlockTests
 pub mod Blocks
+pub mod Chains
 pub mod Checking
 pub mod CodeMarks
 pub mod CodeRules

@@ -48,6 +48,11 @@ abbrev pub marked_clauses : List Bool → List Spans → List Bool
 marked_clauses m [] = m
 marked_clauses m (s ∷ ss) = marked_clauses (marked m (span_places s)) ss
 
+-- where tries begin and end
+abbrev pub marked_bounds : List Bool → List Spans → List Bool
+marked_bounds m [] = m
+marked_bounds m (s ∷ ss) = marked_bounds (set_mark (set_mark m s.guarded.start) s.guarded.end) ss
+
 abbrev pub all_marks : List Ins → List Spans → List Bool
 all_marks code clauses = marked_clauses (marked_code (replicate (length code) false) code) clauses
 

@@ -1,9 +1,8 @@
 //! Whether types and stacks of the code mean the same.
-ghost use Rattle.std.specs.Prelude.{◌≡◌, ◌<◌, ◌↔◌, length, IsTrue};
+ghost use Rattle.std.specs.Prelude.{◌≡◌, ◌<◌, ◌≤◌, ◌↔◌, length, take, IsTrue};
 ghost use Rattle.assignability.specs.Meaning.{meant, IsWithin};
 ghost use Rattle.body_verifier.specs.RowMeanings.{stack_meant, IsStackWithin};
 
-use crate::stack::Stack;
 use assignability::{StackType, id_of};
 use sig_pool::SigPool;
 
@@ -39,17 +38,29 @@ pub(crate) fn same_type(pool: &SigPool, s: &StackType, t: &StackType) -> bool
     }
 }
 
+/// How many values of two stacks of one depth mean the same, from the first pushed on. Takes no memory.
+pub(crate) fn same_count(pool: &SigPool, s: &[StackType], t: &[StackType]) -> usize
+    requires s { IsStackWithin (length pool.now) s.now }
+    requires t { IsStackWithin (length pool.now) t.now }
+    requires depth { length s.now ≡ length t.now }
+    ensures most { result ≤ length s.now }
+    ensures same { stack_meant pool.now (take result s.now) ≡ stack_meant pool.now (take result t.now) }
+    ensures differ { result < length s.now → stack_meant pool.now s.now ≡ stack_meant pool.now t.now → ⊥ }
+{
+    for k in 0..s.len() {
+        if !same_type(pool, &s[k], &t[k]) {
+            return k;
+        }
+    }
+    s.len()
+}
+
 /// Whether two stacks of one depth mean the same. Takes no memory.
-pub(crate) fn same_stack(pool: &SigPool, s: &Stack, t: &Stack) -> bool
+pub(crate) fn same_stack(pool: &SigPool, s: &[StackType], t: &[StackType]) -> bool
     requires s { IsStackWithin (length pool.now) s.now }
     requires t { IsStackWithin (length pool.now) t.now }
     requires depth { length s.now ≡ length t.now }
     ensures { IsTrue result ↔ (stack_meant pool.now s.now ≡ stack_meant pool.now t.now) }
 {
-    for k in 0..s.len() {
-        if !same_type(pool, s.at(k), t.at(k)) {
-            return false;
-        }
-    }
-    true
+    same_count(pool, s, t) == s.len()
 }

@@ -1,4 +1,5 @@
-//! Whether a stack meets what an instruction asks of it (ECMA-335 III.1.5, III.1.7.4, III.1.8.1.2).
+//! Whether a stack meets what an instruction asks of it (ECMA-335 III.1.5, III.1.7.4, III.1.8.1.2). What asks operands
+//! alone is given a stack's values, or the topmost of them.
 ghost use Rattle.std.specs.Prelude.{◌≡◌, ◌↔◌, ◌<◌, ◌≤◌, List, length, IsTrue, IfOk};
 ghost use Rattle.sig_pool.specs.declared.node.Node.{Node};
 ghost use Rattle.assignability.specs.Hierarchy.{Hierarchy};
@@ -44,7 +45,7 @@ pub(crate) fn gets_too_deep(row: &Row, stack: &Stack, bound: u16) -> bool
 }
 
 /// Whether the operand at place `k` is of a wrong kind.
-fn is_wrong_at(w: &mut World, row: &Row, stack: &Stack, k: usize) -> Result<bool, NoMemory>
+fn is_wrong_at(w: &mut World, row: &Row, stack: &[StackType], k: usize) -> Result<bool, NoMemory>
     requires row { IsRowWithin (length w.old.nodes) row.now }
     requires stack { IsStackWithin (length w.old.nodes) stack.now }
     requires place { k < length row.now.operands }
@@ -58,7 +59,11 @@ fn is_wrong_at(w: &mut World, row: &Row, stack: &Stack, k: usize) -> Result<bool
 }
 
 /// Whether an operand is of a wrong kind.
-pub(crate) fn has_wrong_operand(w: &mut World, row: &Row, stack: &Stack) -> Result<bool, NoMemory>
+pub(crate) fn has_wrong_operand(
+    w: &mut World,
+    row: &Row,
+    stack: &[StackType],
+) -> Result<bool, NoMemory>
     requires row { IsRowWithin (length w.old.nodes) row.now }
     requires stack { IsStackWithin (length w.old.nodes) stack.now }
     ensures ok { IfOk result (λ r. IsTrue r ↔ HasWrongOperand (hierarchy w.old) (row_meant w.old.nodes row.now) (stack_meant w.old.nodes stack.now)) }
@@ -74,7 +79,12 @@ pub(crate) fn has_wrong_operand(w: &mut World, row: &Row, stack: &Stack) -> Resu
 }
 
 /// Whether the operand at place `k` isn't assignable to what is demanded.
-fn is_unassignable_at(w: &mut World, row: &Row, stack: &Stack, k: usize) -> Result<bool, NoMemory>
+fn is_unassignable_at(
+    w: &mut World,
+    row: &Row,
+    stack: &[StackType],
+    k: usize,
+) -> Result<bool, NoMemory>
     requires row { IsRowWithin (length w.old.nodes) row.now }
     requires stack { IsStackWithin (length w.old.nodes) stack.now }
     requires place { k < length row.now.operands }
@@ -88,7 +98,7 @@ fn is_unassignable_at(w: &mut World, row: &Row, stack: &Stack, k: usize) -> Resu
 }
 
 /// Whether an operand isn't assignable to what is demanded.
-fn has_unassignable(w: &mut World, row: &Row, stack: &Stack) -> Result<bool, NoMemory>
+fn has_unassignable(w: &mut World, row: &Row, stack: &[StackType]) -> Result<bool, NoMemory>
     requires row { IsRowWithin (length w.old.nodes) row.now }
     requires stack { IsStackWithin (length w.old.nodes) stack.now }
     ensures ok { IfOk result (λ r. IsTrue r ↔ HasUnassignable (hierarchy w.old) (row_meant w.old.nodes row.now) (stack_meant w.old.nodes stack.now)) }
@@ -104,7 +114,7 @@ fn has_unassignable(w: &mut World, row: &Row, stack: &Stack) -> Result<bool, NoM
 }
 
 /// Whether the second operand isn't assignable to what the first points to.
-fn is_unstored(w: &mut World, row: &Row, stack: &Stack) -> Result<bool, NoMemory>
+fn is_unstored(w: &mut World, row: &Row, stack: &[StackType]) -> Result<bool, NoMemory>
     requires row { IsRowWithin (length w.old.nodes) row.now }
     requires stack { IsStackWithin (length w.old.nodes) stack.now }
     ensures ok { IfOk result (λ r. IsTrue r ↔ IsUnstored (hierarchy w.old) (row_meant w.old.nodes row.now) (stack_meant w.old.nodes stack.now)) }
@@ -129,7 +139,7 @@ fn is_unstored(w: &mut World, row: &Row, stack: &Stack) -> Result<bool, NoMemory
 }
 
 /// Whether an operand isn't assignable to what is demanded, or the second to what the first points to.
-pub(crate) fn fails_to_fit(w: &mut World, row: &Row, stack: &Stack) -> Result<bool, NoMemory>
+pub(crate) fn fails_to_fit(w: &mut World, row: &Row, stack: &[StackType]) -> Result<bool, NoMemory>
     requires row { IsRowWithin (length w.old.nodes) row.now }
     requires stack { IsStackWithin (length w.old.nodes) stack.now }
     ensures ok { IfOk result (λ r. IsTrue r ↔ FailsToFit (hierarchy w.old) (row_meant w.old.nodes row.now) (stack_meant w.old.nodes stack.now)) }
@@ -144,7 +154,7 @@ pub(crate) fn fails_to_fit(w: &mut World, row: &Row, stack: &Stack) -> Result<bo
 }
 
 /// Whether the operands, each fit to be one of a pair, don't go together. Takes no memory.
-pub(crate) fn is_mismatched(row: &Row, stack: &Stack) -> bool
+pub(crate) fn is_mismatched(row: &Row, stack: &[StackType]) -> bool
     ensures { (w : Hierarchy) (ns : List Node) → IsTrue result ↔ IsMismatched w (row_meant ns row.now) (stack_meant ns stack.now) }
 {
     match row.together {

@@ -114,7 +114,7 @@ fn broken_by(
         let row = rows.at(k as usize);
         let state = states.at(k as usize);
         let rule = verdict(
-            w, a, frame, code, clauses, &marks, body.bound, k, row, state,
+            alloc, w, a, frame, code, clauses, &marks, body.bound, k, row, state,
         )?;
         add_broken(&mut broken, k, rule)?;
     }

@@ -17,7 +17,7 @@ use crate::row::{Pushed, Row};
 use crate::stack::Stack;
 use assignability::StackType;
 use assignability::types::World;
-use il_lists::{Items, NoMemory};
+use il_lists::NoMemory;
 use std::alloc::Global;
 
 /// An element of a vector of a reference type, and null of null.
@@ -82,6 +82,7 @@ fn kept_if(kept: bool, s: &StackType) -> StackType
 
 /// Pushes what a row pushes.
 fn push_all(
+    alloc: Global,
     w: &mut World,
     stack: &mut Stack,
     pushed: &[Pushed],
@@ -97,7 +98,7 @@ fn push_all(
 {
     for value in pushed {
         let value = given(w, *value, first, second)?;
-        stack.push(value)?;
+        stack.push(alloc, value)?;
     }
     Ok(())
 }
@@ -115,28 +116,15 @@ pub(crate) fn stack_after(
     ensures stays { Stays w.old w.new }
 {
     if row.empties {
-        return Ok(Items::new(alloc));
+        return Ok(Stack::new());
     }
     let count = row.operands.len();
-    let first = operand(stack, count, 0);
-    let second = operand(stack, count, 1);
-    let mut after = below_operands(alloc, stack, count, row.pushed.len())?;
-    push_all(w, &mut after, row.pushed.as_slice(), &first, &second)?;
+    let operands = stack.topmost(alloc, count)?;
+    let operands = operands.as_slice();
+    let first = operand(operands, count, 0);
+    let second = operand(operands, count, 1);
+    let mut after = stack.under(count)?;
+    let pushed = row.pushed.as_slice();
+    push_all(alloc, w, &mut after, pushed, &first, &second)?;
     Ok(after)
-}
-
-/// The stack below that many operands, with room for as many values as are pushed.
-fn below_operands(
-    alloc: Global,
-    stack: &Stack,
-    count: usize,
-    pushed: usize,
-) -> Result<Stack, NoMemory>
-    ensures { IfOk result (λ s. s ≡ take (length stack.now - count) stack.now) }
-{
-    let kept = stack.len().saturating_sub(count);
-    let mut below = Items::with_capacity(alloc, kept)?;
-    below.reserve(pushed)?;
-    below.extend(&stack.as_slice()[..kept])?;
-    Ok(below)
 }

@@ -10,7 +10,7 @@ ghost use Rattle.body_verifier.specs.GoingTests.{own_goings, guards_from, HasGoi
 
 use crate::blocks::Spans;
 use crate::flowing::{add_flows, flows};
-use crate::guarding::add_guards;
+use crate::guarding::{bounds_of, guards_at};
 use crate::leaving::{Leave, add_ended, add_left, leaves_of, targets_of};
 use crate::operation::{Operation, operation_of};
 use assembly_tree::Ins;
@@ -57,24 +57,25 @@ fn add_own(
     }
 }
 
-/// The edges from instruction `k` of `count`.
+/// The edges from instruction `k` of `count`, of which `guards` lead to handlers and filters.
 fn goings_at(
     alloc: Global,
     count: u32,
     clauses: &[Spans],
     leaves: &[Leave],
+    guards: &[Going],
     k: u32,
     ins: &Ins,
 ) -> Result<Items<Going>, NoMemory>
     requires below { k < count }
-    requires few { length clauses.now < 2 ^ 32 }
+    requires guards { guards.now ≡ guards_from k 0 clauses.now }
     ensures { IfOk result (HasGoings count clauses.now leaves.now k ins.now) }
 {
     let flows = flows(alloc, count, k, ins)?;
     let mut goings = Items::new(alloc);
     add_flows(&mut goings, flows.as_slice())?;
     add_own(&mut goings, clauses, leaves, k, ins)?;
-    add_guards(&mut goings, clauses, k)?;
+    goings.extend(guards)?;
     Ok(goings)
 }
 
@@ -85,14 +86,20 @@ fn all_goings(alloc: Global, code: &[Ins], clauses: &[Spans]) -> Result<Goings, 
     ensures { IfOk result (HaveGoings code.now clauses.now) }
 {
     let leaves = leaves_of(alloc, code)?;
+    let leaves = leaves.as_slice();
+    let bounds = bounds_of(alloc, code.len(), clauses)?;
+    let bounds = bounds.as_slice();
     let mut all = Items::with_capacity(alloc, code.len())?;
+    let mut guards = Items::new(alloc);
     let count = code.len() as u32;
     for k in 0..count {
+        guards = guards_at(alloc, clauses, bounds, k, guards)?;
         let goings = goings_at(
             alloc,
             count,
             clauses,
-            leaves.as_slice(),
+            leaves,
+            guards.as_slice(),
             k,
             &code[k as usize],
         )?;

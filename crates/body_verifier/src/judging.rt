@@ -20,6 +20,7 @@ use crate::stack::Stack;
 use assignability::keys_keep_their_types;
 use assignability::types::World;
 use il_lists::NoMemory;
+use std::alloc::Global;
 
 /// What an instruction breaks that asks its stack.
 #[derive(Clone, Copy, Drop)]
@@ -109,6 +110,7 @@ fn is_full(stack: &Stack) -> bool
 
 /// What an instruction with that row breaks that asks its stack.
 fn stack_breaks(
+    alloc: Global,
     w: &mut World,
     row: &Row,
     bound: u16,
@@ -123,10 +125,12 @@ fn stack_breaks(
     let too_deep = is_too_deep(row, stack, bound);
     let more = has_more(row, stack);
     let full = is_full(stack);
-    let mismatched = is_mismatched(row, stack);
+    let operands = stack.topmost(alloc, row.operands.len())?;
+    let operands = operands.as_slice();
+    let mismatched = is_mismatched(row, operands);
     keys_keep_their_types();
-    let wrong = has_wrong_operand(w, row, stack)?;
-    let unfit = fails_to_fit(w, row, stack)?;
+    let wrong = has_wrong_operand(w, row, operands)?;
+    let unfit = fails_to_fit(w, row, operands)?;
     Ok(StackBreaks {
         too_few,
         too_deep,
@@ -183,6 +187,7 @@ fn first_rule(stack: &StackBreaks, code: &CodeBreaks, does: Operation) -> Option
 
 /// The number of the first rule that an instruction breaks before which that stack stands.
 pub(crate) fn judge(
+    alloc: Global,
     w: &mut World,
     row: &Row,
     does: Operation,
@@ -195,6 +200,6 @@ pub(crate) fn judge(
     ensures ok { IfOk result (λ r. (f : Frame) (typing : typings.Typing) (k : ℕ) (i : Ins) → f.types ≡ hierarchy w.old → f.bound ≡ bound → slice_get f.code k ≡ Some i → operation i.op ≡ does → row_meant w.old.nodes row.now ≡ row_of f k i → typing k ≡ typings.stack (stack_meant w.old.nodes stack.now) → AreCodeBreaks f k code.now → Judges f typing k r) }
     ensures stays { Stays w.old w.new }
 {
-    let stack = stack_breaks(w, row, bound, stack)?;
+    let stack = stack_breaks(alloc, w, row, bound, stack)?;
     Ok(first_rule(&stack, code, does))
 }

@@ -6,12 +6,11 @@ ghost use Rattle.assignability.specs.Stack.{bad};
 ghost use Rattle.body_verifier.specs.Effects.{operands_of};
 ghost use Rattle.body_verifier.specs.RowMeanings.{stack_meant, IsStackWithin};
 
-use crate::stack::Stack;
 use assignability::StackType;
 
-/// The operand at place `k` of the `count` that an instruction takes, the one that was pushed first at place 0.
-/// Those that are missing count as Bad. Takes no memory.
-pub(crate) fn operand(stack: &Stack, count: usize, k: usize) -> StackType
+/// The operand at place `k` of the `count` that an instruction takes, the one that was pushed first at place 0, from a
+/// stack's values or the topmost of them. Those that are missing count as Bad. Takes no memory.
+pub(crate) fn operand(stack: &[StackType], count: usize, k: usize) -> StackType
     ensures is { (ns : List Node) → meant ns result ≡ get_or (operands_of count (stack_meant ns stack.now)) k bad }
     ensures within { (n : ℕ) → IsStackWithin n stack.now → IsWithin n result }
 {
@@ -23,5 +22,5 @@ pub(crate) fn operand(stack: &Stack, count: usize, k: usize) -> StackType
     if depth < back {
         return StackType::Bad;
     }
-    *stack.at(depth - back)
+    stack[depth - back]
 }

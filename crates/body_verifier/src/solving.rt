@@ -15,6 +15,7 @@ ghost use Rattle.body_verifier.specs.Ways.{Setup, IsSetUp, IsUnderWay, IsSolved,
 use crate::effect::stack_after;
 use crate::goings::{Going, Goings};
 use crate::row::Row;
+use crate::stack::Stack;
 use crate::state::{State, meet};
 use crate::stated::Stated;
 use crate::worklist::Worklist;
@@ -118,7 +119,7 @@ fn first_states(alloc: Global, count: usize) -> Result<Items<State>, NoMemory>
     ensures { IfOk result (λ states. states ≡ State.Stack [] ∷ replicate (count - 1) State.Unreached) }
 {
     let mut states = Items::with_capacity(alloc, count)?;
-    states.push(State::Stack(Items::new(alloc)))?;
+    states.push(State::Stack(Stack::new()))?;
     for _ in 1..count {
         states.push(State::Unreached)?;
     }

@@ -1,15 +1,16 @@
 //! What is known before each instruction, and what is known where two ways meet.
 ghost use Rattle.std.specs.Prelude.{◌≡◌, ◌+◌, ◌≤◌, ◌^◌, length, min, IfOk};
 ghost use Rattle.assignability.specs.World.{hierarchy, Stays};
-ghost use Rattle.body_verifier.specs.RowMeanings.{IsStackWithin};
+ghost use Rattle.body_verifier.specs.RowMeanings.{stack_meant, IsStackWithin, MeansStack};
 ghost use Rattle.body_verifier.specs.StateMeanings.{AllJoinAs, is_unreached, IsStateWithin, state_depth, MeetsAs};
 
-use crate::alike::same_stack;
+use crate::alike::{same_count, same_stack};
 use crate::stack::Stack;
 use assignability::types::World;
-use assignability::{join, keys_keep_their_types};
+use assignability::{StackType, join, keys_keep_their_types};
 use il_base::Steps;
 use il_lists::{Items, NoMemory};
+use sig_pool::SigPool;
 use std::alloc::Global;
 
 /// What is known before an instruction (ECMA-335 III.1.8.1.1).
@@ -36,10 +37,10 @@ impl State {
 fn joins(
     alloc: Global,
     w: &mut World,
-    s: &Stack,
-    t: &Stack,
+    s: &[StackType],
+    t: &[StackType],
     steps: &mut Steps,
-) -> Result<Stack, NoMemory>
+) -> Result<Items<StackType>, NoMemory>
     requires s { IsStackWithin (length w.old.nodes) s.now }
     requires t { IsStackWithin (length w.old.nodes) t.now }
     requires depth { length s.now ≡ length t.now }
@@ -51,10 +52,59 @@ fn joins(
     let mut joins = Items::with_capacity(alloc, s.len())?;
     for k in 0..s.len() {
         keys_keep_their_types();
-        let both = join(w, s.at(k), t.at(k), steps)?;
+        let both = join(w, &s[k], &t[k], steps)?;
         joins.push(both)?;
     }
     Ok(joins)
+}
+
+/// A stack that means the same as some values. It shares those that are the same, up to the first that isn't, with a stack
+/// of their depth that has the values `known`.
+fn over(
+    alloc: Global,
+    pool: &SigPool,
+    stack: &Stack,
+    known: &[StackType],
+    values: &[StackType],
+) -> Result<Stack, NoMemory>
+    requires known { known.now ≡ stack.now }
+    requires stack { IsStackWithin (length pool.now) stack.now }
+    requires values { IsStackWithin (length pool.now) values.now }
+    requires depth { length stack.now ≡ length values.now }
+    ensures { IfOk result (λ s. MeansStack pool.now s (stack_meant pool.now values.now)) }
+{
+    let same = same_count(pool, known, values);
+    let mut over = stack.under(values.len() - same)?;
+    over.push_each(alloc, &values[same..])?;
+    Ok(over)
+}
+
+/// What is known where two stacks of one depth meet, by their values, if that isn't the first. The second is `stack`.
+fn values_meet(
+    alloc: Global,
+    w: &mut World,
+    stack: &Stack,
+    s: &[StackType],
+    t: &[StackType],
+    steps: &mut Steps,
+) -> Result<Option<State>, NoMemory>
+    requires known { t.now ≡ stack.now }
+    requires s { IsStackWithin (length w.old.nodes) s.now }
+    requires t { IsStackWithin (length w.old.nodes) stack.now }
+    requires depth { length s.now ≡ length stack.now }
+    requires room { steps.old + length s.now ≤ 2 ^ 127 }
+    ensures ok { IfOk result (λ r. MeetsAs (hierarchy w.old) w.old.nodes (State.Stack s.now) (State.Stack stack.now) w.new.nodes r) }
+    ensures stays { Stays w.old w.new }
+    ensures steps { steps.new ≤ steps.old + length s.now }
+{
+    let joins = joins(alloc, w, s, t, steps)?;
+    let joins = joins.as_slice();
+    keys_keep_their_types();
+    if same_stack(w.pool(), s, joins) {
+        return Ok(None);
+    }
+    let met = over(alloc, w.pool(), stack, t, joins)?;
+    Ok(Some(State::Stack(met)))
 }
 
 /// What is known where two stacks meet, if that isn't the first.
@@ -75,12 +125,9 @@ fn stacks_meet(
     if s.len() != t.len() {
         return Ok(Some(State::Clash));
     }
-    let joins = joins(alloc, w, s, t, steps)?;
-    keys_keep_their_types();
-    if same_stack(w.pool(), s, &joins) {
-        return Ok(None);
-    }
-    Ok(Some(State::Stack(joins)))
+    let left = s.values(alloc)?;
+    let right = t.values(alloc)?;
+    values_meet(alloc, w, t, &left, &right, steps)
 }
 
 /// What is known where two ways meet, if that isn't what is known by the first.
@@ -104,7 +151,7 @@ pub(crate) fn meet(
             State::Unreached => Ok(None),
             State::Clash => Ok(Some(State::Clash)),
             State::Stack(stack) => {
-                let copy = Items::from_slice(alloc, stack.as_slice())?;
+                let copy = stack.share()?;
                 Ok(Some(State::Stack(copy)))
             }
         },

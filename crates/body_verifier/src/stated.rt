@@ -10,6 +10,7 @@ ghost use Rattle.body_verifier.specs.Stating.{IsStack, found_at};
 ghost use Rattle.body_verifier.specs.Ways.{brought, AreStatedFor};
 
 use crate::goings::Carried;
+use crate::stack::Stack;
 use crate::state::State;
 use assembly_tree::{Clause, ClauseKind};
 use assignability::types::World;
@@ -50,7 +51,8 @@ impl Stated {
 fn holding(alloc: Global, value: StackType) -> Result<State, NoMemory>
     ensures { IfOk result (λ s. s ≡ State.Stack (value ∷ [])) }
 {
-    let stack = Items::from_slice(alloc, &[value])?;
+    let mut stack = Stack::new();
+    stack.push(alloc, value)?;
     Ok(State::Stack(stack))
 }
 
@@ -82,9 +84,9 @@ fn caught_by(alloc: Global, w: &mut World, kind: &ClauseKind) -> Result<State, N
 {
     match kind {
         ClauseKind::Catch(owner) => holding_caught(alloc, w, owner),
-        ClauseKind::Filter(_) => Ok(State::Stack(Items::new(alloc))),
-        ClauseKind::Finally => Ok(State::Stack(Items::new(alloc))),
-        ClauseKind::Fault => Ok(State::Stack(Items::new(alloc))),
+        ClauseKind::Filter(_) => Ok(State::Stack(Stack::new())),
+        ClauseKind::Finally => Ok(State::Stack(Stack::new())),
+        ClauseKind::Fault => Ok(State::Stack(Stack::new())),
     }
 }
 
@@ -113,7 +115,7 @@ pub(crate) fn stated_of(
     let object = holding_object(alloc, w)?;
     let caught = all_caught(alloc, w, clauses)?;
     Ok(Stated {
-        nothing: State::Stack(Items::new(alloc)),
+        nothing: State::Stack(Stack::new()),
         object,
         caught,
     })

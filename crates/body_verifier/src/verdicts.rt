@@ -22,10 +22,12 @@ use crate::state::State;
 use assembly_tree::{Assembly, Ins};
 use assignability::types::World;
 use il_lists::NoMemory;
+use std::alloc::Global;
 
 /// The number of the first rule that instruction `k` of a body breaks, by its row and what is known before it; none where
 /// it isn't reached.
 pub(crate) fn verdict(
+    alloc: Global,
     w: &mut World,
     a: &Assembly,
     frame: &CodeFrame,
@@ -53,7 +55,7 @@ pub(crate) fn verdict(
         State::Stack(stack) => {
             let breaks = code_breaks(w, a, frame, code, clauses, marks, k);
             let does = operation_of(code[k as usize].op);
-            let rule = judge(w, row, does, bound, stack, &breaks)?;
+            let rule = judge(alloc, w, row, does, bound, stack, &breaks)?;
             Ok(rule)
         }
     }

@@ -1,7 +1,5 @@
-use Rattle.std.proofs.Common.{◌∙◌, length}
-use Rattle.assignability.specs.declared.stack_type.StackType.{StackType}
+use Rattle.std.proofs.Common.{length}
 use Rattle.assignability.specs.World.{hierarchy}
-use Rattle.body_verifier.specs.RowMeanings.{IsStackWithin}
 use Rattle.body_verifier.proofs.StateLemmas.{copy_within, from_clash, from_unreached, reached_by_clash, reached_by_stack, clash_from_stack}
 use Rattle.body_verifier.proofs.state.meet.Goals as goal
 
@@ -16,7 +14,7 @@ returns-in-Clash-comes-clause-ok c = (tt, reached_by_clash (hierarchy c.args.w.n
 
 pub returns-in_ok-copy-in-Stack-comes-clause-ok : goal.returns-in_ok-copy-in-Stack-comes-clause-ok
 returns-in_ok-copy-in-Stack-comes-clause-ok c =
-    let is = c.in_ok-copy-in-Stack-comes.ensures ∙ c.as_slice.ensures in (
+    let is = c.in_ok-copy-in-Stack-comes.ensures in (
       copy_within (length c.args.w.now.nodes) c.args.comes.now c.in-Stack-comes.stack c.in_ok-copy-in-Stack-comes.copy c.requires.comes c.in-Stack-comes.is is,
       reached_by_stack (hierarchy c.args.w.now) c.args.w.now.nodes c.args.known.now c.args.comes.now c.in-Stack-comes.stack c.in_ok-copy-in-Stack-comes.copy
           c.in-Unreached.is c.in-Stack-comes.is is,

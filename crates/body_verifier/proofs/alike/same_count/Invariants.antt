@@ -1,7 +1,7 @@
 use Rattle.std.proofs.Common.{◌≡◌, ℕ, ◌<◌, get_or}
 use Rattle.assignability.specs.declared.stack_type.StackType.TheVariants.{Bad}
 use Rattle.assignability.specs.Meaning.{meant}
-use Rattle.body_verifier.proofs.alike.same_stack.Given as goal
+use Rattle.body_verifier.proofs.alike.same_count.Given as goal
 
 abbrev pub invariant-loop-k : goal.invariant-loop-k
 invariant-loop-k l = (i : ℕ) → i < l.k → meant l.pool (get_or l.s i Bad) ≡ meant l.pool (get_or l.t i Bad)

@@ -1,0 +1,19 @@
+-- The values of a stack's cells, the topmost first.
+use Rattle.std.specs.Prelude.{List, [], ◌∷◌, Option, None, Some}
+use Rattle.std.specs.Rc.{rc_value}
+use Rattle.std.specs.declared.alloc.Global.{Global}
+use Rattle.std.specs.declared.rc.Rc.{Rc}
+use Rattle.assignability.specs.declared.stack_type.StackType.{StackType}
+use Rattle.body_verifier.specs.declared.stack.Cell.{Cell, Cell', Held-Cell-below, None', Some'}
+
+abbrev mutual
+  pub values_in : Cell → List StackType
+  values_in (Cell' value below) = value ∷ values_below below
+
+  pub values_below : Held-Cell-below → List StackType
+  values_below None' = []
+  values_below (Some' p cell) = values_in cell
+
+abbrev pub values_of : Option (Rc Cell Global) → List StackType
+values_of None = []
+values_of (Some cell) = values_in (rc_value cell)
