@@ -3,4 +3,30 @@
 #![tactic(auto)]
 
 #[cfg(test)]
+mod blocks;
+#[cfg(test)]
+mod cases;
+#[cfg(test)]
+mod coding;
+#[cfg(test)]
+mod depths;
+#[cfg(test)]
+mod large;
+#[cfg(test)]
+mod large_rows;
+#[cfg(test)]
+mod library;
+#[cfg(test)]
+mod members;
+#[cfg(test)]
+mod operands;
+#[cfg(test)]
+mod others;
+#[cfg(test)]
+mod rows;
+#[cfg(test)]
+mod terms;
+#[cfg(test)]
+mod types;
+#[cfg(test)]
 mod worklist_rows;

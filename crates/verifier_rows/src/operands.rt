@@ -1,0 +1,178 @@
+//! Kinds of operands, and whether they go together.
+
+use crate::cases::Case;
+
+pub static OPERANDS: [Case; 32] = [
+    (
+        "the length of a number",
+        "",
+        "ldc.i4.1 ldlen pop ret",
+        "1:V4",
+    ),
+    (
+        "the length of an array",
+        "takes:int32[]",
+        "ldarg.0 ldlen pop ret",
+        "",
+    ),
+    ("the length of null", "", "ldnull ldlen pop ret", ""),
+    (
+        "an array as long as an int64",
+        "",
+        "ldc.i8:1 newarr:int32 pop ret",
+        "9:V4",
+    ),
+    (
+        "a sum of a value type",
+        "takes:valuetype:S",
+        "ldarg.0 ldc.i4.0 add pop ret",
+        "2:V4 3:V4",
+    ),
+    (
+        "a sum of int32 and int64",
+        "",
+        "ldc.i4.1 ldc.i8:1 add pop ret",
+        "10:V7 11:V4",
+    ),
+    (
+        "a sum of references",
+        "",
+        "ldnull ldnull add pop ret",
+        "2:V7 3:V4",
+    ),
+    (
+        "a sum of int32 and native int",
+        "",
+        "ldc.i4.1 ldc.i4.1 conv.i add pop ret",
+        "",
+    ),
+    (
+        "what follows a wrong sum",
+        "",
+        "ldnull ldnull add dup pop pop ret",
+        "2:V7 3:V4 4:V4 5:V4",
+    ),
+    (
+        "a checked sum of floats",
+        "",
+        "ldc.r4:0 dup add.ovf pop ret",
+        "6:V7 7:V4",
+    ),
+    (
+        "bits of floats",
+        "",
+        "ldc.r4:0 dup and pop ret",
+        "6:V7 7:V4",
+    ),
+    (
+        "a shift by a native int",
+        "",
+        "ldc.i4.1 ldc.i4.1 conv.i shl pop ret",
+        "",
+    ),
+    (
+        "a shift by an int64 keeps its first operand",
+        "",
+        "ldc.i4.1 ldc.i8:1 shl pop ret",
+        "10:V4",
+    ),
+    (
+        "an unsigned number as a float",
+        "",
+        "ldc.i4.0 conv.r.un pop ret",
+        "",
+    ),
+    (
+        "a float with its sign changed",
+        "",
+        "ldc.r4:0 neg pop ret",
+        "",
+    ),
+    (
+        "a number as a native one",
+        "",
+        "ldc.i4.1 conv.u pop ret",
+        "",
+    ),
+    (
+        "references that are equal or not",
+        "takes:A takes:I",
+        "ldarg.0 ldarg.1 ceq pop ret",
+        "",
+    ),
+    (
+        "references of which one is less",
+        "takes:A takes:I",
+        "ldarg.0 ldarg.1 clt pop ret",
+        "2:V7",
+    ),
+    (
+        "references of which one is greater as a number",
+        "takes:A takes:I",
+        "ldarg.0 ldarg.1 cgt.un pop ret",
+        "",
+    ),
+    (
+        "a branch on a float",
+        "",
+        "ldc.r4:0 brtrue.s:L L: ret",
+        "5:V4",
+    ),
+    ("a switch", "", "ldc.i4.0 switch:L L: ret", ""),
+    (
+        "a switch with three targets",
+        "",
+        "ldc.i4.0 switch:abc a: nop b: nop c: ret",
+        "",
+    ),
+    (
+        "a switch on a native int",
+        "",
+        "ldc.i4.0 conv.i switch:L L: ret",
+        "2:V4",
+    ),
+    ("a number thrown", "", "ldc.i4.1 throw", "1:V4"),
+    ("null thrown", "", "ldnull throw", ""),
+    (
+        "an int64 through a pointer to an int32",
+        "takes:int32&",
+        "ldarg.0 ldind.i8 pop ret",
+        "1:V4",
+    ),
+    (
+        "a reference through a pointer to an int32",
+        "takes:int32&",
+        "ldarg.0 ldind.ref pop ret",
+        "1:V4 2:V4",
+    ),
+    (
+        "a reference through a pointer to one",
+        "takes:A&",
+        "ldarg.0 ldind.ref pop ret",
+        "",
+    ),
+    (
+        "a class through a pointer to one derived from it",
+        "takes:B& takes:A",
+        "ldarg.0 ldarg.1 stind.ref ret",
+        "2:V5",
+    ),
+    (
+        "a number through a pointer to a class",
+        "takes:A& takes:int32",
+        "ldarg.0 ldarg.1 stind.ref ret",
+        "2:V5",
+    ),
+    (
+        "a pointer to another type",
+        "takes:int64&",
+        "ldarg.0 call:U::TakeR ret",
+        "1:V5",
+    ),
+    (
+        "a start value through a pointer to another type",
+        "takes:valuetype:S&",
+        "ldarg.0 initobj:valuetype:[System]Guid ret",
+        "1:V4",
+    ),
+];

@@ -1,0 +1,175 @@
+//! Types of operands: what is assignable to what is wanted, and what types are where they meet.
+
+use crate::cases::Case;
+
+pub static TYPES: [Case; 29] = [
+    (
+        "an int32 into a local of int64",
+        "init local:int64",
+        "ldc.i4.1 stloc.0 ret",
+        "1:V5",
+    ),
+    (
+        "an int64 into it",
+        "init local:int64",
+        "ldc.i8:1 stloc.0 ret",
+        "",
+    ),
+    (
+        "an int32 where a native int is wanted",
+        "",
+        "ldc.i4.1 call:U::TakeN ret",
+        "1:V5",
+    ),
+    (
+        "an interface where a class is wanted",
+        "takes:I",
+        "ldarg.0 call:U::TakeA ret",
+        "1:V5",
+    ),
+    (
+        "an interface where an object is wanted",
+        "takes:I",
+        "ldarg.0 call:U::TakeO ret",
+        "",
+    ),
+    (
+        "null where a class is wanted",
+        "",
+        "ldnull call:U::TakeA ret",
+        "",
+    ),
+    ("a wrong type at ret", "returns:int32", "ldnull ret", "1:V5"),
+    (
+        "an array of a derived class",
+        "takes:B[] returns:A[]",
+        "ldarg.0 ret",
+        "",
+    ),
+    (
+        "an array of a base",
+        "takes:A[] returns:B[]",
+        "ldarg.0 ret",
+        "1:V5",
+    ),
+    (
+        "two classes with one interface meet at an object, which has none",
+        "takes:bool",
+        "ldarg.0 brtrue.s:L ldnull castclass:A br.s:J L: ldnull castclass:C J: call:U::TakeI ret",
+        "17:V5",
+    ),
+    (
+        "two classes meet at an object",
+        "takes:bool",
+        "ldarg.0 brtrue.s:L ldnull castclass:A br.s:J L: ldnull castclass:C J: call:U::TakeO ret",
+        "",
+    ),
+    (
+        "a class and its base meet at the base",
+        "takes:bool",
+        "ldarg.0 brtrue.s:L ldnull castclass:A br.s:J L: ldnull castclass:B J: call:U::TakeI ret",
+        "",
+    ),
+    (
+        "two boxed values meet",
+        "takes:bool takes:valuetype:S",
+        "ldarg.0 brtrue.s:L ldarg.1 box:S br.s:J L: ldarg.1 box:S J: unbox:S pop ret",
+        "",
+    ),
+    (
+        "a number and null meet at nothing",
+        "takes:bool",
+        "ldarg.0 brtrue.s:L ldnull br.s:J L: ldc.i4.0 J: pop ret",
+        "7:V4",
+    ),
+    (
+        "a modifier changes nothing",
+        "takes:int32-modopt-A",
+        "ldarg.0 call:U::Take4 ret",
+        "",
+    ),
+    (
+        "a boxed value has its interfaces",
+        "takes:valuetype:S",
+        "ldarg.0 box:S call:U::TakeI ret",
+        "",
+    ),
+    (
+        "a boxed number is an object",
+        "",
+        "ldc.i4.1 box:int32 call:U::TakeO ret",
+        "",
+    ),
+    (
+        "a number out of its box",
+        "takes:object",
+        "ldarg.0 unbox.any:int32 call:U::Take4 ret",
+        "",
+    ),
+    (
+        "a boxed value of a variable is an object",
+        "generic takes:!!0",
+        "ldarg.0 box:!!0 call:U::TakeO ret",
+        "",
+    ),
+    (
+        "an enum is its number",
+        "takes:valuetype:E",
+        "ldarg.0 call:U::Take4 ret",
+        "",
+    ),
+    (
+        "an element of an enum over bool as a bool",
+        "takes:valuetype:EB[]",
+        "ldarg.0 ldc.i4.0 ldelem:bool pop ret",
+        "",
+    ),
+    (
+        "an element of an enum over bool as a byte",
+        "takes:valuetype:EB[]",
+        "ldarg.0 ldc.i4.0 ldelem.u1 pop ret",
+        "",
+    ),
+    (
+        "an element as its base and as its interface",
+        "takes:B[]",
+        "ldarg.0 ldc.i4.0 ldelem:A pop ldarg.0 ldc.i4.0 ldelem:I pop ret",
+        "",
+    ),
+    (
+        "an element of another class",
+        "takes:A[] takes:C",
+        "ldarg.0 ldc.i4.0 ldarg.1 stelem:A ret",
+        "3:V5",
+    ),
+    (
+        "an element of another width",
+        "takes:float32[] takes:float64",
+        "ldarg.0 ldc.i4.0 ldarg.1 stelem.r8 ret",
+        "3:V4",
+    ),
+    (
+        "a catch begins with its class",
+        "catch:ab,bc:A",
+        "a: leave.s:c b: call:U::TakeA leave.s:c c: ret",
+        "",
+    ),
+    (
+        "which may be cast",
+        "catch:ab,bc:A",
+        "a: leave.s:c b: castclass:I pop leave.s:c c: ret",
+        "",
+    ),
+    (
+        "and is no other",
+        "catch:ab,bc:[System]Exception",
+        "a: leave.s:c b: call:U::TakeA leave.s:c c: ret",
+        "2:V5",
+    ),
+    (
+        "a value type is caught in its box",
+        "catch:ab,bc:S",
+        "a: leave.s:c b: unbox:S pop leave.s:c c: ret",
+        "",
+    ),
+];
