@@ -1,34 +1,72 @@
 -- What a rule finds at the productions of a forest, piece by piece.
-use Rattle.std.proofs.Common.{◌≡◌, ℕ, suc, ◌<◌, ◌≤◌, List, [], ◌∷◌, ◌++◌, length, take, drop, ap, sym, ◌∙◌, refl, arith, length-drop}
+use Rattle.std.proofs.Common.{◌≡◌, ℕ, suc, ◌<◌, ◌≤◌, List, [], ◌∷◌, ◌++◌, length, take, drop, ap, sym, ◌∙◌, refl, subst, arith, length-drop}
 use Rattle.std.specs.Prelude.{Bool, true, false, ◌==◌, ◌||◌, if◌then◌else◌, Option, None, Some}
 use Rattle.std.specs.List.{flat_map}
-use Rattle.std.proofs.lemmas.List.{length-take}
+use Rattle.std.proofs.lemmas.List.{length-take, take-append-drop}
 use Rattle.ilasm_grammar.specs.declared.productions.TheConstants.{CLASS, METHOD}
 use Rattle.ilasm_grammar.specs.declared.tree.TreeNode.{TreeNode}
-use Rattle.ilasm_grammar.specs.declared.tree.TreeNode.TheVariants.{Branch}
+use Rattle.ilasm_grammar.specs.declared.tree.TreeNode.TheVariants.{Branch, Leaf}
 use Rattle.source_model.specs.Forest as tree
-use Rattle.source_model.specs.Forest.{Forest, joined}
-use Rattle.source_model.specs.Laws.{ForestsJoin}
+use Rattle.source_model.specs.Forest.{Forest, joined, preorder}
+use Rattle.source_model.specs.Laws.{ForestOpens, ForestsJoin, OneForest}
 use Rattle.source_model.specs.Nodes.{Around, Node, entered, nodes_in, class_token, type_id}
 use Rattle.source_model.specs.Source.{Source}
+use Rattle.elaborate.specs.Derived.{FitsBody, HasBodies}
 use Rattle.elaborate.specs.Least.{least, sooner}
-use Rattle.elaborate.specs.Surroundings.{found_in, is_scope, IsSurrounding}
+use Rattle.elaborate.specs.Surroundings.{found_in, is_scope, HasParameters, IsSurrounding}
 use Rattle.elaborate.specs.Readers.{Reads}
+use Rattle.elaborate.specs.Walk.{IsForest}
 use Rattle.elaborate.specs.declared.asking.Surrounding.{Surrounding}
 use Rattle.elaborate.specs.declared.reader.Reader.{Reader}
+use Rattle.elaborate.proofs.Collecting.{of_joined}
 use Rattle.elaborate.proofs.LeastLemmas.{flat_append, least_append, sooner_assoc}
 
--- a source that is read, and what stands around a place
-pub record At (r : Reader) (p : Surrounding) : Type 0 where
+-- below each production of the forest that has these nodes stands its body
+abbrev pub Bodied : Source → List TreeNode → Type 0
+Bodied s nodes = (f : Forest) → preorder f ≡ nodes → HasBodies s f
+
+-- a source that is read, in which these nodes stand, and what stands around a place
+pub record At (r : Reader) (p : Surrounding) (nodes : List TreeNode) : Type 0 where
   pub source : Source
   pub around : Around
   pub reads : Reads r source
   pub place : IsSurrounding p around
+  pub bodied : Bodied source nodes
+  pub parameters : HasParameters source p around
+
+module _ (opens : ForestOpens) (joins : ForestsJoin) (one : OneForest) (s : Source) where
+  pub bodied_by : (f : Forest) (nodes : List TreeNode) → preorder f ≡ nodes → HasBodies s f → Bodied s nodes
+  bodied_by f nodes e h g is = subst (HasBodies s) (one.one f g (e ∙ sym is)) h
+
+  pub bodied_past_leaf : (token : ℕ) (left rest : List TreeNode) → left ≡ Leaf token ∷ rest → IsForest left → Bodied s left → Bodied s rest
+  bodied_past_leaf token left rest e f h =
+      let b = opens.leaf f.0 token rest (f.1 ∙ e) in
+      bodied_by b.after rest b.rest (subst (HasBodies s) b.is (h f.0 f.1))
+
+  module _ (p count : ℕ) (left rest : List TreeNode) (e : left ≡ Branch p count ∷ rest) (f : IsForest left) (h : Bodied s left) where
+    pub bodied_below : (b : Forest) → preorder b ≡ take count rest → FitsBody s p b × HasBodies s b
+    bodied_below g is =
+        let b = opens.branch f.0 p count rest (f.1 ∙ e) in
+        let both = subst (HasBodies s) b.is (h f.0 f.1) in
+        subst (λ x. FitsBody s p x × HasBodies s x) (one.one b.below g (b.inner ∙ sym is)) (both.0, both.1)
+
+    pub bodied_after : Bodied s (drop count rest)
+    bodied_after =
+        let b = opens.branch f.0 p count rest (f.1 ∙ e) in
+        bodied_by b.after (drop count rest) b.rest (subst (HasBodies s) b.is (h f.0 f.1)).2
+
+    pub bodied_behind : Bodied s rest
+    bodied_behind =
+        let b = opens.branch f.0 p count rest (f.1 ∙ e) in
+        let both = subst (HasBodies s) b.is (h f.0 f.1) in
+        bodied_by (joined b.below b.after) rest
+        (joins.nodes b.below b.after ∙ ap (λ ns. ns ++ preorder b.after) b.inner ∙ ap (λ ns. take count rest ++ ns) b.rest ∙ take-append-drop count rest)
+        (of_joined (FitsBody s) b.below b.after both.1 both.2)
 
 module _ (broken : Source → Node → List ℕ) where
   -- the least of what was found and of what the rest has
-  abbrev pub sought : (r : Reader) (p : Surrounding) → Option ℕ → At r p → Forest → Option ℕ
-  sought r p found i f = sooner found (least (found_in broken i.source i.around f))
+  abbrev pub sought : (r : Reader) (p : Surrounding) (nodes : List TreeNode) → Option ℕ → At r p nodes → Forest → Option ℕ
+  sought r p nodes found i f = sooner found (least (found_in broken i.source i.around f))
 
   module _ (s : Source) (a : Around) where
     abbrev pub node_of : ℕ → Forest → Node
@@ -53,7 +91,7 @@ module _ (broken : Source → Node → List ℕ) where
         ∙ ap (λ x. sooner found (sooner (sooner (least (broken s (node_of p b))) x) (least (found_in broken s a f)))) w
         ∙ ap (sooner found) (sym (at_branch p b f))
 
-    same_around : (p : ℕ) (b : Forest) → is_scope p ≡ false → entered s a p b ≡ a
+    pub same_around : (p : ℕ) (b : Forest) → is_scope p ≡ false → entered s a p b ≡ a
     same_around p b e = go (p == CLASS) (p == METHOD) e
       where
         go : (c m : Bool) → (c || m) ≡ false

@@ -86,3 +86,9 @@ absent_is_nowhere xs x none = position_none (bytes_eq x) (reverse xs) each
 -- a list with one more at its end, backwards
 pub reverse_push : {X : Type 0} (xs : List X) (x : X) → reverse (xs ++ x ∷ []) ≡ x ∷ reverse xs
 reverse_push xs x = reverse-append xs (x ∷ [])
+
+-- what stands at a place of a list backwards
+pub reversed_at : (xs : List (List ℕ)) (n k : ℕ) (x : List ℕ) → n ≡ length xs → k < length xs → slice_get xs (n - 1 - k) ≡ Some x
+    → x ≡ get_or (reverse xs) k []
+reversed_at xs n k x e within at =
+    sym (get_or-reverse xs k [] within ∙ ap (λ m. get_or xs (m - 1 - k) []) (sym e) ∙ get_or_from_slice_get xs (n - 1 - k) x [] at)

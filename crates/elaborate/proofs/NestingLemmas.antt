@@ -6,7 +6,7 @@ use Rattle.source_model.specs.Forest.{Forest, Part, below_each, each, parts, pre
 use Rattle.elaborate.specs.Walk.{Finds, nodes_below}
 use Rattle.elaborate.specs.declared.walk.Found.{Found}
 
-below_length : (ps : List Part) → length (below_each ps) ≡ length ps
+pub below_length : (ps : List Part) → length (below_each ps) ≡ length ps
 below_length [] = refl
 below_length (p ∷ ps) = ap suc (below_length ps)
 

@@ -1,19 +1,21 @@
 -- The first node of a forest.
-use Rattle.std.proofs.Common.{◌≡◌, ℕ, suc, ◌≤◌, List, [], ◌∷◌, ◌++◌, length, take, drop, refl, ap, sym, ◌∙◌, arith, length-take, length-drop}
+use Rattle.std.proofs.Common.{◌≡◌, ℕ, ◌<◌, ◌^◌, List, ◌∷◌, ◌++◌, length, take, drop, ap, sym, ◌∙◌, arith, length-take, length-drop}
 use Rattle.std.proofs.lemmas.List.{take-append-drop}
 use Rattle.ilasm_grammar.specs.declared.tree.TreeNode.{TreeNode}
 use Rattle.ilasm_grammar.specs.declared.tree.TreeNode.TheVariants.{Branch, Leaf}
-use Rattle.source_model.specs.Forest.{Forest, preorder, joined}
+use Rattle.source_model.specs.Forest.{Forest, preorder}
 use Rattle.source_model.specs.Laws.{ForestOpens, ForestsJoin, BeginsWithLeaf}
 use Rattle.elaborate.specs.Walk.{Opens, BeginsWith, count_below}
 use Rattle.elaborate.specs.declared.walk.Opened.{Opened}
 
 pub opens : ForestOpens → ForestsJoin → (nodes : List TreeNode) (node : TreeNode) (behind : List TreeNode) (x : Opened) → nodes ≡ node ∷ behind
-    → x.node ≡ node → x.behind.now ≡ behind → x.below.now ≡ take (count_below node) behind → x.after.now ≡ drop (count_below node) behind → Opens nodes x
-opens forests joins nodes node behind x whole n b low late = record {
+    → x.node ≡ node → x.behind.now ≡ behind → x.below.now ≡ take (count_below node) behind → x.after.now ≡ drop (count_below node) behind
+    → count_below node < 2 ^ 32 → Opens nodes x
+opens forests joins nodes node behind x whole n b low late small = record {
   lower = omega (arith, ap length whole, ap length low, length-take (count_below node) behind);
   later = omega (arith, ap length whole, ap length late, length-drop (count_below node) behind);
   fewer = omega (arith, ap length whole, ap length b);
+  few = omega (arith, ap length low, length-take (count_below node) behind, small);
   leaf = λ f token e is. begins_with_leaf f token e is;
   branch = λ f p count e is. begins_with f p count e is;
 }

@@ -46,10 +46,10 @@ fails_beyond Pack (pos n) e = let big = large n e in grind arith
 
 -- ---- parts with a number each
 
-module _ (low high : ℤ) (p : ℕ) where
+module _ (test : ℤ → Bool) (p : ℕ) where
   -- the numbers of the parts that lie outside
   abbrev pub out_in_each : Source → Forest → List ℕ
-  out_in_each s f = flat_map (λ g. unless (is_within low high) s (leaf_at 1 g)) (each p f)
+  out_in_each s f = flat_map (λ g. unless test s (leaf_at 1 g)) (each p f)
 
   abbrev pub out_after : (r : Reader) → Option ℕ → ((s : Source) × Reads r s) → Forest → Option ℕ
   out_after r found i f = sooner found (least (out_in_each i.0 f))
@@ -58,17 +58,17 @@ module _ (low high : ℤ) (p : ℕ) where
     pub out_into : ForestsJoin → (q : ℕ) (b a : Forest) → (p == q) ≡ false
         → sooner found (least (out_in_each s (joined b a))) ≡ sooner found (least (out_in_each s (tree.branch q b a)))
     out_into joins q b a e =
-        ap (λ ps. sooner found (least (flat_map (λ g. unless (is_within low high) s (leaf_at 1 g)) (below_each ps)))) (joins.parts [] (p ∷ []) b a)
-        ∙ ap (λ (c : Bool). sooner found (least (flat_map (λ g. unless (is_within low high) s (leaf_at 1 g))
+        ap (λ ps. sooner found (least (flat_map (λ g. unless test s (leaf_at 1 g)) (below_each ps)))) (joins.parts [] (p ∷ []) b a)
+        ∙ ap (λ (c : Bool). sooner found (least (flat_map (λ g. unless test s (leaf_at 1 g))
         (below_each ((if c || false then part q b ∷ [] else parts (p ∷ []) b) ++ parts (p ∷ []) a))))) (sym e)
 
-    pub out_past : (q : ℕ) (b a : Forest) (here : Option ℕ) → (p == q) ≡ true → here ≡ least (unless (is_within low high) s (leaf_at 1 b))
+    pub out_past : (q : ℕ) (b a : Forest) (here : Option ℕ) → (p == q) ≡ true → here ≡ least (unless test s (leaf_at 1 b))
         → sooner (sooner found here) (least (out_in_each s a)) ≡ sooner found (least (out_in_each s (tree.branch q b a)))
     out_past q b a here e h =
         sooner_assoc found here (least (out_in_each s a))
         ∙ ap (λ x. sooner found (sooner x (least (out_in_each s a)))) h
-        ∙ ap (sooner found) (sym (least_append (unless (is_within low high) s (leaf_at 1 b)) (out_in_each s a)))
-        ∙ ap (λ (c : Bool). sooner found (least (flat_map (λ g. unless (is_within low high) s (leaf_at 1 g))
+        ∙ ap (sooner found) (sym (least_append (unless test s (leaf_at 1 b)) (out_in_each s a)))
+        ∙ ap (λ (c : Bool). sooner found (least (flat_map (λ g. unless test s (leaf_at 1 g))
         (below_each ((if c || false then part q b ∷ [] else parts (p ∷ []) b) ++ parts (p ∷ []) a))))) (sym e)
 
 -- ---- versions

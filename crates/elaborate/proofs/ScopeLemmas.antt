@@ -14,7 +14,7 @@ use Rattle.source_model.specs.Names.{externs, extern_key, assemblies, is_own_nam
 use Rattle.source_model.specs.Nodes.{type_id}
 use Rattle.source_model.specs.Source.{Source}
 
-either_way : (x y : List ℕ) → bytes_eq x y ≡ bytes_eq y x
+pub either_way : (x y : List ℕ) → bytes_eq x y ≡ bytes_eq y x
 either_way x y = elim (cases_Bool (bytes_eq y x)) [
   | inl same ↦ (bytes_eq-Decides x y).1 (sym ((bytes_eq-Decides y x).0 same)) ∙ sym same
   | inr apart ↦ elim (cases_Bool (bytes_eq x y)) [

@@ -1,8 +1,6 @@
 -- How types, suffixes and owners are found in a forest.
-use Rattle.std.proofs.Common.{◌≡◌, ℕ, List, [], ◌∷◌, ◌++◌, map, refl, ap, sym, subst, ◌∙◌, append_assoc, append-nil}
+use Rattle.std.proofs.Common.{◌≡◌, ℕ, List, [], ◌∷◌, ◌++◌, map, refl, ap, sym, ◌∙◌, append_assoc}
 use Rattle.std.specs.Prelude.{Bool, true, false, ◌==◌, if◌then◌else◌}
-use Rattle.std.proofs.lemmas.List.{map-append}
-use Rattle.std.proofs.lemmas.Bool.Decides.{Decides-eqb}
 use Rattle.type_terms.specs.declared.term.Primitive.TheVariants as prim
 use Rattle.type_terms.specs.declared.term.Owner.{Owner, Name, Spec}
 use Rattle.type_terms.specs.declared.term.SigType.{SigType, Prim}
@@ -28,7 +26,7 @@ module _ (s : Source) (a : Around) where
   unfolding types_in type_of suffixed owners_in
   types_own b after = refl
 
-  types_at : (p : ℕ) (b after : Forest) → types_in s a (branch p b after) ≡ (if p == TYPE then type_of s a b ∷ [] else types_in s a b) ++ types_in s a after
+  pub types_at : (p : ℕ) (b after : Forest) → types_in s a (branch p b after) ≡ (if p == TYPE then type_of s a b ∷ [] else types_in s a b) ++ types_in s a after
   unfolding types_in type_of suffixed owners_in
   types_at p b after = refl
 

@@ -18,9 +18,10 @@ use Rattle.source_model.specs.Forest.{Forest, none, leaf, branch, preorder, is_a
 use Rattle.source_model.specs.Names.{type_name, module_name}
 use Rattle.source_model.specs.Nodes.{Around}
 use Rattle.source_model.specs.Source.{Source}
-use Rattle.source_model.specs.Types.{types_in, type_of, suffixed, owners_in, base_type, suffix, suffixes, first_owner, first_type, the_type, the_owner}
-use Rattle.elaborate.specs.Derived.{OfEach, Fits, FitsBody, HasBodies, head_of}
+use Rattle.source_model.specs.Types.{types_in, type_of, suffixed, owners_in, base_type, suffixes, first_owner, first_type, the_type, the_owner}
+use Rattle.elaborate.specs.Derived.{Fits, FitsBody, HasBodies, head_of}
 use Rattle.elaborate.specs.Places.{IsSound, IsReadable}
+use Rattle.elaborate.specs.Sound.{IsTypeOrNothing}
 use Rattle.elaborate.specs.Suffixes.{IsSoundAt, is_suffix, suffix_at}
 use Rattle.elaborate.specs.Walk.{Opens, is_of}
 use Rattle.elaborate.specs.declared.walk.Opened.{Opened}
@@ -28,7 +29,7 @@ use Rattle.elaborate.proofs.Collecting.{SoFar, no_forest, of_joined, starts, goe
 use Rattle.elaborate.proofs.TypeLemmas as type
 use Rattle.elaborate.proofs.WrittenNames.{fits_rule, one_in}
 
-flipped : (x y : ℕ) → (x == y) ≡ false → (y == x) ≡ false
+pub flipped : (x y : ℕ) → (x == y) ≡ false → (y == x) ≡ false
 flipped x y e = elim (cases_Bool (y == x)) [
   | inl same ↦ let also = (Decides-eqb x y).1 (sym ((Decides-eqb y x).0 same)) in absurd cc
   | inr apart ↦ apart
@@ -62,12 +63,12 @@ module _ (s : Source) (a : Around) where
   types_start f nodes e h = starts (IsSound s) (types_in s a) (types_in s a f) f nodes [] e h refl
 
   pub types_take : (f : Forest) (left : List TreeNode) (x : Opened) (types longer : List SigType) (count : ℕ) (of : SigType) → Opens left x
-      → x.node ≡ Branch TYPE count → ((b : Forest) → preorder b ≡ x.below.now → FitsBody s TYPE b → IsReadable s b → of ≡ type_of s a b) → longer ≡ types ++ of ∷ []
+      → x.node ≡ Branch TYPE count → ((b : Forest) → preorder b ≡ x.below.now → IsTypeOrNothing s b → IsReadable s b → of ≡ type_of s a b) → longer ≡ types ++ of ∷ []
       → Types f left types → Types f x.after.now longer
   types_take f left x types longer count of o is typed more sf =
       subst (Types f x.after.now) (sym more)
       (goes_past (IsSound s) (types_in s a) (types_in s a f) left x types (of ∷ []) TYPE count o is
-      (λ b after e sound each. type.types_own s a b after ∙ ap (λ t. t ∷ types_in s a after) (sym (typed b e sound.0 each))) sf)
+      (λ b after e sound each. type.types_own s a b after ∙ ap (λ t. t ∷ types_in s a after) (sym (typed b e (inr sound.0) each))) sf)
 
   types_into : (x : Opened) → is_of TYPE x.node ≡ false → (q count : ℕ) (b after : Forest) → x.node ≡ Branch q count
       → types_in s a (branch q b after) ≡ types_in s a (joined b after)
@@ -86,7 +87,7 @@ module _ (s : Source) (a : Around) where
   pub record TypeFound (f : Forest) (below : List TreeNode) : Type 0 where
     pub inner : Forest
     pub inner-is : preorder inner ≡ below
-    pub fits : FitsBody s TYPE inner
+    pub fits : IsTypeOrNothing s inner
     pub each : IsReadable s inner
     pub is : the_type s a f ≡ type_of s a inner
 
@@ -98,7 +99,7 @@ module _ (s : Source) (a : Around) where
       record {
         inner = b.inner;
         inner-is = b.inner-is;
-        fits = h.0.0;
+        fits = inr h.0.0;
         each = h.1;
         is = ap (first_type s a) (sym sf.same ∙ ap (types_in s a) b.is ∙ type.types_own s a b.inner b.rest);
       }
@@ -112,8 +113,9 @@ module _ (s : Source) (a : Around) where
   unfolding ilasm rule_by
   rule_type = refl
 
-  headed : (p : ℕ) (b after : Forest) → FitsBody s TYPE (branch p b after) → head_of p ≡ Some n.TYPE_BASE
-  headed p b after h = (fits_rule s TYPE n.TYPE (Nonterminal n.TYPE_BASE ∷ Nonterminal n.TYPE_SUFFIX_STAR ∷ []) (branch p b after) rule_type h).0
+  headed : (p : ℕ) (b after : Forest) → IsTypeOrNothing s (branch p b after) → head_of p ≡ Some n.TYPE_BASE
+  headed p b after (inl e) = absurd cc
+  headed p b after (inr h) = (fits_rule s TYPE n.TYPE (Nonterminal n.TYPE_BASE ∷ Nonterminal n.TYPE_SUFFIX_STAR ∷ []) (branch p b after) rule_type h).0
 
   -- the suffixes of a type, which go round its base
   pub record TypeSplit (f : Forest) (after : List TreeNode) (base : SigType) : Type 0 where
@@ -123,7 +125,7 @@ module _ (s : Source) (a : Around) where
     pub is : suffixed s a rest base ≡ type_of s a f
 
   pub type_split : (f : Forest) (nodes : List TreeNode) (x : Opened) (p count : ℕ) (args : List SigType) (base : SigType) → Opens nodes x
-      → x.node ≡ Branch p count → preorder f ≡ nodes → FitsBody s TYPE f → IsReadable s f
+      → x.node ≡ Branch p count → preorder f ≡ nodes → IsTypeOrNothing s f → IsReadable s f
       → ((b : Forest) → preorder b ≡ x.below.now → IsReadable s b → args ≡ types_in s a b)
       → ((b : Forest) → preorder b ≡ x.below.now → head_of p ≡ Some n.TYPE_BASE → IsSound s p b → IsReadable s b → base ≡ base_type s a p b args)
       → TypeSplit f x.after.now base
@@ -135,7 +137,7 @@ module _ (s : Source) (a : Around) where
         rest-is = b.rest-is;
         each = each.2;
         is = ap (suffixed s a b.rest)
-            (based b.inner b.inner-is (headed p b.inner b.rest (subst (FitsBody s TYPE) b.is fits)) each.0 each.1
+            (based b.inner b.inner-is (headed p b.inner b.rest (subst (IsTypeOrNothing s) b.is fits)) each.0 each.1
             ∙ ap (base_type s a p b.inner) (typed b.inner b.inner-is each.1))
             ∙ sym (type.type_branch s a p b.inner b.rest) ∙ ap (type_of s a) (sym b.is);
       }
@@ -248,11 +250,11 @@ module _ (s : Source) (a : Around) where
   unfolding ilasm rule_by
   rule_spec = refl
 
-  one_type_production : (p : ℕ) → head_of p ≡ Some n.TYPE → p ≡ TYPE
+  pub one_type_production : (p : ℕ) → head_of p ≡ Some n.TYPE → p ≡ TYPE
   unfolding ilasm
   one_type_production p e = one_in _ _ _ n.TYPE TYPE p e refl
 
-  one_type : (b : Forest) → FitsBody s SPEC_TYPE b → types_in s a b ≡ the_type s a b ∷ []
+  pub one_type : (b : Forest) → FitsBody s SPEC_TYPE b → types_in s a b ≡ the_type s a b ∷ []
   one_type b h = go b (fits_rule s SPEC_TYPE n.SPEC (Nonterminal n.TYPE ∷ []) b rule_spec h)
     where
       go : (g : Forest) → Fits s (Nonterminal n.TYPE ∷ []) g → types_in s a g ≡ the_type s a g ∷ []

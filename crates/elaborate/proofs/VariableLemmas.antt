@@ -1,5 +1,5 @@
 -- The numbers of generic parameters, from the bodies of their productions.
-use Rattle.std.proofs.Common.{◌≡◌, ℕ, zero, suc, ◌+◌, ◌<◌, ◌≤◌, ◌^◌, ◌⊎◌, inl, inr, List, [], ◌∷◌, ◌++◌, Option, None, Some, length, map, refl, ap, sym, subst, ◌∙◌, arith}
+use Rattle.std.proofs.Common.{◌≡◌, ℕ, zero, suc, ◌+◌, ◌<◌, ◌≤◌, ◌^◌, ◌⊎◌, inl, inr, List, [], ◌∷◌, Option, None, Some, length, refl, ap, sym, subst, ◌∙◌, arith}
 use Rattle.std.specs.Prelude.{Bool, true, false, not, ◌==◌, ◌||◌, ◌&&◌, ℤ, pos, negsuc, slice_get, option_map, position, bytes_eq, nat_lt, int_le, if◌then◌else◌}
 use Rattle.std.proofs.lemmas.Bool.{cases_Bool, ltb-true}
 use Rattle.std.proofs.lemmas.List.Quantifiers.{position-Some}
@@ -16,20 +16,21 @@ use Rattle.ilasm_grammar.specs.declared.terminals.TheConstants as t
 use Rattle.source_model.specs.Forest.{Forest, none, leaf, branch, leaf_at, has, the}
 use Rattle.source_model.specs.Shapes.{natural}
 use Rattle.source_model.specs.Source.{Source}
-use Rattle.source_model.specs.TypeRules.{is_within, out_of, index_out_of_range, array_out_of_range}
+use Rattle.source_model.specs.TypeRules.{is_within, out_of}
 use Rattle.source_model.specs.Types.{number_of, or_length, variable_number}
 use Rattle.source_model.specs.Values.{int_at, name_text}
 use Rattle.elaborate.specs.Derived.{head_of, Fits, FitsBody, HasBodies}
 use Rattle.elaborate.specs.Indexes.{HasIndex}
-use Rattle.elaborate.specs.Places.{IsSound, IsReadable, node_of, numbers_out_of_range}
+use Rattle.elaborate.specs.Places.{IsSound, IsReadable, numbers_out_of_range}
 use Rattle.elaborate.specs.Readers.{IsOf}
+use Rattle.elaborate.proofs.SoundLemmas.{index_fits}
 use Rattle.elaborate.proofs.TypeWalks.{has_bodies}
 use Rattle.elaborate.proofs.WrittenNames.{fits_rule, is_name, first_terminal, both_true, other_true}
 
 -- ---- a nonterminal whose productions follow one another
 
 -- in this list, from this place on, the number stands only from one place to another
-abbrev stands_within : ℕ → ℕ → ℕ → ℕ → List ℕ → Bool
+abbrev pub stands_within : ℕ → ℕ → ℕ → ℕ → List ℕ → Bool
 stands_within x low high at [] = true
 stands_within x low high at (y ∷ ys) = (not (y == x) || (nat_lt low (1 + at) && nat_lt at (1 + high))) && stands_within x low high (1 + at) ys
 
@@ -46,7 +47,7 @@ within x low high at (y ∷ ys) e (suc q) h =
     subst (λ k. (nat_lt low (1 + k) ≡ true) × (nat_lt k (1 + high) ≡ true)) same
     (within x low high (1 + at) ys (both_true (not (y == x) || (nat_lt low (1 + at) && nat_lt at (1 + high))) (stands_within x low high (1 + at) ys) e).1 q h)
 
-within_in : (heads starts : List ℕ) (bodies : List Symbol) (x low high p : ℕ) → option_map (λ (r : Rule). r.head) (rule_by heads starts bodies p) ≡ Some x
+pub within_in : (heads starts : List ℕ) (bodies : List Symbol) (x low high p : ℕ) → option_map (λ (r : Rule). r.head) (rule_by heads starts bodies p) ≡ Some x
     → stands_within x low high 0 heads ≡ true → (nat_lt low (1 + (0 + p)) ≡ true) × (nat_lt (0 + p) (1 + high) ≡ true)
 unfolding rule_by
 within_in heads starts bodies x low high p e test = within x low high 0 heads test p (headed (slice_get heads p) e)
@@ -150,17 +151,13 @@ unless_nothing s k e = elim (cases_Bool (is_within (pos 0) (pos 65535) (int_at s
   | inr over ↦ let none : k ∷ [] ≡ [] = sym (ap (λ (b : Bool). if b then [] else k ∷ []) over) ∙ e in absurd cc
 ]
 
-front_nothing : (xs ys : List ℕ) → xs ++ ys ≡ [] → xs ≡ []
-front_nothing [] ys e = refl
-front_nothing (x ∷ xs) ys e = absurd cc
-
 numbered : (s : Source) (p : ℕ) (f : Forest) → ((p == TYPE_BASE_BANG) || (p == TYPE_BASE_DOUBLE_BANG)) ≡ true → numbers_out_of_range s p f ≡ []
     → has INDEX_INT f ≡ true → IsWord (int_at s (leaf_at 0 (the INDEX_INT f)))
 numbered s p f is e some =
     unless_nothing s (leaf_at 0 (the INDEX_INT f))
     (sym (ap (λ (b : Bool). if b && has INDEX_INT f then out_of (pos 0) (pos 65535) s (leaf_at 0 (the INDEX_INT f)) else []) is
     ∙ ap (λ (b : Bool). if b then out_of (pos 0) (pos 65535) s (leaf_at 0 (the INDEX_INT f)) else []) some)
-    ∙ front_nothing (index_out_of_range s (node_of p f)) (array_out_of_range s (node_of p f)) e)
+    ∙ index_fits s p f e)
 
 pub class_has_index : (s : Source) (f : Forest) → IsSound s TYPE_BASE_BANG f → IsReadable s f → HasIndex s f
 class_has_index s f sound each = record {

@@ -1,10 +1,8 @@
 -- The tokens of types' names, from the bodies of their productions, and what names stand for.
-use Rattle.std.proofs.Common.{◌≡◌, ℕ, zero, suc, ◌+◌, ◌<◌, ◌^◌, inl, inr, List, [], ◌∷◌, ◌++◌, Option, None, Some, map, length, cond, refl, ap, sym, subst, ◌∙◌, arith}
-use Rattle.std.specs.Prelude.{Bool, true, false, not, ◌==◌, ◌||◌, ◌&&◌, slice_get, option_map, position, bytes_eq, nat_lt}
-use Rattle.std.specs.List.{position_or_len}
+use Rattle.std.proofs.Common.{◌≡◌, ℕ, zero, suc, ◌+◌, ◌<◌, inl, inr, List, [], ◌∷◌, Option, None, Some, cond, refl, ap, sym, subst, ◌∙◌, arith}
+use Rattle.std.specs.Prelude.{Bool, true, false, not, ◌==◌, ◌||◌, ◌&&◌, slice_get, option_map, nat_lt}
 use Rattle.std.proofs.lemmas.Bool.{cases_Bool}
 use Rattle.std.proofs.lemmas.Bool.Decides.{Decides-eqb}
-use Rattle.std.proofs.lemmas.Slice.Eq.{bytes_eq-Decides}
 use Rattle.il_lexer.specs.declared.types.Token.{Token}
 use Rattle.il_lexer.specs.declared.types.TokenKind.{TokenKind}
 use Rattle.il_lexer.specs.declared.types.TokenKind.TheVariants as kind
@@ -143,7 +141,7 @@ one_in heads starts bodies x place p e test =
     headed None h = absurd cc
     headed (Some y) h = h
 
-one_path : (p : ℕ) → head_of p ≡ Some n.PATH → p ≡ PATH
+pub one_path : (p : ℕ) → head_of p ≡ Some n.PATH → p ≡ PATH
 unfolding ilasm
 one_path p e = one_in _ _ _ n.PATH PATH p e refl
 

@@ -1,16 +1,19 @@
 -- The tests that some numbers without a sign must pass, and the widths of constants (ECMA-335 II.10.7, II.16.2, II.23.1.11,
 -- II.25.2.3, II.25.3.3.1).
-use Rattle.std.specs.Prelude.{ℕ, ◌||◌, Bool, if◌then◌else◌, List, [], ◌∷◌}
+use Rattle.std.specs.Prelude.{ℕ, ◌||◌, Bool, if◌then◌else◌, ℤ, pos, List, [], ◌∷◌, ◌++◌}
 use Rattle.std.specs.List.{flat_map}
 use Rattle.assembly_tree.specs.WellFormed.{is_image_base, is_file_alignment}
 use Rattle.assembly_tree.specs.WellFormedTypes.{is_pack}
-use Rattle.ilasm_grammar.specs.declared.productions.TheConstants.{BRACKETED_INT, BRACKETED_INT_OPT_SOME, INT_TYPE_UINT8, INT_TYPE_UINT16, INT_TYPE_UINT32, UNSIGNED_INT_INT8, UNSIGNED_INT_INT16, UNSIGNED_INT_INT32}
+use Rattle.ilasm_grammar.specs.declared.productions.TheConstants.{BRACKETED_INT, BRACKETED_INT_OPT_SOME, PARENTHESIZED_INT, INT_TYPE_UINT8, INT_TYPE_UINT16, INT_TYPE_UINT32, UNSIGNED_INT_INT8, UNSIGNED_INT_INT16, UNSIGNED_INT_INT32}
+use Rattle.source_model.specs.Data.{item_bits}
 use Rattle.source_model.specs.Forest.{Forest, child, each, has, leaf_at}
-use Rattle.source_model.specs.OutOfRange.{are_cor_flags, are_implementation_flags, is_16_bits, is_32_bits}
+use Rattle.source_model.specs.OutOfRange.{are_cor_flags, are_implementation_flags, fits_width, is_16_bits, is_32_bits, is_repeat}
 use Rattle.source_model.specs.Source.{Source}
-use Rattle.source_model.specs.TypeRules.{unless}
-use Rattle.elaborate.specs.declared.number_rules.Width.{Width}
-use Rattle.elaborate.specs.declared.number_rules.Width.TheVariants.{Bits8, Bits16, Bits32, Bits64}
+use Rattle.source_model.specs.TypeRules.{is_within, unless}
+use Rattle.elaborate.specs.declared.ranges.Width.{Width}
+use Rattle.elaborate.specs.declared.ranges.Width.TheVariants.{Bits8, Bits16, Bits32, Bits64}
+use Rattle.elaborate.specs.declared.ranges.Limit.{Limit}
+use Rattle.elaborate.specs.declared.ranges.Limit.TheVariants.{UpTo, Fits}
 use Rattle.elaborate.specs.declared.ranges.Test.{Test}
 use Rattle.elaborate.specs.declared.ranges.Test.TheVariants.{ImageBase, FileAlignment, CorFlags, Implementation, Pack}
 
@@ -27,6 +30,10 @@ bits_in Bits16 = 16
 bits_in Bits32 = 32
 bits_in Bits64 = 64
 
+abbrev pub keeps_within : Limit → ℤ → Bool
+keeps_within (UpTo high) = is_within (pos 0) (pos high)
+keeps_within (Fits width) = fits_width (bits_in width)
+
 -- the bits of an integer type without a sign
 abbrev pub unsigned_bits : Forest → ℕ
 unsigned_bits f =
@@ -42,3 +49,9 @@ version_out_of_range s f = flat_map (λ k. unless is_16_bits s (leaf_at k f)) (1
 -- the place of a field that is out of its range
 abbrev pub place_out_of_range : Source → Forest → List ℕ
 place_out_of_range s f = flat_map (λ g. unless is_32_bits s (leaf_at 1 g)) (each BRACKETED_INT (child (BRACKETED_INT_OPT_SOME ∷ []) f))
+
+-- the numbers of an item of data that are out of their range
+abbrev pub item_out_of_range : Source → Forest → List ℕ
+item_out_of_range s f =
+    flat_map (λ g. unless (fits_width (item_bits f)) s (leaf_at 1 g)) (each PARENTHESIZED_INT f)
+    ++ flat_map (λ g. unless is_repeat s (leaf_at 1 g)) (each BRACKETED_INT f)

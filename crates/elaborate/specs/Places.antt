@@ -1,10 +1,10 @@
 -- Where types are written: what their names stand for there, and which of them can be read.
-use Rattle.std.specs.Prelude.{◌≡◌, ℕ, ◌<◌, ◌^◌, List, [], ◌++◌, map, length}
+use Rattle.std.specs.Prelude.{◌≡◌, ℕ, ◌<◌, ◌^◌, List, [], map, length}
 use Rattle.source_model.specs.Forest.{Forest}
 use Rattle.source_model.specs.Names.{externs, extern_key}
 use Rattle.source_model.specs.Nodes.{Around, Node, nothing_around, typar_names}
 use Rattle.source_model.specs.Source.{Source}
-use Rattle.source_model.specs.TypeRules.{index_out_of_range, array_out_of_range}
+use Rattle.source_model.specs.TypeRules.{number_in_type_out_of_range}
 use Rattle.elaborate.specs.Derived.{OfEach, FitsBody}
 use Rattle.elaborate.specs.Readers.{Reads}
 use Rattle.elaborate.specs.declared.place.Place.{Place}
@@ -13,9 +13,9 @@ use Rattle.elaborate.specs.declared.place.Place.{Place}
 abbrev pub node_of : ℕ → Forest → Node
 node_of p below = record { production = p; below = below; around = nothing_around }
 
--- the tokens of the numbers of generic parameters and arrays that are out of their ranges
+-- the tokens of the numbers and counts in types, signatures and references that are out of their ranges
 abbrev pub numbers_out_of_range : Source → ℕ → Forest → List ℕ
-numbers_out_of_range s p below = index_out_of_range s (node_of p below) ++ array_out_of_range s (node_of p below)
+numbers_out_of_range s p below = number_in_type_out_of_range s (node_of p below)
 
 -- below a production stands its body, and its numbers are in their ranges
 abbrev pub IsSound : Source → ℕ → Forest → Type 0

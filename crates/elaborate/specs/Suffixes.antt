@@ -1,5 +1,5 @@
 -- The suffixes of types, by their nodes (ECMA-335 II.7.1).
-use Rattle.std.specs.Prelude.{ℕ, Bool, false, ⊤}
+use Rattle.std.specs.Prelude.{Bool, false, ⊤}
 use Rattle.type_terms.specs.declared.term.SigType.{SigType}
 use Rattle.ilasm_grammar.specs.declared.tree.TreeNode.{TreeNode}
 use Rattle.ilasm_grammar.specs.declared.tree.TreeNode.TheVariants.{Branch, Leaf}

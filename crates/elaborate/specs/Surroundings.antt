@@ -4,8 +4,10 @@ use Rattle.std.specs.List.{flat_map}
 use Rattle.ilasm_grammar.specs.declared.productions.TheConstants.{CLASS, METHOD}
 use Rattle.ilasm_grammar.specs.declared.tree.TreeNode.{TreeNode}
 use Rattle.source_model.specs.Forest.{Forest, preorder}
-use Rattle.source_model.specs.Nodes.{Around, Node, nodes_in}
+use Rattle.source_model.specs.Nodes.{Around, Node, nodes_in, typar_names}
+use Rattle.source_model.specs.Parameters.{parameters}
 use Rattle.source_model.specs.Source.{Source}
+use Rattle.elaborate.specs.Derived.{FitsBody, HasBodies}
 use Rattle.elaborate.specs.declared.asking.Surrounding.{Surrounding}
 
 -- the classes around a place are counted up to 101
@@ -19,6 +21,18 @@ pub record IsNode (p : Surrounding) (production : ℕ) (below : List TreeNode) (
   pub production-is : n.production ≡ production
   pub below-is : preorder n.below ≡ below
   pub place : IsSurrounding p n.around
+
+-- the names of the generic parameters of the class and of the method around a place, and how many parameters the method has
+pub record HasParameters (s : Source) (p : Surrounding) (a : Around) : Type 0 where
+  pub class : p.class_typars.now ≡ typar_names s a.class
+  pub method : p.method_typars.now ≡ typar_names s a.method
+  pub count : p.parameters ≡ length (parameters a.method)
+
+-- a production of a derivation: below it stands its body, and so it is with each production there
+pub record IsDerived (s : Source) (p : Surrounding) (n : Node) : Type 0 where
+  pub fits : FitsBody s n.production n.below
+  pub bodies : HasBodies s n.below
+  pub parameters : HasParameters s p n.around
 
 -- its parts have other things around them than it has
 abbrev pub is_scope : ℕ → Bool

@@ -1,5 +1,5 @@
 -- The nodes of a derivation, and what is looked for among them.
-use Rattle.std.specs.Prelude.{◌≡◌, ℕ, ◌+◌, ◌<◌, ◌==◌, Bool, false, List, map, take, drop, length}
+use Rattle.std.specs.Prelude.{◌≡◌, ℕ, ◌+◌, ◌<◌, ◌^◌, ◌==◌, Bool, false, List, map, take, drop, length}
 use Rattle.ilasm_grammar.specs.declared.tree.TreeNode.{TreeNode}
 use Rattle.ilasm_grammar.specs.declared.tree.TreeNode.TheVariants.{Branch, Leaf}
 use Rattle.source_model.specs.Forest.{Forest, branch, Part, preorder, joined}
@@ -40,6 +40,7 @@ pub record Opens (nodes : List TreeNode) (x : Opened) : Type 0 where
   pub lower : length x.below.now < length nodes
   pub later : length x.after.now < length nodes
   pub fewer : length x.behind.now < length nodes
+  pub few : length x.below.now < 2 ^ 32
   pub leaf : (f : Forest) (token : ℕ) → preorder f ≡ nodes → x.node ≡ Leaf token → BeginsWithLeaf f token x.behind.now
   pub branch : (f : Forest) (p count : ℕ) → preorder f ≡ nodes → x.node ≡ Branch p count
       → BeginsWith f p x.below.now x.after.now x.behind.now

@@ -1,18 +1,23 @@
 //! The productions of a source, each with what stands around its parts, and rules that are asked of each of them.
 
-ghost use Rattle.std.specs.Prelude.{◌≡◌, ℕ, ◌+◌, min, IfOk};
+ghost use Rattle.std.specs.Prelude.{◌≡◌, ℕ, ◌+◌, [], length, min, true, IfOk};
 ghost use Rattle.std.specs.List.{flat_map};
 ghost use Rattle.source_model.specs.Forest.{Forest, preorder};
-ghost use Rattle.source_model.specs.Nodes.{Around, Node, entered, nodes};
+ghost use Rattle.source_model.specs.Nodes.{Around, Node, entered, nodes, typar_names};
+ghost use Rattle.source_model.specs.Parameters.{parameters};
 ghost use Rattle.source_model.specs.Source.{Source};
 ghost use Rattle.elaborate.specs.Least.{least};
-ghost use Rattle.elaborate.specs.Surroundings.{found_in, is_scope, IsNode, IsSurrounding};
+ghost use Rattle.elaborate.specs.Derived.{HasBodies};
+ghost use Rattle.elaborate.specs.Surroundings.{found_in, is_scope, HasParameters, IsDerived, IsNode, IsSurrounding};
 ghost use Rattle.elaborate.specs.Readers.{Reads};
 ghost use Rattle.elaborate.specs.Walk.{IsForest};
 
+use crate::declared::Declared;
+use crate::derived::derivations_have_bodies;
 use crate::least::sooner;
+use crate::name_lists::typar_names;
 use crate::reader::Reader;
-use crate::walk::next;
+use crate::walk::{child, count, next};
 use il_base::NoMemory;
 use ilasm_grammar::{TreeNode, productions};
 use source_model::{derivations_are_forests, forests_join, forests_open};
@@ -21,10 +26,25 @@ use std::alloc::Global;
 /// What stands around a place: the number of the classes that it is in, counted up to 101, the nodes below the innermost of
 /// them, and those below the method. Outside of any class or method these are none.
 #[derive(Clone, Copy)]
-pub(crate) struct Surrounding<'a> {
+pub(crate) struct Surrounding<'n, 't> {
     pub depth: u8,
-    pub class: &'a [TreeNode],
-    pub method: &'a [TreeNode],
+    pub class: &'n [TreeNode],
+    pub method: &'n [TreeNode],
+    /// The names of the generic parameters of that class and of that method.
+    pub class_typars: &'t Declared,
+    pub method_typars: &'t Declared,
+    /// How many parameters the method has.
+    pub parameters: usize,
+}
+
+// The parameters of a class or a method: the names of the generic parameters of the class around it and of its own, an empty
+// list of names, and how many others it has.
+#[derive(Clone, Copy)]
+struct Own<'t> {
+    class_typars: &'t Declared,
+    typars: &'t Declared,
+    none: &'t Declared,
+    parameters: usize,
 }
 
 /// A rule that each production of a source meets or breaks by itself.
@@ -46,19 +66,21 @@ pub(crate) trait Rule {
         below: &[TreeNode],
     ) -> Result<Option<u32>, NoMemory>
         requires { IsForest below.now }
-        ensures { (s : Source) (n : Node) → Reads reader.now s → IsNode place.now production below.now n → IfOk result (λ k. k ≡ least (broken self.now s n)) };
+        ensures { (s : Source) (n : Node) → Reads reader.now s → IsNode place.now production below.now n → IsDerived s place.now n →
+            IfOk result (λ k. k ≡ least (broken self.now s n)) };
 }
 
 /// The least token at which a production among these nodes breaks a rule.
-pub(crate) fn first_in<'a, R: Rule>(
+pub(crate) fn first_in<'n, R: Rule>(
     rule: &R,
     alloc: Global,
     reader: &Reader,
-    place: &Surrounding<'a>,
-    nodes: &'a [TreeNode],
+    place: &Surrounding<'n, '_>,
+    nodes: &'n [TreeNode],
 ) -> Result<Option<u32>, NoMemory>
     requires { IsForest nodes.now }
-    ensures { (s : Source) (a : Around) (f : Forest) → Reads reader.now s → IsSurrounding place.now a → preorder f ≡ nodes.now → IfOk result (λ k. k ≡ least (found_in (R.broken rule.now) s a f)) }
+    ensures { (s : Source) (a : Around) (f : Forest) → Reads reader.now s → IsSurrounding place.now a → preorder f ≡ nodes.now → HasBodies s f → HasParameters s place.now a →
+        IfOk result (λ k. k ≡ least (found_in (R.broken rule.now) s a f)) }
 {
     derivations_are_forests();
     forests_open();
@@ -72,13 +94,23 @@ pub(crate) fn first_in<'a, R: Rule>(
                 nodes: count,
             } => {
                 let (below, after) = rest.split_at(count as usize);
-                let inner = entered(place, production, below);
-                let here = rule.first(alloc, reader, &inner, production, below)?;
                 if is_scope(production) {
+                    let typars = typar_names(alloc, reader, below)?;
+                    let none = Declared::new(alloc);
+                    let parameters = count_parameters(alloc, below)?;
+                    let own = Own {
+                        class_typars: place.class_typars,
+                        typars: &typars,
+                        none: &none,
+                        parameters,
+                    };
+                    let inner = entered(place, production, below, &own);
+                    let here = rule.first(alloc, reader, &inner, production, below)?;
                     let within = first_in(rule, alloc, reader, &inner, below)?;
                     found = sooner(found, sooner(here, within));
                     left = after;
                 } else {
+                    let here = rule.first(alloc, reader, place, production, below)?;
                     found = sooner(found, here);
                     left = rest;
                 }
@@ -96,24 +128,45 @@ fn is_scope(production: u16) -> bool
     production == productions::CLASS || production == productions::METHOD
 }
 
-// What stands around the parts of a production.
-fn entered<'a>(place: &Surrounding<'a>, production: u16, below: &'a [TreeNode]) -> Surrounding<'a>
-    ensures { (s : Source) (a : Around) (f : Forest) → IsSurrounding place.now a → preorder f ≡ below.now → IsSurrounding result (entered s a production f) }
+// How many parameters a method has.
+fn count_parameters(alloc: Global, below: &[TreeNode]) -> Result<usize, NoMemory>
+    requires { IsForest below.now }
+    ensures { (f : Forest) → preorder f ≡ below.now → IfOk result (λ n. n ≡ length (parameters f)) }
+{
+    let parameters = child(below, productions::DEF_ARGS_OPT_SOME);
+    count(alloc, parameters, productions::DEF_ARG)
+}
+
+// What stands around the parts of a class or a method.
+fn entered<'n, 't>(
+    place: &Surrounding<'n, '_>,
+    production: u16,
+    below: &'n [TreeNode],
+    own: &Own<'t>,
+) -> Surrounding<'n, 't>
+    requires { is_scope production ≡ true }
+    ensures around { (s : Source) (a : Around) (f : Forest) → IsSurrounding place.now a → preorder f ≡ below.now → IsSurrounding result (entered s a production f) }
+    ensures parameters { (s : Source) (a : Around) (f : Forest) → HasParameters s place.now a → own.now.class_typars.now ≡ typar_names s a.class → own.now.typars.now ≡ typar_names s f → own.now.none.now ≡ [] →
+        own.now.parameters ≡ length (parameters f) → HasParameters s result (entered s a production f) }
 {
     if production == productions::CLASS {
         Surrounding {
             depth: deeper(place.depth),
             class: below,
             method: &[],
+            class_typars: own.typars,
+            method_typars: own.none,
+            parameters: 0,
         }
-    } else if production == productions::METHOD {
+    } else {
         Surrounding {
             depth: place.depth,
             class: place.class,
             method: below,
+            class_typars: own.class_typars,
+            method_typars: own.typars,
+            parameters: own.parameters,
         }
-    } else {
-        *place
     }
 }
 
@@ -134,11 +187,16 @@ pub(crate) fn first_at_all<R: Rule>(
     requires { IsForest reader.now.nodes.now }
     ensures { (s : Source) → Reads reader.now s → IfOk result (λ k. k ≡ least (flat_map (R.broken rule.now s) (nodes s))) }
 {
+    let none = Declared::new(alloc);
     let outside = Surrounding {
         depth: 0,
         class: &[],
         method: &[],
+        class_typars: &none,
+        method_typars: &none,
+        parameters: 0,
     };
+    derivations_have_bodies();
     let first = first_in(rule, alloc, reader, &outside, reader.nodes)?;
     Ok(first)
 }

@@ -2,8 +2,9 @@
 //! newest name with it, and a chain from each name to the newest older one with the same hash. Names are put in front, so
 //! the newest is the first.
 
-ghost use Rattle.std.specs.Prelude.{◌≡◌, ◌∷◌, [], length, position, bytes_eq, OnOk, OnErr, nat_eq};
+ghost use Rattle.std.specs.Prelude.{◌≡◌, ◌<◌, ◌∷◌, [], length, position, bytes_eq, OnOk, OnErr, nat_eq};
 ghost use Rattle.indexmap.specs.IndexMap.{get};
+ghost use Rattle.elaborate.specs.Repeats.{is_repeat};
 ghost use Rattle.elaborate.specs.TextHash.{text_hash};
 
 use crate::hashes::text_hash;
@@ -66,6 +67,18 @@ impl Declared {
             at = *self.nexts.at(place);
         }
         None
+    }
+
+    /// Whether name number `k` is one that stands before it. Takes no memory.
+    pub(crate) fn is_repeat(&self, k: usize) -> bool
+        requires { k < length self.now }
+        ensures { result ≡ is_repeat self.now k }
+    {
+        let place = self.names.len() - 1 - k;
+        match self.find(self.names.at(place).as_bytes()) {
+            Some(first) => first < k,
+            None => false,
+        }
     }
 
     /// Puts a name in front.

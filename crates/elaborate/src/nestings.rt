@@ -1,8 +1,7 @@
 //! Classes and paths that nest deeper than 100 (ECMA-335 II.7.3, II.10.6).
 
-ghost use Rattle.std.specs.Prelude.{◌≡◌, ℕ, ◌++◌, IfOk, length};
-ghost use Rattle.ilasm_grammar.specs.declared.productions.TheConstants.{SLASH_NAME};
-ghost use Rattle.source_model.specs.Forest.{Forest, each, preorder};
+ghost use Rattle.std.specs.Prelude.{◌≡◌, ℕ, ◌++◌, IfOk};
+ghost use Rattle.source_model.specs.Forest.{Forest, preorder};
 ghost use Rattle.source_model.specs.Names.{name_and_tail, path_tokens};
 ghost use Rattle.source_model.specs.Nodes.{Node};
 ghost use Rattle.source_model.specs.OutOfRange.{class_too_deep, nestings_too_deep};
@@ -16,7 +15,7 @@ ghost use Rattle.elaborate.specs.Walk.{IsForest};
 use crate::asking::{Rule, Surrounding, first_at_all};
 use crate::least::sooner;
 use crate::reader::Reader;
-use crate::walk::{child, each, has, leaf_at};
+use crate::walk::{child, count, has, leaf_at};
 use il_base::NoMemory;
 use ilasm_grammar::{TreeNode, productions};
 use std::alloc::Global;
@@ -92,7 +91,7 @@ fn long_names(alloc: Global, path: &[TreeNode]) -> Result<Option<u32>, NoMemory>
     requires { IsForest path.now }
     ensures { (f : Forest) → preorder f ≡ path.now → IfOk result (λ k. k ≡ least (past_100_names (path_tokens f))) }
 {
-    let more = count(alloc, path)?;
+    let more = count(alloc, path, productions::SLASH_NAME)?;
     if more > 99 {
         Ok(Some(leaf_at(path, 0)))
     } else {
@@ -108,19 +107,14 @@ fn long_tail(alloc: Global, nodes: &[TreeNode], slash: u16) -> Result<Option<u32
     if !has(nodes, slash) {
         return Ok(None);
     }
-    let more = count(alloc, child(child(nodes, slash), productions::PATH))?;
+    let more = count(
+        alloc,
+        child(child(nodes, slash), productions::PATH),
+        productions::SLASH_NAME,
+    )?;
     if more > 98 {
         Ok(Some(leaf_at(nodes, 0)))
     } else {
         Ok(None)
     }
-}
-
-// The number of names of a path after the first.
-fn count(alloc: Global, path: &[TreeNode]) -> Result<usize, NoMemory>
-    requires { IsForest path.now }
-    ensures { (f : Forest) → preorder f ≡ path.now → IfOk result (λ n. n ≡ length (each SLASH_NAME f)) }
-{
-    let names = each(alloc, path, productions::SLASH_NAME)?;
-    Ok(names.len())
 }

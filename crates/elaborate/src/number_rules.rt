@@ -6,9 +6,8 @@ ghost use Rattle.source_model.specs.Constants.{bits_of, const_token};
 ghost use Rattle.source_model.specs.Flags.{flags_token};
 ghost use Rattle.source_model.specs.Forest.{Forest, preorder};
 ghost use Rattle.source_model.specs.Nodes.{Node};
-ghost use Rattle.source_model.specs.OutOfRange.{constant_out_of_range, fits_width, flags_out_of_range, layout_number_out_of_range, manifest_number_out_of_range};
+ghost use Rattle.source_model.specs.OutOfRange.{constant_out_of_range, flags_out_of_range, layout_number_out_of_range, manifest_number_out_of_range};
 ghost use Rattle.source_model.specs.Source.{Source};
-ghost use Rattle.source_model.specs.TypeRules.{unless};
 ghost use Rattle.source_model.specs.Types.{int_type};
 ghost use Rattle.elaborate.specs.Least.{least};
 ghost use Rattle.elaborate.specs.NumberTests.{bits_in, place_out_of_range, unsigned_bits, version_out_of_range};
@@ -16,19 +15,10 @@ ghost use Rattle.elaborate.specs.Readers.{Reads};
 ghost use Rattle.elaborate.specs.Walk.{IsForest};
 
 use crate::least::sooner;
-use crate::ranges::{Test, above_in_each, failing, outside};
+use crate::ranges::{Limit, Test, Width, beyond_in_each, failing, outside, outside_width};
 use crate::reader::Reader;
 use crate::walk::{child, has, last_token, leaf_at, the};
 use ilasm_grammar::{TreeNode, productions};
-
-/// The width of a number.
-#[derive(Debug, Clone, Copy, PartialEq, Eq, Drop)]
-pub(crate) enum Width {
-    Bits8,
-    Bits16,
-    Bits32,
-    Bits64,
-}
 
 /// The least number of the manifest that is out of its range, where this production is one of its lines.
 pub(crate) fn manifest_number(reader: &Reader, production: u16, below: &[TreeNode]) -> Option<u32>
@@ -110,20 +100,8 @@ fn const_token(nodes: &[TreeNode]) -> u32
     last_token(nodes).saturating_sub(1)
 }
 
-// The token, unless its number fits this width, from the least signed to the greatest unsigned number.
-fn outside_width(reader: &Reader, token: u32, width: Width) -> Option<u32>
-    ensures { (s : Source) → Reads reader.now s → result ≡ least (unless (fits_width (bits_in width)) s token) }
-{
-    match width {
-        Width::Bits8 => outside(reader, token, -0x80, 0xFF),
-        Width::Bits16 => outside(reader, token, -0x8000, 0xFFFF),
-        Width::Bits32 => outside(reader, token, -0x8000_0000, 0xFFFF_FFFF),
-        Width::Bits64 => outside(reader, token, -0x8000_0000_0000_0000, 0xFFFF_FFFF_FFFF_FFFF),
-    }
-}
-
-// The width of an integer type.
-fn int_width(nodes: &[TreeNode]) -> Width
+/// The width of an integer type.
+pub(crate) fn int_width(nodes: &[TreeNode]) -> Width
     requires { IsForest nodes.now }
     ensures { (f : Forest) → preorder f ≡ nodes.now → bits_in result ≡ bits_of (int_type f) }
 {
@@ -179,5 +157,10 @@ fn field_place(reader: &Reader, below: &[TreeNode]) -> Option<u32>
     ensures { (s : Source) (f : Forest) → Reads reader.now s → preorder f ≡ below.now → result ≡ least (place_out_of_range s f) }
 {
     let place = child(below, productions::BRACKETED_INT_OPT_SOME);
-    above_in_each(reader, place, productions::BRACKETED_INT, 0xFFFF_FFFF)
+    beyond_in_each(
+        reader,
+        place,
+        productions::BRACKETED_INT,
+        Limit::UpTo(0xFFFF_FFFF),
+    )
 }

@@ -1,15 +1,16 @@
 //! Where types are written, and what their names stand for there (ECMA-335 II.7.3, II.8.5.2).
 
-ghost use Rattle.std.specs.Prelude.{◌≡◌, IfOk, map, Some};
+ghost use Rattle.std.specs.Prelude.{◌≡◌, ◌++◌, IfOk, map, Some};
 ghost use Rattle.il_lexer.specs.declared.types.TokenKind.TheVariants as kind;
-ghost use Rattle.ilasm_grammar.specs.declared.productions.TheConstants.{PATH, TYPE_NAME_SCOPE, TYPE_NAME_PATH};
-ghost use Rattle.source_model.specs.Forest.{Forest, preorder};
+ghost use Rattle.ilasm_grammar.specs.declared.productions.TheConstants.{PATH, SLASH_NAME, TYPE_NAME_PATH};
+ghost use Rattle.source_model.specs.Forest.{Forest, each, leaf_at, preorder};
 ghost use Rattle.source_model.specs.Names.{module_name, or_scope, path_tokens, scope_named, type_name, type_named, with_scope, without_scope, written_scope};
 ghost use Rattle.source_model.specs.Nodes.{Around, type_id};
 ghost use Rattle.source_model.specs.Source.{Source};
 ghost use Rattle.elaborate.specs.Derived.{FitsBody, HasBodies};
 ghost use Rattle.elaborate.specs.Places.{IsAt};
 ghost use Rattle.elaborate.specs.Readers.{IsOf};
+ghost use Rattle.elaborate.specs.Sound.{HasPath};
 ghost use Rattle.elaborate.specs.Walk.{IsForest};
 
 use crate::declared::Declared;
@@ -58,20 +59,35 @@ impl<'a> Place<'a> {
         ensures { (s : Source) (a : Around) → IsAt self.now s a → (f : Forest) → preorder f ≡ nodes.now → FitsBody s PATH f → HasBodies s f →
             IfOk result (λ path. path ≡ map (type_id s) (path_tokens f)) }
     {
-        forests_join();
         let first = self.reader.type_id(alloc, leaf_at(nodes, 0))?;
-        let mut path = Path::new(alloc, first)?;
+        let path = Path::new(alloc, first)?;
+        self.with_names(alloc, path, nodes)
+    }
+
+    /// A path with the names behind it that stand in a forest, each after a `/`.
+    pub(crate) fn with_names(
+        &self,
+        alloc: Global,
+        path: Path,
+        nodes: &[TreeNode],
+    ) -> Result<Path, NoMemory>
+        requires { IsForest nodes.now }
+        ensures { (s : Source) (a : Around) → IsAt self.now s a → (f : Forest) → preorder f ≡ nodes.now → HasBodies s f →
+            IfOk result (λ longer. longer ≡ path ++ map (type_id s) (map (λ g. leaf_at 1 g) (each SLASH_NAME f))) }
+    {
+        forests_join();
+        let mut longer = path;
         let mut left = nodes;
         while let Some(x) = open(left) {
             if is_of(x.node, SLASH_NAME) {
                 let id = self.reader.type_id(alloc, leaf_at(x.below, 1))?;
-                path.push(id)?;
+                longer.push(id)?;
                 left = x.after;
             } else {
                 left = x.behind;
             }
         }
-        Ok(path)
+        Ok(longer)
     }
 
     /// A type's name with the name of an assembly.
@@ -81,7 +97,7 @@ impl<'a> Place<'a> {
         nodes: &[TreeNode],
     ) -> Result<TypeName, NoMemory>
         requires { IsForest nodes.now }
-        ensures { (s : Source) (a : Around) → IsAt self.now s a → (f : Forest) → preorder f ≡ nodes.now → FitsBody s TYPE_NAME_SCOPE f → HasBodies s f →
+        ensures { (s : Source) (a : Around) → IsAt self.now s a → (f : Forest) → preorder f ≡ nodes.now → IsOf s kind.Scope (leaf_at 0 f) → HasPath s f →
             IfOk result (λ name. name ≡ type_named s (with_scope f)) }
     {
         let scope = self.scope_at(alloc, leaf_at(nodes, 0))?;

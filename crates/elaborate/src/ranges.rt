@@ -4,13 +4,13 @@ ghost use Rattle.std.specs.Prelude.{◌≡◌, ◌<◌, ◌^◌, [], ◌∷◌, 
 ghost use Rattle.std.specs.List.{flat_map};
 ghost use Rattle.assembly_tree.specs.WellFormedTypes.{is_pack};
 ghost use Rattle.source_model.specs.Forest.{Forest, each, leaf_at, preorder};
-ghost use Rattle.source_model.specs.OutOfRange.{is_32_bits, is_natural_with};
+ghost use Rattle.source_model.specs.OutOfRange.{fits_width, is_32_bits, is_natural_with};
 ghost use Rattle.source_model.specs.Source.{Source};
 ghost use Rattle.source_model.specs.TypeRules.{is_within, unless};
 ghost use Rattle.source_model.specs.Values.{int_at};
 ghost use Rattle.elaborate.specs.Integers.{distance};
 ghost use Rattle.elaborate.specs.Least.{least};
-ghost use Rattle.elaborate.specs.NumberTests.{test_of};
+ghost use Rattle.elaborate.specs.NumberTests.{bits_in, keeps_within, test_of};
 ghost use Rattle.elaborate.specs.Readers.{Reads};
 ghost use Rattle.elaborate.specs.Walk.{IsForest};
 
@@ -33,6 +33,22 @@ pub(crate) enum Test {
     Pack,
 }
 
+/// The width of a number.
+#[derive(Debug, Clone, Copy, PartialEq, Eq, Drop)]
+pub(crate) enum Width {
+    Bits8,
+    Bits16,
+    Bits32,
+    Bits64,
+}
+
+/// What a number must keep within: from 0 to a greatest one, or what a width holds, with a sign or without one.
+#[derive(Debug, Clone, Copy, PartialEq, Eq, Drop)]
+pub(crate) enum Limit {
+    UpTo(u32),
+    Fits(Width),
+}
+
 /// The token, unless the number that it spells lies from one to another.
 pub(crate) fn outside(reader: &Reader, token: u32, low: i128, high: i128) -> Option<u32>
     requires low { distance low < 2 ^ 64 }
@@ -49,23 +65,45 @@ pub(crate) fn failing(reader: &Reader, token: u32, test: Test) -> Option<u32>
     unless(is_natural_with(reader, token, test), token)
 }
 
-/// The token, unless the number that it spells lies from 0 to another.
-pub(crate) fn above(reader: &Reader, token: u32, high: u32) -> Option<u32>
+/// The token, unless its number fits this width, from the least signed to the greatest unsigned number.
+pub(crate) fn outside_width(reader: &Reader, token: u32, width: Width) -> Option<u32>
+    ensures { (s : Source) → Reads reader.now s → result ≡ least (unless (fits_width (bits_in width)) s token) }
+{
+    match width {
+        Width::Bits8 => outside(reader, token, -0x80, 0xFF),
+        Width::Bits16 => outside(reader, token, -0x8000, 0xFFFF),
+        Width::Bits32 => outside(reader, token, -0x8000_0000, 0xFFFF_FFFF),
+        Width::Bits64 => outside(reader, token, -0x8000_0000_0000_0000, 0xFFFF_FFFF_FFFF_FFFF),
+    }
+}
+
+// The token, unless the number that it spells lies from 0 to another.
+fn above(reader: &Reader, token: u32, high: u32) -> Option<u32>
     ensures { (s : Source) → Reads reader.now s → result ≡ least (unless (is_within (pos 0) (pos high)) s token) }
 {
     outside(reader, token, 0, i128::from(high))
 }
 
-/// The least of the tokens in second place of the parts of this production whose numbers don't lie from 0 to another.
-pub(crate) fn above_in_each(
+// The token, unless the number that it spells keeps within a limit.
+fn beyond(reader: &Reader, token: u32, limit: Limit) -> Option<u32>
+    ensures { (s : Source) → Reads reader.now s → result ≡ least (unless (keeps_within limit) s token) }
+{
+    match limit {
+        Limit::UpTo(high) => above(reader, token, high),
+        Limit::Fits(width) => outside_width(reader, token, width),
+    }
+}
+
+/// The least of the tokens in second place of the parts of this production whose numbers don't keep within a limit.
+pub(crate) fn beyond_in_each(
     reader: &Reader,
     nodes: &[TreeNode],
     production: u16,
-    high: u32,
+    limit: Limit,
 ) -> Option<u32>
     requires { IsForest nodes.now }
     ensures { (s : Source) (f : Forest) → Reads reader.now s → preorder f ≡ nodes.now →
-        result ≡ least (flat_map (λ g. unless (is_within (pos 0) (pos high)) s (leaf_at 1 g)) (each production f)) }
+        result ≡ least (flat_map (λ g. unless (keeps_within limit) s (leaf_at 1 g)) (each production f)) }
 {
     derivations_are_forests();
     forests_open();
@@ -80,7 +118,7 @@ pub(crate) fn above_in_each(
             } => {
                 if p == production {
                     let (below, after) = rest.split_at(count as usize);
-                    let here = above(reader, leaf_at(below, 1), high);
+                    let here = beyond(reader, leaf_at(below, 1), limit);
                     found = sooner(found, here);
                     left = after;
                 } else {

@@ -1,8 +1,8 @@
 //! Looking for productions among the nodes of a derivation.
 
-ghost use Rattle.std.specs.Prelude.{◌≡◌, ℕ, [], ◌∷◌, take, drop, IfOk, MatchOption};
+ghost use Rattle.std.specs.Prelude.{◌≡◌, ◌<◌, ◌^◌, ℕ, [], ◌∷◌, take, drop, length, IfOk, MatchOption};
 ghost use Rattle.elaborate.specs.Walk.{IsForest, Finds, Opens, count_below, is_of};
-ghost use Rattle.source_model.specs.Forest.{Forest, child, first_token, has, last_token, leaf_at, parts, preorder, the};
+ghost use Rattle.source_model.specs.Forest.{Forest, child, each, first_token, has, last_token, leaf_at, parts, preorder, the};
 
 use il_base::{Items, NoMemory};
 use ilasm_grammar::TreeNode;
@@ -27,7 +27,8 @@ pub(crate) struct Opened<'a> {
 
 /// How many nodes stand below a node.
 fn count_below(node: TreeNode) -> usize
-    ensures { result ≡ count_below node }
+    ensures count { result ≡ count_below node }
+    ensures few { result < 2 ^ 32 }
 {
     match node {
         TreeNode::Branch { nodes, .. } => nodes as usize,
@@ -105,6 +106,15 @@ pub(crate) fn each(
         }
     }
     Ok(found)
+}
+
+/// How many outermost branches have this production.
+pub(crate) fn count(alloc: Global, nodes: &[TreeNode], production: u16) -> Result<usize, NoMemory>
+    requires { IsForest nodes.now }
+    ensures { (f : Forest) → preorder f ≡ nodes.now → IfOk result (λ n. n ≡ length (each production f)) }
+{
+    let found = each(alloc, nodes, production)?;
+    Ok(found.len())
 }
 
 /// The first node and those behind it, where there is one.

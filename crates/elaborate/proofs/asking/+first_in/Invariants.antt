@@ -1,13 +1,15 @@
 use Rattle.std.proofs.Common.{length, ◌≤◌}
 use Rattle.std.specs.Prelude.{None}
-use Rattle.elaborate.proofs.AskingLemmas.{sought}
+use Rattle.source_model.specs.Source.{Source}
+use Rattle.elaborate.proofs.AskingLemmas.{Bodied, sought}
 use Rattle.elaborate.proofs.Stepping.{Steps}
 use Rattle.elaborate.proofs.asking.+first_in.Given as goal
 
 abbrev pub invariant-loop-node : goal.invariant-loop-node
 invariant-loop-node g l = record {
-  steps : Steps (sought (g.R.Rule.broken l.rule) l.reader l.place l.found) (sought (g.R.Rule.broken l.rule) l.reader l.place None) l.nodes l.left;
+  steps : Steps (sought (g.R.Rule.broken l.rule) l.reader l.place l.nodes l.found) (sought (g.R.Rule.broken l.rule) l.reader l.place l.nodes None) l.nodes l.left;
   shorter : length l.left ≤ length l.nodes;
+  bodied : (s : Source) → Bodied s l.nodes → Bodied s l.left;
 }
 
 abbrev pub decreases-loop-node : goal.decreases-loop-node

@@ -4,4 +4,4 @@ use Rattle.source_model.specs.Forest.{child}
 use Rattle.elaborate.proofs.number_rules.field_place.Goals as goal
 
 pub returns : goal.returns
-returns c s f r e = c.above_in_each.ensures s (child (BRACKETED_INT_OPT_SOME ∷ []) f) r (sym (c.child-place.ensures f e))
+returns c s f r e = c.beyond_in_each.ensures s (child (BRACKETED_INT_OPT_SOME ∷ []) f) r (sym (c.child-place.ensures f e))

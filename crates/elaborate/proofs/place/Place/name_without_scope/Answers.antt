@@ -1,5 +1,4 @@
-use Rattle.std.proofs.Common.{[], ◌∷◌, ap, sym}
-use Rattle.type_terms.specs.declared.name.Scope.TheVariants.{Here}
+use Rattle.std.proofs.Common.{[], ◌∷◌, sym}
 use Rattle.ilasm_grammar.specs.declared.productions.TheConstants.{PATH}
 use Rattle.source_model.specs.Forest.{child}
 use Rattle.elaborate.proofs.TypeNames.{alone}

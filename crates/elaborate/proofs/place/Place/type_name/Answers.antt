@@ -3,6 +3,7 @@ use Rattle.std.specs.Prelude.{IfOk}
 use Rattle.ilasm_grammar.specs.declared.productions.TheConstants.{TYPE_NAME_SCOPE, TYPE_NAME_PATH}
 use Rattle.elaborate.proofs.Collecting.{below_is, behind_is, is_branch}
 use Rattle.elaborate.proofs.TypeNames.{name_found, name_starts, name_goes_in, no_name}
+use Rattle.elaborate.proofs.WrittenNames.{path_child, scope_begins}
 use Rattle.elaborate.proofs.place.Place.type_name.Goals as goal
 
 pub loop-x-init : goal.loop-x-init
@@ -17,7 +18,8 @@ pub returns-then-is_of : goal.returns-then-is_of
 returns-then-is_of c s a x f e bodies =
     let b = is_branch TYPE_NAME_SCOPE c.in-Some.x.node (sym c.is_of.ensures ∙ c.if-is_of.true) in
     let n = name_found s f c.loop-x.left.now c.in-Some.x TYPE_NAME_SCOPE b.0 c.in-Some.ensures b.1 refl (c.loop-x.invariant.so_far s f e bodies) in
-    subst (λ t. IfOk c.name_with_scope.result (λ name. name ≡ t)) (sym n.is) (c.name_with_scope.ensures s a x n.inner n.inner-is n.fits n.bodies)
+    subst (λ t. IfOk c.name_with_scope.result (λ name. name ≡ t)) (sym n.is)
+    (c.name_with_scope.ensures s a x n.inner n.inner-is (scope_begins s n.inner n.fits) (path_child s n.inner n.fits n.bodies))
 
 pub name_without_scope-requires : goal.name_without_scope-requires
 name_without_scope-requires c =
