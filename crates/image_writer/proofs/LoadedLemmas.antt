@@ -45,7 +45,7 @@ cond_length false false x y z p q r = r
 packed_length : (n : ℕ) → length (packed_bytes n) ≡ packed_width n
 packed_length n = cond_length (nat_lt n 128) (nat_lt n 16384) _ _ _ refl refl refl
 
-entry_length : (units entry : List ℕ) → IsUnitsEntry (bytes_of_units units) entry → length entry ≡ entry_size units
+pub entry_length : (units entry : List ℕ) → IsUnitsEntry (bytes_of_units units) entry → length entry ≡ entry_size units
 entry_length units entry (last, is, h) =
     let long : length (bytes_of_units units) ≡ 2 * length units = two_each units in
     let count : length (bytes_of_units units) + 1 ≡ 2 * length units + 1 = omega arith in
@@ -55,7 +55,7 @@ entry_length units entry (last, is, h) =
 
 -- ---- lists with one more
 
-front : {X : Type 0} (xs ys : List X) (x : X) (k : ℕ) → slice_get xs k ≡ Some x → slice_get (xs ++ ys) k ≡ Some x
+pub front : {X : Type 0} (xs ys : List X) (x : X) (k : ℕ) → slice_get xs k ≡ Some x → slice_get (xs ++ ys) k ≡ Some x
 front [] ys x k h = absurd cc
 front (z ∷ xs) ys x zero h = h
 front (z ∷ xs) ys x (suc k) h = front xs ys x k h

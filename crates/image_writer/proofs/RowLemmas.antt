@@ -1,7 +1,7 @@
 -- Where cells stand among the rows of a set.
 use Rattle.std.proofs.Common.{◌⊎◌, inl, inr, ◌-◌, ◌≡◌, ap, refl, sym, ◌∙◌, subst, ℕ, zero, suc, ◌<◌, Bool, true, false, ◌||◌, ◌&&◌, List, [], ◌∷◌, ◌++◌, length, get_or, Some, true≢false, nat_eq, arith}
 use Rattle.std.specs.Prelude.{slice_get}
-use Rattle.image_writer.specs.Rows.{IsRowAt, Lacks, AreDistinct}
+use Rattle.image_writer.specs.Rows.{IsRowAt, Lacks, AreDistinct, are_same, LeadsTo}
 use Rattle.std.specs.Bool.{Decides}
 use Rattle.std.specs.Cmp.{first_so, second_so}
 use Rattle.std.specs.List.{position, list_any}
@@ -49,20 +49,17 @@ module _ {A : Type 0} (p : A → Bool) (key : A) (decides : (x : A) → Decides 
   pub find_none : (xs : List A) → false ≡ list_any p xs → (k : ℕ) → slice_get xs k ≡ Some key → ⊥
   find_none xs e = lacks xs (sym e)
 
-abbrev cells_test : Cells → Cells → Bool
-cells_test a b = nat_eq a.first b.first && (nat_eq a.second b.second && nat_eq a.third b.third)
-
 same_cells : (a b : Cells) → a.first ≡ b.first → a.second ≡ b.second → a.third ≡ b.third → a ≡ b
 same_cells a b p q r = λ i. record { first = p i; second = q i; third = r i }
 
 -- derived equality of cells
-pub decides_cells : (a b : Cells) → Decides (cells_test a b) (a ≡ b)
+pub decides_cells : (a b : Cells) → Decides (are_same a b) (a ≡ b)
 decides_cells a b = (
   λ h. let rest = second_so (nat_eq a.first b.first) (nat_eq a.second b.second && nat_eq a.third b.third) h in
       same_cells a b (eqb-true a.first b.first (first_so (nat_eq a.first b.first) (nat_eq a.second b.second && nat_eq a.third b.third) h))
       (eqb-true a.second b.second (first_so (nat_eq a.second b.second) (nat_eq a.third b.third) rest))
       (eqb-true a.third b.third (second_so (nat_eq a.second b.second) (nat_eq a.third b.third) rest)),
-  λ e. subst (λ (x : Cells). cells_test a x ≡ true) e
+  λ e. subst (λ (x : Cells). are_same a x ≡ true) e
       (λ i. eq-eqb a.first a.first refl i && (eq-eqb a.second a.second refl i && eq-eqb a.third a.third refl i)),
 )
 

@@ -14,7 +14,7 @@ use Rattle.sig_codec.specs.Spellable.{HasToken, HasDeclaredToken, CanBePacked, I
 use Rattle.sig_codec.specs.Spellable as spellable
 use Rattle.sig_codec.specs.Spelling.{Layer}
 use Rattle.image_writer.specs.NameTokens.{NameableIn}
-use Rattle.image_writer.specs.References.{Grows, tokens_of}
+use Rattle.image_writer.specs.References.{Grows, Widens, tokens_of}
 use Rattle.image_writer.specs.TypePaths.{in_declared}
 use Rattle.image_writer.specs.Writable.{CanBeNamed, IsWritable, IsLayerWritable, IsOwnerWritable, IsOwnerLayerWritable, AreWritable}
 use Rattle.image_writer.specs.Writable as w
@@ -22,7 +22,7 @@ use Rattle.image_writer.specs.declared.references.References.{References}
 use Rattle.image_writer.specs.declared.row_set.Cells.{Cells}
 use Rattle.heaps.specs.Heap.{Heap}
 use Rattle.image_writer.specs.Texts.{KeepsTexts}
-use Rattle.image_writer.proofs.GrowthLemmas.{tokens_kept}
+use Rattle.image_writer.proofs.GrowthLemmas.{widened, tokens_kept}
 use Rattle.image_writer.proofs.PathLemmas.{follows_kept}
 
 -- ---- as more comes
@@ -33,11 +33,11 @@ nameable_kept old new rows more path Here k same h =
     (h.0, follows_kept old new rows more in_declared 0 h.0 path k (record { more = []; is = same ∙ sym (append-nil rows) }) h.1)
 nameable_kept old new rows more path (Extern number) k same h = h
 
-module _ (a b : References) (g : Grows a b) where
-  pub name_can : (name : TypeName) → CanBeNamed a name → CanBeNamed b name
-  name_can name h = record {
+module _ (a b : References) (g : Widens a b) where
+  pub wide_name : (name : TypeName) → CanBeNamed a name → CanBeNamed b name
+  wide_name name h = record {
     plain = h.plain;
-    nameable = nameable_kept a.heaps.strings b.heaps.strings a.declared.types b.declared.types name.path name.scope g.strings (ap (λ d. d.types) g.declared) h.nameable;
+    nameable = nameable_kept a.heaps.strings b.heaps.strings a.declared.types b.declared.types name.path name.scope g.strings g.types h.nameable;
   }
 
   mutual
@@ -46,9 +46,9 @@ module _ (a b : References) (g : Grows a b) where
 
     layer_can : {l : Layer} → IsLayerWritable a l → IsLayerWritable b l
     layer_can w.prim = w.prim
-    layer_can (w.class {name = n} h) = w.class (name_can n h)
-    layer_can (w.value {name = n} h) = w.value (name_can n h)
-    layer_can (w.inst {name = n} h s c k) = w.inst (name_can n h) s c (types_can k)
+    layer_can (w.class {name = n} h) = w.class (wide_name n h)
+    layer_can (w.value {name = n} h) = w.value (wide_name n h)
+    layer_can (w.inst {name = n} h s c k) = w.inst (wide_name n h) s c (types_can k)
     layer_can (w.var lt) = w.var lt
     layer_can (w.mvar lt) = w.mvar lt
     layer_can (w.sz_array h) = w.sz_array (type_can h)
@@ -62,21 +62,34 @@ module _ (a b : References) (g : Grows a b) where
     owner_can (w.made_owner h) = w.made_owner (owner_layer_can h)
 
     owner_layer_can : {l : layer.Owner-F Owner SigType} → IsOwnerLayerWritable a l → IsOwnerLayerWritable b l
-    owner_layer_can (w.name {n = n} h) = w.name (name_can n h)
+    owner_layer_can (w.name {n = n} h) = w.name (wide_name n h)
     owner_layer_can (w.spec h) = w.spec (type_can h)
 
     types_can : {ts : List SigType} → AreWritable a ts → AreWritable b ts
     types_can w.none = w.none
     types_can (w.more h k) = w.more (type_can h) (types_can k)
 
+  pub wide_writable : (t : SigType) → IsWritable a t → IsWritable b t
+  wide_writable t h = type_can h
+
+  pub wide_writable_owner : (o : Owner) → IsOwnerWritable a o → IsOwnerWritable b o
+  wide_writable_owner o h = owner_can h
+
+  pub wide_writable_each : (ts : List SigType) → AreWritable a ts → AreWritable b ts
+  wide_writable_each ts h = types_can h
+
+module _ (a b : References) (g : Grows a b) where
+  pub name_can : (name : TypeName) → CanBeNamed a name → CanBeNamed b name
+  name_can = wide_name a b (widened a b g)
+
   pub still_writable : (t : SigType) → IsWritable a t → IsWritable b t
-  still_writable t h = type_can h
+  still_writable = wide_writable a b (widened a b g)
 
   pub still_writable_owner : (o : Owner) → IsOwnerWritable a o → IsOwnerWritable b o
-  still_writable_owner o h = owner_can h
+  still_writable_owner = wide_writable_owner a b (widened a b g)
 
   pub still_writable_each : (ts : List SigType) → AreWritable a ts → AreWritable b ts
-  still_writable_each ts h = types_can h
+  still_writable_each = wide_writable_each a b (widened a b g)
 
 -- ---- the parts
 

@@ -108,12 +108,32 @@ pub record AreKnown (r : References) : Type 0 where
 
 -- ---- from one state to a later one
 
--- contents, rows and tokens that there are stay, and more may have come
+-- contents, rows and tokens that there are stay, and more may have come; nothing more is declared
 pub record Grows (old new : References) : Type 0 where
   pub strings : KeepsTexts old.heaps.strings new.heaps.strings
   pub blobs : KeepsBlobs old.heaps.blobs new.heaps.blobs
   pub user : KeepsUnits old.heaps.user new.heaps.user
   pub declared : new.declared ≡ old.declared
+  pub names : GoesOn old.referred.names new.referred.names
+  pub specs : GoesOn old.referred.specs new.referred.specs
+  pub members : GoesOn old.referred.members new.referred.members
+  pub instances : GoesOn old.referred.instances new.referred.instances
+  pub locals : GoesOn old.referred.locals new.referred.locals
+  pub known_names : Learns old.known.names new.known.names
+  pub known_specs : Learns old.known.specs new.known.specs
+  pub known_methods : Learns old.known.methods new.known.methods
+  pub known_fields : Learns old.known.fields new.known.fields
+  pub known_locals : Learns old.known.locals new.known.locals
+  pub known_texts : Learns old.known.texts new.known.texts
+
+-- the same, where more fields and methods of the declared types may have been declared
+pub record Widens (old new : References) : Type 0 where
+  pub strings : KeepsTexts old.heaps.strings new.heaps.strings
+  pub blobs : KeepsBlobs old.heaps.blobs new.heaps.blobs
+  pub user : KeepsUnits old.heaps.user new.heaps.user
+  pub types : new.declared.types ≡ old.declared.types
+  pub fields : GoesOn old.declared.fields new.declared.fields
+  pub methods : GoesOn old.declared.methods new.declared.methods
   pub names : GoesOn old.referred.names new.referred.names
   pub specs : GoesOn old.referred.specs new.referred.specs
   pub members : GoesOn old.referred.members new.referred.members

@@ -11,6 +11,7 @@ ghost use Rattle.image_writer.specs.Writable.{IsOwnerWritable, IsFieldRefWritabl
 
 use crate::noting::refer_owner;
 use crate::references::References;
+use crate::row_list::RowList;
 use crate::row_set::{Cells, RowSet};
 use crate::signatures::field_signature;
 use crate::texts::add_text;
@@ -31,7 +32,7 @@ pub(crate) fn refer_text<'a>(refs: &mut References<'a>, text: &Text) -> Result<u
 }
 
 /// The row that a declared type has for a member.
-fn declared_row_of(declared: &RowSet, owner: u32, name: u32, signature: u32) -> Option<u32>
+fn declared_row_of(declared: &RowList, owner: u32, name: u32, signature: u32) -> Option<u32>
     ensures found { IfSome result (IsDeclaredRow declared.now owner name signature) }
     ensures few { IfSome result (λ row. row < 2 ^ 24) }
 {
@@ -67,7 +68,7 @@ fn referred_row_of(
 
 /// The token of a member by the rows; a row of MemberRef that is lacking is added.
 pub(crate) fn member_token(
-    declared: &RowSet,
+    declared: &RowList,
     members: &mut RowSet,
     table: u8,
     owner: u32,

@@ -2,6 +2,7 @@
 //! names.
 use crate::heap_contents::Heaps;
 use crate::known::Known;
+use crate::row_list::RowList;
 use crate::row_set::RowSet;
 use std::alloc::Global;
 
@@ -10,8 +11,8 @@ use std::alloc::Global;
 #[derive(Drop)]
 pub(crate) struct Declared {
     pub(crate) types: RowSet,
-    pub(crate) fields: RowSet,
-    pub(crate) methods: RowSet,
+    pub(crate) fields: RowList,
+    pub(crate) methods: RowList,
 }
 
 /// The rows of the tables of references: TypeRef, TypeSpec, MemberRef, MethodSpec and StandAloneSig.

@@ -1,6 +1,7 @@
 //! The texts that instructions load, as user strings and their tokens (ECMA-335 II.24.2.4, III.1.9,
 //! III.4.16).
-ghost use Rattle.std.specs.Prelude.{◌≡◌, ℕ, ◌+◌, ◌*◌, ◌^◌, ◌<◌, ◌≤◌, length, IfOk};
+ghost use Rattle.std.specs.Prelude.{◌≡◌, ℕ, ◌+◌, ◌*◌, ◌^◌, ◌<◌, ◌≤◌, [], ◌∷◌, length, IfOk, OnOk};
+ghost use Rattle.image_writer.specs.Loaded.{AreUnits, Loads};
 ghost use Rattle.image_writer.specs.Members.{Leaves, HasLoaded};
 ghost use Rattle.image_writer.specs.References.{size, AreKnown};
 ghost use Rattle.image_writer.specs.Units.{bytes_of_units, HoldsUnits, KeepsUnits, IsLoadable};
@@ -8,21 +9,29 @@ ghost use Rattle.image_writer.specs.Units.{bytes_of_units, HoldsUnits, KeepsUnit
 use crate::heap_contents::bytes_of_units;
 use crate::references::References;
 use crate::tokens::{USER_STRING, token_of};
-use heaps::UserHeap;
+use heaps::{UserHeap, one_content_at_an_index};
 use il_base::{NoMemory, Units};
 use std::alloc::Global;
 
 /// The index of a text, which the heap gets where it lacks it.
 pub(crate) fn add_units(alloc: Global, user: &mut UserHeap, units: &Units) -> Result<u32, NoMemory>
     requires { length user.old.bytes + 2 * length units.now + 8 < 2 ^ 29 }
+    ensures loads { OnOk result (Loads user.old user.new (units.now ∷ [])) }
     ensures holds { IfOk result (HoldsUnits user.new (bytes_of_units units.now)) }
     ensures same { (index : ℕ) → HoldsUnits user.old (bytes_of_units units.now) index → user.new ≡ user.old }
     ensures known { IfOk result (λ found. (index : ℕ) → HoldsUnits user.old (bytes_of_units units.now) index → found ≡ index) }
     ensures keeps { KeepsUnits user.old user.new }
 {
+    one_content_at_an_index();
+    units_fit(units.as_slice());
     let bytes = bytes_of_units(alloc, units)?;
     user.add(bytes.as_slice())
 }
+
+/// Units are below 2^16. It does nothing when it is called.
+fn units_fit(_units: &[u16])
+    ensures { AreUnits _units.now }
+{}
 
 /// The token of a text that stands in the heap, which is given to it where it has none.
 pub(crate) fn refer_loaded<'a>(
