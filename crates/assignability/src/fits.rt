@@ -4,23 +4,23 @@ ghost use Rattle.sig_pool.specs.Pool.{Extends};
 ghost use Rattle.sig_pool.specs.Terms.{term_of};
 ghost use Rattle.assignability.specs.Arrays.{IsObjectOrUp, IsPairOf};
 ghost use Rattle.assignability.specs.Answers.{Answers, is_bad};
-ghost use Rattle.assignability.specs.Meaning.{meant, IsWithin};
-ghost use Rattle.assignability.specs.Relations.{Assignable};
-ghost use Rattle.assignability.specs.Stack.{ref, boxed};
-ghost use Rattle.assignability.specs.Tables.{hierarchy_in};
-ghost use Rattle.assignability.specs.World.{KnowsParents};
+ghost use Rattle.type_world.specs.Meaning.{meant, IsWithin};
+ghost use Rattle.type_world.specs.Relations.{Assignable};
+ghost use Rattle.type_world.specs.Stack.{ref, boxed};
+ghost use Rattle.type_world.specs.Tables.{hierarchy_in};
+ghost use Rattle.type_world.specs.World.{KnowsParents};
 
 use crate::above::{add_steps, is_above, is_above_some};
 use crate::arrays::{Pair, alike, is_reduced_alike};
 use crate::joining::{is_equal, is_null};
-use crate::kept::Parents;
 use crate::queue::Queue;
 use crate::stack::is_object;
-use crate::stack_type::StackType;
-use crate::tables::Tables;
 use il_lists::NoMemory;
 use sig_pool::{SigId, SigPool};
 use std::alloc::Global;
+use type_world::kept::Parents;
+use type_world::stack_type::StackType;
+use type_world::tables::Tables;
 
 /// Whether the type of `b` is Object or above that of `a`.
 fn is_object_or_above(

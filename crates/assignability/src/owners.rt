@@ -3,20 +3,16 @@ ghost use Rattle.std.specs.Prelude.{◌≡◌, ◌<◌, length, IfOk};
 ghost use Rattle.type_terms.specs.declared.term.SigType.TheVariants as type;
 ghost use Rattle.sig_pool.specs.Pool.{Extends, Has, HasAll};
 ghost use Rattle.sig_pool.specs.Terms.{term_of};
-ghost use Rattle.assignability.specs.Hierarchy.{core_name};
+ghost use Rattle.type_world.specs.Hierarchy.{core_name};
 ghost use Rattle.assignability.specs.Keys.{reading_of};
-ghost use Rattle.assignability.specs.Normal.{normal, normal_owner};
+ghost use Rattle.type_world.specs.Normal.{normal, normal_owner};
 ghost use Rattle.assignability.specs.Parts.{type_arguments};
-ghost use Rattle.assignability.specs.Stack.{is_reference};
-ghost use Rattle.assignability.specs.Tables.{hierarchy_in};
-ghost use Rattle.assignability.specs.World.{hierarchy, type_at, Stays};
+ghost use Rattle.type_world.specs.Stack.{is_reference};
+ghost use Rattle.type_world.specs.Tables.{hierarchy_in};
+ghost use Rattle.type_world.specs.World.{hierarchy, type_at, Stays};
 
-use crate::core_types::intern;
 use crate::keys::keys_at;
-use crate::normal::normalised_owner;
 use crate::stack::is_reference;
-use crate::stack_type::{TypeKey, TypeKeys};
-use crate::tables::Tables;
 use crate::terms::term_at;
 use crate::types::World;
 use crate::written::normal_id;
@@ -24,6 +20,10 @@ use il_lists::{Boxed, Items, NoMemory};
 use sig_pool::{Node, SigId, SigPool};
 use std::alloc::Global;
 use type_terms::{Owner, Path, Prim, SigType, TypeName};
+use type_world::core_types::intern;
+use type_world::normal::normalised_owner;
+use type_world::stack_type::{TypeKey, TypeKeys};
+use type_world::tables::Tables;
 
 /// The key of a type of the image, normalised.
 ///
@@ -48,7 +48,7 @@ pub fn owner_key(w: &mut World, owner: &Owner) -> Result<TypeKey, NoMemory>
 }
 
 /// The id of what an owner of the image names, normalised.
-#[tactic(auto, unfolding(crate::specs::Tables::hierarchy_in))]
+#[tactic(auto, unfolding(type_world::specs::Tables::hierarchy_in))]
 fn owner_id(
     alloc: Global,
     tables: &Tables,
@@ -123,7 +123,7 @@ fn vector_id(alloc: Global, pool: &mut SigPool, id: SigId) -> Result<SigId, NoMe
 /// The key of the value type of the core with that path.
 ///
 /// NoMemory where there is no memory.
-#[tactic(auto, unfolding(crate::specs::Tables::hierarchy_in))]
+#[tactic(auto, unfolding(type_world::specs::Tables::hierarchy_in))]
 pub fn core_value(w: &mut World, path: Path) -> Result<TypeKey, NoMemory>
     ensures ok { IfOk result (λ k. Has w.new.nodes k (type.Value (core_name (hierarchy w.old) path))) }
     ensures stays { Stays w.old w.new }

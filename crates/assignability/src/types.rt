@@ -1,12 +1,12 @@
 //! The types that have the names of calls.
 ghost use Rattle.std.specs.Prelude.{◌≡◌, [], length};
 
-use crate::kept::Parents;
-use crate::tables::Tables;
 use il_lists::Items;
 use sig_pool::SigPool;
 use std::alloc::Global;
 use std::marker::Model;
+use type_world::kept::Parents;
+use type_world::tables::Tables;
 
 /// What an image and its references say of types, with the pool that keeps the types (ECMA-335 I.8.7).
 /// Contracts see the nodes of the pool and the tables.
@@ -21,7 +21,7 @@ pub struct World {
 impl Model for World {
     ghost use Rattle.std.specs.Coded.{codes};
     ghost use Rattle.type_terms.specs.contracts.term.SigType as sig_type;
-    ghost use Rattle.assignability.specs.World.{Content, IsReady};
+    ghost use Rattle.type_world.specs.World.{Content, IsReady};
 
     ghost Value = { Content };
 

@@ -6,24 +6,24 @@ use Rattle.std.proofs.lemmas.Option.{slice_get-map}
 use Rattle.type_terms.specs.declared.term.SigType.{SigType}
 use Rattle.sig_pool.specs.declared.node.Node.{Node}
 use Rattle.sig_pool.specs.Terms.{term_of}
-use Rattle.assignability.specs.declared.stack_type.StackType.{StackType}
-use Rattle.assignability.specs.Hierarchy.{Hierarchy}
-use Rattle.assignability.specs.Meaning.{meant, IsWithin}
-use Rattle.assignability.specs.Pooled.{HasOption}
-use Rattle.assignability.specs.Stack.{Stack, bad, ref}
-use Rattle.assignability.specs.Tables.{hierarchy_in}
-use Rattle.assignability.specs.World.{Content, hierarchy, Stays}
+use Rattle.type_world.specs.declared.stack_type.StackType.{StackType}
+use Rattle.type_world.specs.Hierarchy.{Hierarchy}
+use Rattle.type_world.specs.Meaning.{meant, IsWithin}
+use Rattle.type_world.specs.Pooled.{HasOption}
+use Rattle.type_world.specs.Stack.{Stack, bad, ref}
+use Rattle.type_world.specs.Tables.{hierarchy_in}
+use Rattle.type_world.specs.World.{Content, hierarchy, Stays}
 use Rattle.body_verifier.specs.Asking.{IsWrongAt, IsUnassignableAt, HasUnassignable, IsUnstored, FailsToFit, IsMismatched}
-use Rattle.body_verifier.specs.declared.row.Demand.{Demand}
-use Rattle.body_verifier.specs.declared.row.Pairing.{Pairing}
-use Rattle.body_verifier.specs.declared.row.Row.{Row}
-use Rattle.body_verifier.specs.declared.row.Together.TheVariants.{Paired, Stored}
-use Rattle.body_verifier.specs.Demands as demands
-use Rattle.body_verifier.specs.Demands.{comparable, Meets, HasWrongKind, FailsToAssign, IsUnassignable, NotStored, FailToStore, AreMismatched, IsMismatch, go_together, referent}
-use Rattle.body_verifier.specs.Effects.{operands_of, taken}
-use Rattle.body_verifier.specs.Rows as rows
-use Rattle.body_verifier.specs.RowMeanings.{stack_meant, IsStackWithin, comparable_test, demand_meant, together_meant, pairing_meant, row_meant, IsRowWithin}
-use Rattle.body_verifier.proofs.Growing.{row_same, stack_same}
+use Rattle.stack_rows.specs.declared.row.Demand.{Demand}
+use Rattle.stack_rows.specs.declared.row.Pairing.{Pairing}
+use Rattle.stack_rows.specs.declared.row.Row.{Row}
+use Rattle.stack_rows.specs.declared.row.Together.TheVariants.{Paired, Stored}
+use Rattle.code_flow.specs.Demands as demands
+use Rattle.code_flow.specs.Demands.{comparable, Meets, HasWrongKind, FailsToAssign, IsUnassignable, NotStored, FailToStore, AreMismatched, IsMismatch, go_together, referent}
+use Rattle.code_flow.specs.Effects.{operands_of, taken}
+use Rattle.code_flow.specs.Rows as rows
+use Rattle.stack_rows.specs.RowMeanings.{stack_meant, IsStackWithin, comparable_test, demand_meant, together_meant, pairing_meant, row_meant, IsRowWithin}
+use Rattle.stack_rows.proofs.Growing.{row_same, stack_same}
 
 -- ---- one operand
 

@@ -5,16 +5,16 @@ use Rattle.std.proofs.lemmas.Bool.{cases_lt, cases_eq}
 use Rattle.assembly_tree.specs.declared.assembly.Assembly.{Assembly}
 use Rattle.assembly_tree.specs.declared.body.Body.{Body}
 use Rattle.assembly_tree.specs.declared.typedef.MethodPath.{MethodPath}
-use Rattle.assignability.specs.Hierarchy.{Hierarchy}
+use Rattle.type_world.specs.Hierarchy.{Hierarchy}
 use Rattle.body_verifier.specs.declared.report.Broken.{Broken}
 use Rattle.body_verifier.specs.declared.report.Failure.{Failure}
 use Rattle.body_verifier.specs.Checking.{HasBody}
-use Rattle.body_verifier.specs.Frames.{Frame, frame}
-use Rattle.body_verifier.specs.Laws.{HasOneLeast, BreaksNothing}
-use Rattle.body_verifier.specs.Methods.{Declared, method_at}
+use Rattle.code_flow.specs.Frames.{Frame, frame}
+use Rattle.code_flow.specs.Laws.{HasOneLeast, BreaksNothing}
+use Rattle.code_flow.specs.Methods.{Declared, method_at}
 use Rattle.body_verifier.specs.Reports.{Lists, none_more, next, Fails, unnested, uninitialised, explicit, typed, is_uninitialised, Reports, reported}
-use Rattle.body_verifier.specs.Rules.{Breaks, BreaksFirst, v1, v2, v3_before, v3_after, v4, v5, v5_stored, v6, v7, v8, v9, v10, v11_deep, v11_inside, v12, v13, v14, v15_leave, v15_rethrow, v15_end_finally, v15_end_filter, v15_deep, v17, v18, v18_explicit, v19}
-use Rattle.body_verifier.specs.Typings.{Typing, unreached, stack, clash, IsLeast}
+use Rattle.code_flow.specs.Rules.{Breaks, BreaksFirst, v1, v2, v3_before, v3_after, v4, v5, v5_stored, v6, v7, v8, v9, v10, v11_deep, v11_inside, v12, v13, v14, v15_leave, v15_rethrow, v15_end_finally, v15_end_filter, v15_deep, v17, v18, v18_explicit, v19}
+use Rattle.code_flow.specs.Typings.{Typing, unreached, stack, clash, IsLeast}
 
 -- ---- one instruction after the other
 

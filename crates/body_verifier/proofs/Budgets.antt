@@ -2,11 +2,11 @@
 use Rattle.std.proofs.Common.{◌≡◌, ◌≢◌, refl, sym, ◌∙◌, ap, subst, ℕ, ◌+◌, ◌*◌, ◌<◌, ◌≤◌, arith, List, length}
 use Rattle.std.specs.List.{sum_by}
 use Rattle.type_terms.specs.declared.term.SigType.{SigType}
-use Rattle.assignability.specs.Hierarchy.{Hierarchy}
-use Rattle.assignability.specs.Laws.{IsGrounded}
+use Rattle.type_world.specs.Hierarchy.{Hierarchy}
+use Rattle.type_world.specs.Laws.{IsGrounded}
 use Rattle.body_verifier.specs.Meetings.{IsNewMeeting}
 use Rattle.body_verifier.specs.Potential.{IsLow, changes, total, potential}
-use Rattle.body_verifier.specs.Typings.{State, Typing}
+use Rattle.code_flow.specs.Typings.{State, Typing}
 use Rattle.body_verifier.specs.Waiting.{Waiting, pushed}
 use Rattle.body_verifier.specs.Ways.{Setup, IsSetUp, HasNoMore, HasLessAt}
 use Rattle.body_verifier.proofs.Following.{IsChanged}

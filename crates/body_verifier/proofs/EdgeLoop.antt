@@ -8,25 +8,25 @@ use Rattle.std.proofs.lemmas.List.{get_or-set_same, get_or-set_other, length-set
 use Rattle.std.proofs.lemmas.List.Elements.{All-get_or, All-set}
 use Rattle.std.proofs.lemmas.List.Sums.{sum_by-append}
 use Rattle.sig_pool.specs.declared.node.Node.{Node}
-use Rattle.assignability.specs.Hierarchy.{Hierarchy}
-use Rattle.assignability.specs.Laws.{IsOrder}
-use Rattle.assignability.specs.Meaning.{meant}
-use Rattle.assignability.specs.Stack as stack
+use Rattle.type_world.specs.Hierarchy.{Hierarchy}
+use Rattle.type_world.specs.Laws.{IsOrder}
+use Rattle.type_world.specs.Meaning.{meant}
+use Rattle.type_world.specs.Stack as stack
 use Rattle.assignability.specs.Staying.{KeepsKeys}
-use Rattle.assignability.specs.Tables.{hierarchy_in}
-use Rattle.assignability.specs.World.{Content, hierarchy, Stays}
-use Rattle.body_verifier.specs.declared.goings.Carried.{Carried}
-use Rattle.body_verifier.specs.declared.goings.Carried.TheVariants.{Flowing, Nothing, Object, Caught}
-use Rattle.body_verifier.specs.declared.goings.Going.{Going}
+use Rattle.type_world.specs.Tables.{hierarchy_in}
+use Rattle.type_world.specs.World.{Content, hierarchy, Stays}
+use Rattle.code_flow.specs.declared.goings.Carried.{Carried}
+use Rattle.code_flow.specs.declared.goings.Carried.TheVariants.{Flowing, Nothing, Object, Caught}
+use Rattle.code_flow.specs.declared.goings.Going.{Going}
 use Rattle.body_verifier.specs.declared.state.State.{State}
 use Rattle.body_verifier.specs.declared.state.State.TheVariants.{Unreached, Stack, Clash}
 use Rattle.body_verifier.specs.declared.stated.Stated.{Stated}
-use Rattle.body_verifier.specs.Edges as edges
-use Rattle.body_verifier.specs.Frames.{Frame}
+use Rattle.code_flow.specs.Edges as edges
+use Rattle.code_flow.specs.Frames.{Frame}
 use Rattle.body_verifier.specs.Meetings.{IsMeeting, IsNewMeeting}
 use Rattle.body_verifier.specs.Potential.{IsLow, reached}
 use Rattle.body_verifier.specs.StateMeanings.{state_meant, state_or_none, state_depth, depth_or_none, IsStateWithin, typing_of}
-use Rattle.body_verifier.specs.Typings as typings
+use Rattle.code_flow.specs.Typings as typings
 use Rattle.body_verifier.specs.Waiting.{Waiting, has, pushed}
 use Rattle.body_verifier.specs.Ways.{Setup, IsSetUp, IsShallow, HasNoMore, brought, AreStated, Says, AreWays, charge_of, charge, Raises, stays, rises, IsDepth, HasLessAt, depth_charge, depth_charges}
 use Rattle.body_verifier.proofs.Budgets.{changed_budget, no_more_then, changed_less, less_then}

@@ -8,27 +8,27 @@ use Rattle.std.proofs.lemmas.List.{append-nil, get_or_past}
 use Rattle.std.proofs.lemmas.List.Elements.{All-get_or}
 use Rattle.assembly_tree.specs.declared.body.Ins.{Ins}
 use Rattle.sig_pool.specs.declared.node.Node.{Node}
-use Rattle.assignability.specs.Hierarchy.{Hierarchy}
-use Rattle.assignability.specs.Laws.{IsOrder}
-use Rattle.assignability.specs.Stack as stack
+use Rattle.type_world.specs.Hierarchy.{Hierarchy}
+use Rattle.type_world.specs.Laws.{IsOrder}
+use Rattle.type_world.specs.Stack as stack
 use Rattle.assignability.specs.Staying.{KeepsKeys}
-use Rattle.assignability.specs.Tables.{hierarchy_in}
-use Rattle.assignability.specs.World.{Content, hierarchy, Stays}
-use Rattle.body_verifier.specs.declared.goings.Carried.{Carried}
-use Rattle.body_verifier.specs.declared.goings.Carried.TheVariants.{Flowing, Nothing, Object, Caught}
-use Rattle.body_verifier.specs.declared.goings.Going.{Going}
-use Rattle.body_verifier.specs.declared.row.Row.{Row}
+use Rattle.type_world.specs.Tables.{hierarchy_in}
+use Rattle.type_world.specs.World.{Content, hierarchy, Stays}
+use Rattle.code_flow.specs.declared.goings.Carried.{Carried}
+use Rattle.code_flow.specs.declared.goings.Carried.TheVariants.{Flowing, Nothing, Object, Caught}
+use Rattle.code_flow.specs.declared.goings.Going.{Going}
+use Rattle.stack_rows.specs.declared.row.Row.{Row}
 use Rattle.body_verifier.specs.declared.state.State.{State}
 use Rattle.body_verifier.specs.declared.state.State.TheVariants.{Unreached, Stack, Clash}
 use Rattle.body_verifier.specs.declared.stated.Stated.{Stated}
-use Rattle.body_verifier.specs.Edges as edges
-use Rattle.body_verifier.specs.Effects.{effect}
-use Rattle.body_verifier.specs.Frames.{Frame}
+use Rattle.code_flow.specs.Edges as edges
+use Rattle.code_flow.specs.Effects.{effect}
+use Rattle.code_flow.specs.Frames.{Frame}
 use Rattle.body_verifier.specs.Potential.{IsLow, reached, one_if_reached, total}
-use Rattle.body_verifier.specs.RowMeanings.{row_meant}
-use Rattle.body_verifier.specs.Rows as rows
+use Rattle.stack_rows.specs.RowMeanings.{row_meant}
+use Rattle.code_flow.specs.Rows as rows
 use Rattle.body_verifier.specs.StateMeanings.{state_meant, state_or_none, is_unreached, IsStateWithin, typing_of}
-use Rattle.body_verifier.specs.Typings as typings
+use Rattle.code_flow.specs.Typings as typings
 use Rattle.body_verifier.specs.Waiting.{Waiting}
 use Rattle.body_verifier.specs.Ways.{Setup, IsSetUp, IsOnTheWay, IsShallow, IsUnderWay, HasNoMore, flows, AreStated, Says, AreWays, charge, HasLessAt}
 use Rattle.body_verifier.proofs.EdgeLoop.{IsSetOff, IsFollowing, going_at, target_of, value_of, says_what}

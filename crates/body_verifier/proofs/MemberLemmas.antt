@@ -7,19 +7,19 @@ use Rattle.type_terms.specs.declared.term.SigType.{SigType}
 use Rattle.assembly_tree.specs.declared.body.Ins.{Ins}
 use Rattle.sig_pool.specs.declared.node.Node.{Node}
 use Rattle.sig_pool.specs.Terms.{term_of}
-use Rattle.body_verifier.specs.declared.frame.CodeFrame.{CodeFrame}
-use Rattle.body_verifier.specs.declared.operation.Operation.{Operation}
-use Rattle.body_verifier.specs.declared.operation.Operation.TheVariants as does
-use Rattle.body_verifier.specs.Frames.{Frame}
+use Rattle.stack_rows.specs.declared.frame.CodeFrame.{CodeFrame}
+use Rattle.code_flow.specs.declared.operation.Operation.{Operation}
+use Rattle.code_flow.specs.declared.operation.Operation.TheVariants as does
+use Rattle.code_flow.specs.Frames.{Frame}
 use Rattle.body_verifier.specs.Judging.{Misfits, PointsToReference}
 use Rattle.body_verifier.specs.MemberTests.{HasOther, is_reference_there, addresses_reference}
 use Rattle.assignability.specs.Fields.{fields_of}
-use Rattle.body_verifier.specs.Methods.{is_static, written_name}
-use Rattle.body_verifier.specs.Operations.{operation}
-use Rattle.body_verifier.specs.RowMeanings.{type_option, MeansFrame}
-use Rattle.body_verifier.specs.Rows.{variable, argument, local}
-use Rattle.body_verifier.specs.Rules.{wants_static, MisfitsField, MisfitsMember, is_by_reference, addressed}
-use Rattle.body_verifier.proofs.PairLemmas.{one_item}
+use Rattle.code_flow.specs.Methods.{is_static, written_name}
+use Rattle.code_flow.specs.Operations.{operation}
+use Rattle.stack_rows.specs.RowMeanings.{type_option, MeansFrame}
+use Rattle.code_flow.specs.Rows.{variable, argument, local}
+use Rattle.code_flow.specs.Rules.{wants_static, MisfitsField, MisfitsMember, is_by_reference, addressed}
+use Rattle.code_flow.proofs.PairLemmas.{one_item}
 
 -- ---- fields
 

@@ -1,13 +1,13 @@
 -- Typings are ordered, so two least ones are the same.
 use Rattle.std.proofs.Common.{◌≡◌, List, [], ◌∷◌, refl, ap}
-use Rattle.assignability.specs.Hierarchy.{Hierarchy}
-use Rattle.assignability.specs.Stack.{Stack}
-use Rattle.assignability.specs.Relations.{Below}
-use Rattle.assignability.specs.Laws.{IsOrder}
-use Rattle.body_verifier.specs.Stacks.{Each}
-use Rattle.body_verifier.specs.Frames.{Frame}
-use Rattle.body_verifier.specs.Typings.{State, unreached, stack, clash, AtMost, stacks}
-use Rattle.body_verifier.specs.Laws.{HasOneLeast}
+use Rattle.type_world.specs.Hierarchy.{Hierarchy}
+use Rattle.type_world.specs.Stack.{Stack}
+use Rattle.type_world.specs.Relations.{Below}
+use Rattle.type_world.specs.Laws.{IsOrder}
+use Rattle.code_flow.specs.Stacks.{Each}
+use Rattle.code_flow.specs.Frames.{Frame}
+use Rattle.code_flow.specs.Typings.{State, unreached, stack, clash, AtMost, stacks}
+use Rattle.code_flow.specs.Laws.{HasOneLeast}
 
 module _ (w : Hierarchy) (o : IsOrder w) where
   each_once : (ss ts : List Stack) → Each (Below w) ss ts → Each (Below w) ts ss → ss ≡ ts

@@ -5,24 +5,24 @@ use Rattle.std.specs.Prelude.{slice_get, is_some, if◌then◌else◌}
 use Rattle.std.proofs.lemmas.Bool.{cases_lt}
 use Rattle.type_terms.specs.declared.term.SigType.{SigType}
 use Rattle.assembly_tree.specs.declared.body.Ins.{Ins}
-use Rattle.assignability.specs.Hierarchy.{Hierarchy, Up, itself, to_parent, Chain, alone, further}
-use Rattle.assignability.specs.Stack.{Stack, null, ref, boxed, bad}
-use Rattle.assignability.specs.Relations.{Assignable, same, null_ref, null_boxed, ref_up, boxed_parent, Below, equal, below_bad, null_below_ref, null_below_boxed, ref_chain, boxed_chain}
-use Rattle.assignability.specs.Laws.{IsGrounded, IsTransitive}
-use Rattle.body_verifier.specs.Demands.{Demand, nothing, any, number, integer, index, object, condition, comparable, exactly, one_of, to, object_pointer, vector, vector_of, object_vector, Together, stored, referent, first, second, go_together, Meets, MeetTogether, StoredIn, HasWrongKind, FailsToAssign, AreMismatched, FailToStore, NotStored}
-use Rattle.body_verifier.specs.Frames.{Frame}
-use Rattle.body_verifier.specs.Rows.{Row, row_of}
-use Rattle.body_verifier.specs.Stacks.{Each}
-use Rattle.body_verifier.specs.Effects.{taken, results, below_operands, effect}
-use Rattle.body_verifier.specs.Edges.{Carries, flowing, stated, Edge, fall, branch, leave, leave_finally, next_finally, finally_left, catches, filters, filtered, finally, fault}
-use Rattle.body_verifier.specs.Typings.{State, unreached, stack, clash, Typing, AtMost, stacks, carried, stack_after, IsSolution}
-use Rattle.body_verifier.specs.Rules.{Breaks, v1, v2, v4, v5, v5_stored, v6, v7}
-use Rattle.body_verifier.specs.Paths.{Point, AreMet, IsWrong, past, too_few, unmet, StandsFor, for_bad, assigned as stands, Becomes, Steps, Reaches, start, step, NeverWrong}
-use Rattle.body_verifier.specs.Laws.{Under, assigned, under_bad, AreMonotone, IsFormed, BreaksNothing}
+use Rattle.type_world.specs.Hierarchy.{Hierarchy, Up, itself, to_parent, Chain, alone, further}
+use Rattle.type_world.specs.Stack.{Stack, null, ref, boxed, bad}
+use Rattle.type_world.specs.Relations.{Assignable, same, null_ref, null_boxed, ref_up, boxed_parent, Below, equal, below_bad, null_below_ref, null_below_boxed, ref_chain, boxed_chain}
+use Rattle.type_world.specs.Laws.{IsGrounded, IsTransitive}
+use Rattle.code_flow.specs.Demands.{Demand, nothing, any, number, integer, index, object, condition, comparable, exactly, one_of, to, object_pointer, vector, vector_of, object_vector, Together, stored, referent, first, second, go_together, Meets, MeetTogether, StoredIn, HasWrongKind, FailsToAssign, AreMismatched, FailToStore, NotStored}
+use Rattle.code_flow.specs.Frames.{Frame}
+use Rattle.code_flow.specs.Rows.{Row, row_of}
+use Rattle.code_flow.specs.Stacks.{Each}
+use Rattle.code_flow.specs.Effects.{taken, results, below_operands, effect}
+use Rattle.code_flow.specs.Edges.{Carries, flowing, stated, Edge, fall, branch, leave, leave_finally, next_finally, finally_left, catches, filters, filtered, finally, fault}
+use Rattle.code_flow.specs.Typings.{State, unreached, stack, clash, Typing, AtMost, stacks, carried, stack_after, IsSolution}
+use Rattle.code_flow.specs.Rules.{Breaks, v1, v2, v4, v5, v5_stored, v6, v7}
+use Rattle.code_flow.specs.Paths.{Point, AreMet, IsWrong, past, too_few, unmet, StandsFor, for_bad, assigned as stands, Becomes, Steps, Reaches, start, step, NeverWrong}
+use Rattle.code_flow.specs.Laws.{Under, assigned, under_bad, AreMonotone, IsFormed, BreaksNothing}
 use Rattle.body_verifier.proofs.Refining.{Refines, under_refines}
 use Rattle.body_verifier.proofs.Monotone.{each_length, each_append, operands_lower, below_lower}
 use Rattle.body_verifier.proofs.Shapes.{Shape, none, pair, store, shape_of}
-use Rattle.body_verifier.proofs.Targets.{target_within, clause_at, clause_in}
+use Rattle.code_flow.proofs.Targets.{target_within, clause_at, clause_in}
 
 -- ---- relations after one another
 

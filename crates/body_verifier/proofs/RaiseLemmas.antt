@@ -2,11 +2,11 @@
 use Rattle.std.proofs.Common.{◌≡◌, ◌≢◌, ◌⊎◌, inl, inr, refl, sym, ◌∙◌, ap, subst, ℕ, ◌<◌, arith, List, length, Some}
 use Rattle.std.specs.Prelude.{slice_get, slice_set}
 use Rattle.sig_pool.specs.declared.node.Node.{Node}
-use Rattle.assignability.specs.Hierarchy.{Hierarchy}
+use Rattle.type_world.specs.Hierarchy.{Hierarchy}
 use Rattle.body_verifier.specs.declared.state.State.{State}
 use Rattle.body_verifier.specs.Meetings.{IsNewMeeting}
 use Rattle.body_verifier.specs.StateMeanings.{state_meant, state_or_none, MeetsAs, IsStateWithin, typing_of}
-use Rattle.body_verifier.specs.Typings as typings
+use Rattle.code_flow.specs.Typings as typings
 use Rattle.body_verifier.specs.Waiting.{Waiting, pushed}
 use Rattle.body_verifier.specs.Ways.{Raises, rises, stays}
 

@@ -6,13 +6,13 @@ use Rattle.type_terms.specs.declared.term.Owner.{Owner}
 use Rattle.type_terms.specs.declared.term.Owner.TheOpen.{SigType-F, Prim, Class, Value, Inst, Var, MVar, SzArray, Array, ByRef, Pointer, Mod, Pinned}
 use Rattle.type_terms.specs.declared.term.SigType.{SigType, out-SigType, roll-SigType, roll-out-SigType}
 use Rattle.type_terms.specs.declared.term.SigType.TheVariants as type
-use Rattle.assignability.specs.Names.{is_integral}
-use Rattle.assignability.specs.Hierarchy.{Hierarchy, underlying, layer_underlying}
-use Rattle.assignability.specs.Laws.{IsGrounded}
-use Rattle.assignability.specs.Stack.{is_reference, layer_is_reference, reduced_type, verification_type, changed, counts_as, or_else, primitive, layer_primitive, signed, verified}
-use Rattle.body_verifier.specs.declared.operation.Numeric.{Numeric}
-use Rattle.body_verifier.specs.declared.operation.Numeric.TheVariants as numeric
-use Rattle.body_verifier.specs.Rows.{primitive_of}
+use Rattle.type_world.specs.Names.{is_integral}
+use Rattle.type_world.specs.Hierarchy.{Hierarchy, underlying, layer_underlying}
+use Rattle.type_world.specs.Laws.{IsGrounded}
+use Rattle.type_world.specs.Stack.{is_reference, layer_is_reference, reduced_type, verification_type, changed, counts_as, or_else, primitive, layer_primitive, signed, verified}
+use Rattle.code_flow.specs.declared.operation.Numeric.{Numeric}
+use Rattle.code_flow.specs.declared.operation.Numeric.TheVariants as numeric
+use Rattle.code_flow.specs.Rows.{primitive_of}
 
 abbrev Layer : Type 0
 Layer = SigType-F Owner SigType

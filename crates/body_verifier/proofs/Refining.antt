@@ -4,15 +4,15 @@ use Rattle.std.specs.List.{Contains}
 use Rattle.type_terms.specs.declared.term.Primitive.TheVariants as prim
 use Rattle.type_terms.specs.declared.term.SigType.{SigType}
 use Rattle.type_terms.specs.declared.term.SigType.TheVariants as type
-use Rattle.assignability.specs.Hierarchy.{Hierarchy, object, parent, interfaces, Up, itself, to_parent, to_interface, Chain, alone, further, Elements, elements, layer_elements}
-use Rattle.assignability.specs.Stack.{Stack, i4, i8, native, float, null, ref, boxed, val, ptr, bad, is_reference, reduced_type, verification_type, verified}
-use Rattle.assignability.specs.Relations.{AreAlike, Assignable, same, null_ref, null_boxed, ref_object, boxed_object, ref_up, boxed_parent, boxed_interface, by_elements, by_reduced, Below, equal, below_bad, null_below_ref, null_below_boxed, ref_chain, boxed_chain}
-use Rattle.assignability.specs.Laws.{IsGrounded, IsTransitive, JoinLaws}
-use Rattle.body_verifier.specs.declared.operation.Numeric.{Numeric}
-use Rattle.body_verifier.specs.Demands.{is_object, element}
+use Rattle.type_world.specs.Hierarchy.{Hierarchy, object, parent, interfaces, Up, itself, to_parent, to_interface, Chain, alone, further, Elements, elements, layer_elements}
+use Rattle.type_world.specs.Stack.{Stack, i4, i8, native, float, null, ref, boxed, val, ptr, bad, is_reference, reduced_type, verification_type, verified}
+use Rattle.type_world.specs.Relations.{AreAlike, Assignable, same, null_ref, null_boxed, ref_object, boxed_object, ref_up, boxed_parent, boxed_interface, by_elements, by_reduced, Below, equal, below_bad, null_below_ref, null_below_boxed, ref_chain, boxed_chain}
+use Rattle.type_world.specs.Laws.{IsGrounded, IsTransitive, JoinLaws}
+use Rattle.code_flow.specs.declared.operation.Numeric.{Numeric}
+use Rattle.code_flow.specs.Demands.{is_object, element}
 use Rattle.assignability.specs.Keys.{vector_elements}
-use Rattle.body_verifier.specs.Rows.{primitive_of}
-use Rattle.body_verifier.specs.Laws.{Under, assigned, under_bad}
+use Rattle.code_flow.specs.Rows.{primitive_of}
+use Rattle.code_flow.specs.Laws.{Under, assigned, under_bad}
 use Rattle.body_verifier.proofs.Reduced.{no_numeric, verified_from_reduced, reduced_back}
 
 -- the kinds of two types, where the first is lower

@@ -11,15 +11,15 @@ use Rattle.type_terms.specs.declared.term.Primitive.TheVariants as prim
 use Rattle.type_terms.specs.declared.term.SigType.{SigType, out-SigType}
 use Rattle.assembly_tree.specs.declared.body.Ins.{Ins}
 use Rattle.assembly_tree.specs.declared.body.Operand as operand
-use Rattle.assignability.specs.Hierarchy.{Hierarchy}
-use Rattle.assignability.specs.Stack.{Stack}
-use Rattle.body_verifier.specs.declared.operation.Operation.{Operation}
-use Rattle.body_verifier.specs.declared.operation.Operation.TheVariants as does
-use Rattle.body_verifier.specs.Frames.{Frame, member_type}
-use Rattle.body_verifier.specs.Operations.{operation}
-use Rattle.body_verifier.specs.Demands.{Demand}
-use Rattle.body_verifier.specs.Effects.{effect, left_with, results, below_operands, taken}
-use Rattle.body_verifier.specs.Rows.{Row, Pushed, given, row_of, row_by, load_row, store_row, argument, local, named_field_row, method_row, call_row, result, layer_result, constraint}
+use Rattle.type_world.specs.Hierarchy.{Hierarchy}
+use Rattle.type_world.specs.Stack.{Stack}
+use Rattle.code_flow.specs.declared.operation.Operation.{Operation}
+use Rattle.code_flow.specs.declared.operation.Operation.TheVariants as does
+use Rattle.code_flow.specs.Frames.{Frame, member_type}
+use Rattle.code_flow.specs.Operations.{operation}
+use Rattle.code_flow.specs.Demands.{Demand}
+use Rattle.code_flow.specs.Effects.{effect, left_with, results, below_operands, taken}
+use Rattle.code_flow.specs.Rows.{Row, Pushed, given, row_of, row_by, load_row, store_row, argument, local, named_field_row, method_row, call_row, result, layer_result, constraint}
 
 abbrev pub IsNarrow : List Demand → List Pushed → Type 0
 IsNarrow ds [] = Unit {0}

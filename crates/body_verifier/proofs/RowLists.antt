@@ -8,20 +8,20 @@ use Rattle.std.proofs.lemmas.Option.{slice_get_read, slice_get_within, get_or_fr
 use Rattle.assembly_tree.specs.declared.body.Ins.{Ins}
 use Rattle.sig_pool.specs.declared.node.Node.{Node}
 use Rattle.sig_pool.specs.Pool.{Extends}
-use Rattle.assignability.specs.Hierarchy.{Hierarchy}
-use Rattle.assignability.specs.Tables.{hierarchy_in}
-use Rattle.assignability.specs.World.{Content, hierarchy, Stays}
-use Rattle.body_verifier.specs.declared.frame.CodeFrame.{CodeFrame}
-use Rattle.body_verifier.specs.declared.operation.Operation.{Operation}
-use Rattle.body_verifier.specs.declared.row.Row.{Row}
-use Rattle.body_verifier.specs.Frames.{Frame}
-use Rattle.body_verifier.specs.Operations.{operation}
-use Rattle.body_verifier.specs.RowMeanings.{framed, type_option, row_meant, IsRowWithin, IsFrameWithin, MeansFrame, MeansRow}
-use Rattle.body_verifier.specs.Rows.{row_by, row_of, constraint, constraint_by, constraint_of}
+use Rattle.type_world.specs.Hierarchy.{Hierarchy}
+use Rattle.type_world.specs.Tables.{hierarchy_in}
+use Rattle.type_world.specs.World.{Content, hierarchy, Stays}
+use Rattle.stack_rows.specs.declared.frame.CodeFrame.{CodeFrame}
+use Rattle.code_flow.specs.declared.operation.Operation.{Operation}
+use Rattle.stack_rows.specs.declared.row.Row.{Row}
+use Rattle.code_flow.specs.Frames.{Frame}
+use Rattle.code_flow.specs.Operations.{operation}
+use Rattle.stack_rows.specs.RowMeanings.{framed, type_option, row_meant, IsRowWithin, IsFrameWithin, MeansFrame, MeansRow}
+use Rattle.code_flow.specs.Rows.{row_by, row_of, constraint, constraint_by, constraint_of}
 use Rattle.body_verifier.specs.Ways.{AreRows}
-use Rattle.body_verifier.proofs.Growing.{extends_long, below_kept, frame_kept, row_within, row_same, row_kept}
-use Rattle.body_verifier.proofs.PairLemmas.{one_item}
-use Rattle.body_verifier.proofs.RowParts.{option_same}
+use Rattle.stack_rows.proofs.Growing.{extends_long, below_kept, frame_kept, row_within, row_same, row_kept}
+use Rattle.code_flow.proofs.PairLemmas.{one_item}
+use Rattle.stack_rows.proofs.RowParts.{option_same}
 
 -- ---- lists
 

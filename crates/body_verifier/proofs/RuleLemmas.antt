@@ -3,18 +3,18 @@ use Rattle.std.proofs.Common.{◌≡◌, inl, inr, sym, ◌∙◌, subst, ℕ, �
 use Rattle.std.specs.Prelude.{slice_get}
 use Rattle.std.proofs.lemmas.Bool.{cases_order}
 use Rattle.assembly_tree.specs.declared.body.Ins.{Ins}
-use Rattle.assignability.specs.Stack.{Stack}
-use Rattle.body_verifier.specs.declared.operation.Operation.{Operation}
-use Rattle.body_verifier.specs.declared.operation.Operation.TheVariants as does
+use Rattle.type_world.specs.Stack.{Stack}
+use Rattle.code_flow.specs.declared.operation.Operation.{Operation}
+use Rattle.code_flow.specs.declared.operation.Operation.TheVariants as does
 use Rattle.body_verifier.specs.Asking.{HasWrongOperand, FailsToFit, IsMismatched}
-use Rattle.body_verifier.specs.CodeRules.{leaves, rethrows, ends_finally, ends_filter, unlisted, explicit}
-use Rattle.body_verifier.specs.Edges.{Does}
-use Rattle.body_verifier.specs.Effects.{effect}
-use Rattle.body_verifier.specs.Frames.{Frame}
+use Rattle.code_flow.specs.CodeRules.{leaves, rethrows, ends_finally, ends_filter, unlisted, explicit}
+use Rattle.code_flow.specs.Edges.{Does}
+use Rattle.code_flow.specs.Effects.{effect}
+use Rattle.code_flow.specs.Frames.{Frame}
 use Rattle.body_verifier.specs.Judging.{HasTooFew, LeavesMore, AreKept}
-use Rattle.body_verifier.specs.Rows.{row_of}
-use Rattle.body_verifier.specs.Rules as rules
-use Rattle.body_verifier.specs.Typings.{unreached, stack, clash, Typing}
+use Rattle.code_flow.specs.Rows.{row_of}
+use Rattle.code_flow.specs.Rules as rules
+use Rattle.code_flow.specs.Typings.{unreached, stack, clash, Typing}
 
 same_stack : (typing : Typing) (k : ℕ) (s t : List Stack) → typing k ≡ stack s → typing k ≡ stack t → t ≡ s
 same_stack typing k s t a b = let e : stack t ≡ stack s = sym b ∙ a in cc

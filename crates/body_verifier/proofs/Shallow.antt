@@ -9,23 +9,23 @@ use Rattle.assembly_tree.specs.declared.body.ClauseKind.{ClauseKind}
 use Rattle.assembly_tree.specs.declared.body.ClauseKind.TheVariants.{Catch, Filter, Finally, Fault}
 use Rattle.assembly_tree.specs.declared.body.Ins.{Ins}
 use Rattle.assembly_tree.specs.WellFormedBodies.{is_forward}
-use Rattle.assignability.specs.Hierarchy.{Hierarchy}
-use Rattle.assignability.specs.Relations.{Below}
-use Rattle.assignability.specs.Stack.{Stack}
-use Rattle.body_verifier.specs.declared.operation.Operation.{Operation}
-use Rattle.body_verifier.specs.declared.operation.Operation.TheVariants as does
-use Rattle.body_verifier.specs.Blocks.{Block, try_block, handler_block, handling_blocks, filter_blocks, blocks_of, blocks, Holds, IsLevel, ClausesNest}
-use Rattle.body_verifier.specs.Edges.{Does, falls, branches, targets, Guards, Carries, flowing, stated, Edge, fall, branch, leave, leave_finally, next_finally, finally_left, catches, filters, filtered, finally, fault}
-use Rattle.body_verifier.specs.Frames.{Frame}
-use Rattle.body_verifier.specs.Laws.{BreaksNothing, IsFormed}
-use Rattle.body_verifier.specs.Operations.{operation}
+use Rattle.type_world.specs.Hierarchy.{Hierarchy}
+use Rattle.type_world.specs.Relations.{Below}
+use Rattle.type_world.specs.Stack.{Stack}
+use Rattle.code_flow.specs.declared.operation.Operation.{Operation}
+use Rattle.code_flow.specs.declared.operation.Operation.TheVariants as does
+use Rattle.code_flow.specs.Blocks.{Block, try_block, handler_block, handling_blocks, filter_blocks, blocks_of, blocks, Holds, IsLevel, ClausesNest}
+use Rattle.code_flow.specs.Edges.{Does, falls, branches, targets, Guards, Carries, flowing, stated, Edge, fall, branch, leave, leave_finally, next_finally, finally_left, catches, filters, filtered, finally, fault}
+use Rattle.code_flow.specs.Frames.{Frame}
+use Rattle.code_flow.specs.Laws.{BreaksNothing, IsFormed}
+use Rattle.code_flow.specs.Operations.{operation}
 use Rattle.body_verifier.specs.Potential.{IsLow}
-use Rattle.body_verifier.specs.Rules.{Breaks, BreaksFirst, v2, v3_before, v12, v13}
-use Rattle.body_verifier.specs.Stacks.{Each}
-use Rattle.body_verifier.specs.Typings.{State, unreached, stack, clash, Typing, AtMost, below_all, above_all, stacks, IsSolution, IsLeast}
+use Rattle.code_flow.specs.Rules.{Breaks, BreaksFirst, v2, v3_before, v12, v13}
+use Rattle.code_flow.specs.Stacks.{Each}
+use Rattle.code_flow.specs.Typings.{State, unreached, stack, clash, Typing, AtMost, below_all, above_all, stacks, IsSolution, IsLeast}
 use Rattle.body_verifier.specs.Ways.{IsUnderAll, IsDepth, FlowsApart}
-use Rattle.body_verifier.proofs.Members.{here, there, in_flat}
-use Rattle.body_verifier.proofs.Nesting.{filled}
+use Rattle.code_flow.proofs.Members.{here, there, in_flat}
+use Rattle.code_flow.proofs.Nesting.{filled}
 use Rattle.body_verifier.proofs.StackLemmas.{each_depth}
 
 module _ (f : Frame) (typing : Typing) (solves : IsSolution f typing) (right : BreaksNothing f typing) where
@@ -103,7 +103,7 @@ module _ (f : Frame) (typing : Typing) (solves : IsSolution f typing) (right : B
     -- a step into a handler or a filter from its try isn't
     from_try : (k t : ℕ) (c : Clause) (b : Block) → Contains f.clauses c → Contains (handling_blocks c) b → b.start ≡ t → Holds (try_block c) k → IsLevel f.clauses k t → ⊥
     from_try k t c b is part starts held level =
-        let fw = Rattle.body_verifier.proofs.Members.from_every (λ x. is_forward x ≡ true) f.clauses (Rattle.body_verifier.proofs.Members.all_to is_forward f.clauses forward) c is in
+        let fw = Rattle.code_flow.proofs.Members.from_every (λ x. is_forward x ≡ true) f.clauses (Rattle.code_flow.proofs.Members.all_to is_forward f.clauses forward) c is in
         let some = filled c fw b (there (try_block c) (handling_blocks c) b part) in
         let guard : Contains (blocks f.clauses) (try_block c) = in_flat blocks_of f.clauses c (try_block c) is (here (try_block c) (handling_blocks c)) in
         let there_too : Holds (try_block c) t = level.stays (try_block c) guard held in
@@ -112,7 +112,7 @@ module _ (f : Frame) (typing : Typing) (solves : IsSolution f typing) (right : B
     filter_part : (c : Clause) (at : ℕ) → c.kind ≡ Filter at → (b : Block) × Contains (handling_blocks c) b × (b.start ≡ at)
     filter_part c at e =
         let F : ClauseKind → Type 0 = λ (x : ClauseKind). (b : Block) × Contains (filter_blocks c.handler_start x) b × (b.start ≡ at) in
-        let r = subst F (sym e) (record { kind = Rattle.body_verifier.specs.Blocks.filter; start = at; end = c.handler_start }, here _ [], refl) in
+        let r = subst F (sym e) (record { kind = Rattle.code_flow.specs.Blocks.filter; start = at; end = c.handler_start }, here _ [], refl) in
         (r.0, there (handler_block c) (filter_blocks c.handler_start c.kind) r.0 r.1, r.2)
 
     guarded_by : (k t : ℕ) (kind : ClauseKind) (c : Clause) → k < length f.code → t < length f.code → (typing k ≡ unreached → ⊥) → Guards f k kind c → t ≡ c.handler_start → GoesOn k t → ⊥

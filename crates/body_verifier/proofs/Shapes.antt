@@ -3,13 +3,13 @@ use Rattle.std.proofs.Common.{◌≡◌, ℕ, [], ◌∷◌, refl, Option, None,
 use Rattle.type_terms.specs.declared.term.SigType.{SigType}
 use Rattle.assembly_tree.specs.declared.body.Ins.{Ins}
 use Rattle.assembly_tree.specs.declared.body.Operand as operand
-use Rattle.assignability.specs.Hierarchy.{Hierarchy}
-use Rattle.body_verifier.specs.declared.operation.Operation.{Operation}
-use Rattle.body_verifier.specs.declared.operation.Operation.TheVariants as does
-use Rattle.body_verifier.specs.Frames.{Frame}
-use Rattle.body_verifier.specs.Operations.{operation}
-use Rattle.body_verifier.specs.Demands.{any, comparable, object_pointer, apart, paired, stored, Pairing}
-use Rattle.body_verifier.specs.Rows.{Row, row_of, row_by, load_row, store_row, argument, local, named_field_row, method_row, constraint}
+use Rattle.type_world.specs.Hierarchy.{Hierarchy}
+use Rattle.code_flow.specs.declared.operation.Operation.{Operation}
+use Rattle.code_flow.specs.declared.operation.Operation.TheVariants as does
+use Rattle.code_flow.specs.Frames.{Frame}
+use Rattle.code_flow.specs.Operations.{operation}
+use Rattle.code_flow.specs.Demands.{any, comparable, object_pointer, apart, paired, stored, Pairing}
+use Rattle.code_flow.specs.Rows.{Row, row_of, row_by, load_row, store_row, argument, local, named_field_row, method_row, constraint}
 
 pub data Shape (r : Row) : Type 0 where
   none : r.together ≡ apart → Shape r

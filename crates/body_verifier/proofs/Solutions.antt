@@ -4,15 +4,15 @@ use Rattle.std.specs.Prelude.{slice_get}
 use Rattle.std.specs.List.{Contains}
 use Rattle.std.proofs.lemmas.Bool.{cases_eq}
 use Rattle.assembly_tree.specs.declared.body.Ins.{Ins}
-use Rattle.assignability.specs.Hierarchy.{Hierarchy}
-use Rattle.assignability.specs.Stack.{Stack}
-use Rattle.assignability.specs.Relations.{Below}
-use Rattle.assignability.specs.Laws.{IsOrder}
-use Rattle.body_verifier.specs.Frames.{Frame}
-use Rattle.body_verifier.specs.Stacks.{Each}
-use Rattle.body_verifier.specs.Edges.{Carries, flowing, stated, Edge}
-use Rattle.body_verifier.specs.Typings.{State, unreached, stack, clash, Typing, AtMost, below_all, above_all, stacks, stack_after, carried, IsSolution, IsAtMost, IsLeast}
-use Rattle.body_verifier.specs.Laws.{IsMonotone, AreMonotone}
+use Rattle.type_world.specs.Hierarchy.{Hierarchy}
+use Rattle.type_world.specs.Stack.{Stack}
+use Rattle.type_world.specs.Relations.{Below}
+use Rattle.type_world.specs.Laws.{IsOrder}
+use Rattle.code_flow.specs.Frames.{Frame}
+use Rattle.code_flow.specs.Stacks.{Each}
+use Rattle.code_flow.specs.Edges.{Carries, flowing, stated, Edge}
+use Rattle.code_flow.specs.Typings.{State, unreached, stack, clash, Typing, AtMost, below_all, above_all, stacks, stack_after, carried, IsSolution, IsAtMost, IsLeast}
+use Rattle.code_flow.specs.Laws.{IsMonotone, AreMonotone}
 use Rattle.body_verifier.specs.Meetings.{IsMeeting}
 
 -- ---- the order of states

@@ -6,16 +6,16 @@ use Rattle.type_terms.specs.declared.term.Owner.TheOpen.{Prim}
 use Rattle.type_terms.specs.declared.term.SigType.{SigType}
 use Rattle.assembly_tree.specs.declared.body.Ins.{Ins}
 use Rattle.assembly_tree.specs.declared.body.Operand as operand
-use Rattle.assignability.specs.Hierarchy.{Hierarchy}
-use Rattle.assignability.specs.Stack.{is_reference, pointer_to, ref, val}
-use Rattle.body_verifier.specs.declared.operation.Numeric.{Numeric}
-use Rattle.body_verifier.specs.declared.operation.Numeric.TheVariants as numeric_type
-use Rattle.body_verifier.specs.declared.operation.Operation.{Operation}
-use Rattle.body_verifier.specs.declared.operation.Operation.TheVariants as does
-use Rattle.body_verifier.specs.Frames.{Frame, owner_in}
-use Rattle.body_verifier.specs.Operations.{operation}
-use Rattle.body_verifier.specs.Demands.{Demand, to, exactly, one_of}
-use Rattle.body_verifier.specs.Rows.{Pushed, always, row_of, row_by, load_row, store_row, argument, local, object_demand, loaded_demand, named_field_row, method_row, call_row, this_demands, parameter_demands, parameter_demand, result, demand_of, numeric_stack, constraint}
+use Rattle.type_world.specs.Hierarchy.{Hierarchy}
+use Rattle.type_world.specs.Stack.{is_reference, pointer_to, ref, val}
+use Rattle.code_flow.specs.declared.operation.Numeric.{Numeric}
+use Rattle.code_flow.specs.declared.operation.Numeric.TheVariants as numeric_type
+use Rattle.code_flow.specs.declared.operation.Operation.{Operation}
+use Rattle.code_flow.specs.declared.operation.Operation.TheVariants as does
+use Rattle.code_flow.specs.Frames.{Frame, owner_in}
+use Rattle.code_flow.specs.Operations.{operation}
+use Rattle.code_flow.specs.Demands.{Demand, to, exactly, one_of}
+use Rattle.code_flow.specs.Rows.{Pushed, always, row_of, row_by, load_row, store_row, argument, local, object_demand, loaded_demand, named_field_row, method_row, call_row, this_demands, parameter_demands, parameter_demand, result, demand_of, numeric_stack, constraint}
 use Rattle.body_verifier.proofs.Monotone.{Sound, is_firm}
 
 abbrev pub AllSound : List Demand → Type 0

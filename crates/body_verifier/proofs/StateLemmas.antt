@@ -1,17 +1,17 @@
 -- What is known where two ways meet.
 use Rattle.std.proofs.Common.{◌≡◌, refl, sym, subst, ℕ, List, [], ◌∷◌}
 use Rattle.sig_pool.specs.declared.node.Node.{Node}
-use Rattle.assignability.specs.declared.stack_type.StackType.{StackType}
-use Rattle.assignability.specs.Hierarchy.{Hierarchy}
-use Rattle.assignability.specs.Relations.{Below, equal}
-use Rattle.assignability.specs.Stack.{Stack}
+use Rattle.type_world.specs.declared.stack_type.StackType.{StackType}
+use Rattle.type_world.specs.Hierarchy.{Hierarchy}
+use Rattle.type_world.specs.Relations.{Below, equal}
+use Rattle.type_world.specs.Stack.{Stack}
 use Rattle.body_verifier.specs.Meetings.{IsMeeting, IsNewMeeting}
 use Rattle.body_verifier.specs.declared.state.State as code
 use Rattle.body_verifier.specs.declared.state.State.TheVariants as states
-use Rattle.body_verifier.specs.RowMeanings.{stack_meant, IsStackWithin}
-use Rattle.body_verifier.specs.Stacks.{Each}
+use Rattle.stack_rows.specs.RowMeanings.{stack_meant, IsStackWithin}
+use Rattle.code_flow.specs.Stacks.{Each}
 use Rattle.body_verifier.specs.StateMeanings.{state_meant, IsStateWithin}
-use Rattle.body_verifier.specs.Typings.{State, unreached, stack, clash, AtMost, below_all, above_all, stacks}
+use Rattle.code_flow.specs.Typings.{State, unreached, stack, clash, AtMost, below_all, above_all, stacks}
 
 each_equal : (w : Hierarchy) (ss : List Stack) → Each (Below w) ss ss
 each_equal w [] = tt

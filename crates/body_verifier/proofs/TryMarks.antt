@@ -4,13 +4,13 @@ use Rattle.std.specs.Prelude.{nat_lt, replicate, slice_index_or}
 use Rattle.std.specs.List.{Contains}
 use Rattle.std.proofs.lemmas.List.{length-replicate}
 use Rattle.assembly_tree.specs.declared.body.Clause.{Clause}
-use Rattle.body_verifier.specs.declared.blocks.Spans.{Spans}
-use Rattle.body_verifier.specs.BlockTests.{spans_of}
+use Rattle.code_flow.specs.declared.blocks.Spans.{Spans}
+use Rattle.code_flow.specs.BlockTests.{spans_of}
 use Rattle.body_verifier.specs.CodeMarks.{HaveTries, marked_tries}
-use Rattle.body_verifier.specs.Frames.{Frame}
-use Rattle.body_verifier.specs.Marks.{set_mark}
-use Rattle.body_verifier.proofs.Marking.{set_length, after_to, was_kept, now_set, blank}
-use Rattle.body_verifier.proofs.Members.{here, there, either, none}
+use Rattle.code_flow.specs.Frames.{Frame}
+use Rattle.code_flow.specs.Marks.{set_mark}
+use Rattle.code_flow.proofs.Marking.{set_length, after_to, was_kept, now_set, blank}
+use Rattle.code_flow.proofs.Members.{here, there, either, none}
 
 tries_length : (m : List Bool) (ss : List Spans) → length (marked_tries m ss) ≡ length m
 tries_length m [] = refl

@@ -3,20 +3,20 @@ use Rattle.std.proofs.Common.{◌≡◌, ◌⊎◌, inl, inr, refl, sym, ◌∙�
 use Rattle.std.specs.Prelude.{slice_get, ◌&&◌, ◌||◌, ◌↔◌}
 use Rattle.std.proofs.lemmas.Bool.{and_parts, or_cases}
 use Rattle.assembly_tree.specs.declared.body.Ins.{Ins}
-use Rattle.assignability.specs.Stack.{Stack}
+use Rattle.type_world.specs.Stack.{Stack}
 use Rattle.body_verifier.specs.declared.judging.StackBreaks.{StackBreaks}
 use Rattle.body_verifier.specs.declared.judging.CodeBreaks.{CodeBreaks}
-use Rattle.body_verifier.specs.declared.operation.Operation.{Operation}
-use Rattle.body_verifier.specs.declared.operation.Operation.TheVariants as does
-use Rattle.body_verifier.specs.CodeRules.{IsMisplaced, leaves, rethrows, ends_finally, ends_filter, IsUnverified, unlisted, explicit}
-use Rattle.body_verifier.specs.Edges.{Does}
-use Rattle.body_verifier.specs.Frames.{Frame}
+use Rattle.code_flow.specs.declared.operation.Operation.{Operation}
+use Rattle.code_flow.specs.declared.operation.Operation.TheVariants as does
+use Rattle.code_flow.specs.CodeRules.{IsMisplaced, leaves, rethrows, ends_finally, ends_filter, IsUnverified, unlisted, explicit}
+use Rattle.code_flow.specs.Edges.{Does}
+use Rattle.code_flow.specs.Frames.{Frame}
 use Rattle.body_verifier.specs.Judging.{LeavesMore, HasUnfitPrefix, AreKept}
-use Rattle.body_verifier.specs.Marks.{IsStray}
-use Rattle.body_verifier.specs.Operations.{operation}
-use Rattle.body_verifier.specs.Rows.{row_of}
-use Rattle.body_verifier.specs.Rules as rules
-use Rattle.body_verifier.specs.Typings.{stack, Typing}
+use Rattle.code_flow.specs.Marks.{IsStray}
+use Rattle.code_flow.specs.Operations.{operation}
+use Rattle.code_flow.specs.Rows.{row_of}
+use Rattle.code_flow.specs.Rules as rules
+use Rattle.code_flow.specs.Typings.{stack, Typing}
 use Rattle.body_verifier.specs.Verdicts.{AreStackBreaks, AreCodeBreaks, is_return, is_filter_end, tests_of, IsFirst, IsFirstAt, Judges}
 use Rattle.body_verifier.proofs.RuleLemmas.{breaks_first, breaks_none}
 

@@ -11,7 +11,7 @@ use Rattle.assembly_tree.specs.declared.typedef.TypeDef.TheViews.{out-TypeDef}
 use Rattle.body_verifier.specs.Checking.{HasBody, LeadsToBody}
 use Rattle.body_verifier.specs.Finding.{method_in, typedef_at, typedef_by, typedef_in}
 use Rattle.assignability.specs.Fields.{the_module}
-use Rattle.body_verifier.specs.Methods.{Declared, Nested, declared_in, inwards, method_at, method_by, method_of, nested_in, type_by_place}
+use Rattle.code_flow.specs.Methods.{Declared, Nested, declared_in, inwards, method_at, method_by, method_of, nested_in, type_by_place}
 
 -- paths play no part
 same_by : (ks : List ℕ) (p : List TypeId) (o : Option TypeDef) → ((t : TypeDef) (q : List TypeId) → typedef_in (inwards ks (record { path = q; typedef = t })) ≡ typedef_by ks t)

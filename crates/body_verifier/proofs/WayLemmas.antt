@@ -5,13 +5,13 @@ use Rattle.std.specs.List.{Contains}
 use Rattle.std.proofs.lemmas.Option.{slice_get-get_or, slice_get_within, get_or_from_slice_get}
 use Rattle.std.proofs.lemmas.List.Elements.{Contains-get_or, at_from_Contains}
 use Rattle.sig_pool.specs.declared.node.Node.{Node}
-use Rattle.body_verifier.specs.declared.goings.Carried.{Carried}
-use Rattle.body_verifier.specs.declared.goings.Carried.TheVariants.{Flowing, Nothing, Object, Caught}
-use Rattle.body_verifier.specs.declared.goings.Going.{Going}
+use Rattle.code_flow.specs.declared.goings.Carried.{Carried}
+use Rattle.code_flow.specs.declared.goings.Carried.TheVariants.{Flowing, Nothing, Object, Caught}
+use Rattle.code_flow.specs.declared.goings.Going.{Going}
 use Rattle.body_verifier.specs.declared.stated.Stated.{Stated}
-use Rattle.body_verifier.specs.Edges as edges
-use Rattle.body_verifier.specs.Frames.{Frame}
-use Rattle.body_verifier.specs.Goings.{carries_of, found_in, AreGoings, IsGoings}
+use Rattle.code_flow.specs.Edges as edges
+use Rattle.code_flow.specs.Frames.{Frame}
+use Rattle.code_flow.specs.Goings.{carries_of, found_in, AreGoings, IsGoings}
 use Rattle.body_verifier.specs.Ways.{Says, AreWays, AreAllWays, AreStatedFor}
 
 says_of : (ns : List Node) (s : Stated) (f : Frame) (c : Carried) → AreStatedFor ns s f → Says ns s c (carries_of f c)

@@ -1,10 +1,10 @@
 -- Stacks that don't meet what an instruction asks of them (ECMA-335 III.1.5).
 use Rattle.std.specs.Prelude.{◌≡◌, ℕ, ◌⊎◌, List, get_or, slice_get, Some}
-use Rattle.assignability.specs.Hierarchy.{Hierarchy}
-use Rattle.assignability.specs.Stack.{Stack, bad}
-use Rattle.body_verifier.specs.Demands.{Demand, HasWrongKind, FailsToAssign, AreMismatched, FailToStore}
-use Rattle.body_verifier.specs.Rows.{Row}
-use Rattle.body_verifier.specs.Effects.{taken}
+use Rattle.type_world.specs.Hierarchy.{Hierarchy}
+use Rattle.type_world.specs.Stack.{Stack, bad}
+use Rattle.code_flow.specs.Demands.{Demand, HasWrongKind, FailsToAssign, AreMismatched, FailToStore}
+use Rattle.code_flow.specs.Rows.{Row}
+use Rattle.code_flow.specs.Effects.{taken}
 
 -- the operand at a place is of a wrong kind
 pub record IsWrongAt (k : ℕ) (w : Hierarchy) (r : Row) (s : List Stack) : Type 0 where

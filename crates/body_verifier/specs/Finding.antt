@@ -6,7 +6,7 @@ use Rattle.assembly_tree.specs.declared.members.Method.{Method}
 use Rattle.assembly_tree.specs.declared.typedef.TypeDef.{TypeDef}
 use Rattle.assembly_tree.specs.declared.typedef.TypeDef.TheViews.{out-TypeDef}
 use Rattle.body_verifier.specs.declared.report.Broken.{Broken}
-use Rattle.body_verifier.specs.Methods.{Declared, Nested}
+use Rattle.code_flow.specs.Methods.{Declared, Nested}
 
 -- the type that places lead to, inwards from a type
 abbrev pub typedef_by : List ℕ → TypeDef → Option TypeDef

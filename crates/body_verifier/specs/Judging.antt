@@ -4,18 +4,18 @@ use Rattle.std.specs.List.{Contains}
 use Rattle.type_terms.specs.declared.term.SigType.{SigType}
 use Rattle.assembly_tree.specs.declared.body.Clause.{Clause}
 use Rattle.assembly_tree.specs.declared.body.Ins.{Ins}
-use Rattle.assignability.specs.Stack.{Stack}
-use Rattle.body_verifier.specs.declared.operation.Operation.{Operation}
-use Rattle.body_verifier.specs.declared.operation.Operation.TheVariants as does
-use Rattle.body_verifier.specs.declared.operation.Prefix.{Prefix}
+use Rattle.type_world.specs.Stack.{Stack}
+use Rattle.code_flow.specs.declared.operation.Operation.{Operation}
+use Rattle.code_flow.specs.declared.operation.Operation.TheVariants as does
+use Rattle.code_flow.specs.declared.operation.Prefix.{Prefix}
 use Rattle.body_verifier.specs.Asking.{HasWrongOperand, FailsToFit, IsMismatched}
-use Rattle.body_verifier.specs.CodeRules.{RunsOff, LacksLocal, LacksArgument, ReturnsInside, BranchesAcross, FallsAcross, IsMisplaced, IsUnverified}
-use Rattle.body_verifier.specs.Edges.{Does}
-use Rattle.body_verifier.specs.Effects.{effect}
-use Rattle.body_verifier.specs.Frames.{Frame}
-use Rattle.body_verifier.specs.Prefixes.{Fits}
-use Rattle.body_verifier.specs.Rows.{row_of}
-use Rattle.body_verifier.specs.Rules.{MisfitsMember, addressed, is_by_reference}
+use Rattle.code_flow.specs.CodeRules.{RunsOff, LacksLocal, LacksArgument, ReturnsInside, BranchesAcross, FallsAcross, IsMisplaced, IsUnverified}
+use Rattle.code_flow.specs.Edges.{Does}
+use Rattle.code_flow.specs.Effects.{effect}
+use Rattle.code_flow.specs.Frames.{Frame}
+use Rattle.code_flow.specs.Prefixes.{Fits}
+use Rattle.code_flow.specs.Rows.{row_of}
+use Rattle.code_flow.specs.Rules.{MisfitsMember, addressed, is_by_reference}
 
 -- too few operands (V1)
 abbrev pub HasTooFew : Frame → ℕ → Ins → List Stack → Type 0

@@ -1,7 +1,7 @@
 -- Where two ways meet (ECMA-335 III.1.8.1.3).
 use Rattle.std.specs.Prelude.{◌≡◌}
-use Rattle.assignability.specs.Hierarchy.{Hierarchy}
-use Rattle.body_verifier.specs.Typings.{State, AtMost}
+use Rattle.type_world.specs.Hierarchy.{Hierarchy}
+use Rattle.code_flow.specs.Typings.{State, AtMost}
 
 -- the least state that both are at most
 pub record IsMeeting (w : Hierarchy) (x y z : State) : Type 0 where

@@ -2,8 +2,8 @@
 use Rattle.std.specs.Prelude.{ℕ, zero, suc, ◌≡◌, ◌+◌, ◌*◌, ◌≤◌, List, [], ◌∷◌, length}
 use Rattle.std.specs.List.{sum_by}
 use Rattle.type_terms.specs.declared.term.SigType.{SigType}
-use Rattle.assignability.specs.Stack.{Stack, i4, i8, native, float, null, ref, boxed, val, ptr, bad}
-use Rattle.body_verifier.specs.Typings.{State, unreached, stack, clash, Typing}
+use Rattle.type_world.specs.Stack.{Stack, i4, i8, native, float, null, ref, boxed, val, ptr, bad}
+use Rattle.code_flow.specs.Typings.{State, unreached, stack, clash, Typing}
 
 -- how many types can lie above one, where `height` counts those above a type, and no type has more than `top - 2` above it
 unfoldable pub rank : (SigType → ℕ) → ℕ → Stack → ℕ

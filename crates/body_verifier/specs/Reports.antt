@@ -4,14 +4,14 @@ use Rattle.assembly_tree.specs.declared.assembly.Assembly.{Assembly}
 use Rattle.assembly_tree.specs.declared.body.Body.{Body}
 use Rattle.assembly_tree.specs.declared.typedef.MethodPath.{MethodPath}
 use Rattle.assembly_tree.specs.WellFormedBodies.{offset_of}
-use Rattle.assignability.specs.Hierarchy.{Hierarchy}
+use Rattle.type_world.specs.Hierarchy.{Hierarchy}
 use Rattle.body_verifier.specs.declared.report.Broken.{Broken}
 use Rattle.body_verifier.specs.declared.report.Failure.{Failure}
-use Rattle.body_verifier.specs.Methods.{Declared, method_at, all_methods}
-use Rattle.body_verifier.specs.Frames.{Frame, frame}
-use Rattle.body_verifier.specs.Blocks.{ClausesNest}
-use Rattle.body_verifier.specs.Typings.{Typing, IsLeast}
-use Rattle.body_verifier.specs.Rules.{BreaksFirst}
+use Rattle.code_flow.specs.Methods.{Declared, method_at, all_methods}
+use Rattle.code_flow.specs.Frames.{Frame, frame}
+use Rattle.code_flow.specs.Blocks.{ClausesNest}
+use Rattle.code_flow.specs.Typings.{Typing, IsLeast}
+use Rattle.code_flow.specs.Rules.{BreaksFirst}
 
 -- ---- the instructions of a body
 

@@ -2,12 +2,12 @@
 use Rattle.std.specs.Prelude.{◌≡◌, ℕ, Bool, true, false, ◌<◌, List, [], length, map, get_or, slice_get, Option, None, Some}
 use Rattle.std.specs.List.{All}
 use Rattle.sig_pool.specs.declared.node.Node.{Node}
-use Rattle.assignability.specs.declared.stack_type.StackType.{StackType}
-use Rattle.assignability.specs.declared.stack_type.StackType.TheVariants.{Bad}
-use Rattle.assignability.specs.Hierarchy.{Hierarchy}
+use Rattle.type_world.specs.declared.stack_type.StackType.{StackType}
+use Rattle.type_world.specs.declared.stack_type.StackType.TheVariants.{Bad}
+use Rattle.type_world.specs.Hierarchy.{Hierarchy}
 use Rattle.assignability.specs.Joining.{JoinsAs}
-use Rattle.body_verifier.specs.RowMeanings.{stack_meant, IsStackWithin}
-use Rattle.body_verifier.specs.Typings as typings
+use Rattle.stack_rows.specs.RowMeanings.{stack_meant, IsStackWithin}
+use Rattle.code_flow.specs.Typings as typings
 use Rattle.body_verifier.specs.Meetings.{IsMeeting, IsNewMeeting}
 use Rattle.body_verifier.specs.declared.state.State.{State}
 use Rattle.body_verifier.specs.declared.state.State.TheVariants.{Unreached, Stack, Clash}

@@ -2,12 +2,12 @@
 use Rattle.std.specs.Prelude.{◌≡◌, List, length}
 use Rattle.assembly_tree.specs.declared.body.Clause.{Clause}
 use Rattle.sig_pool.specs.declared.node.Node.{Node}
-use Rattle.assignability.specs.Stack.{Stack}
+use Rattle.type_world.specs.Stack.{Stack}
 use Rattle.body_verifier.specs.declared.state.State.{State}
-use Rattle.body_verifier.specs.Frames.{Frame}
-use Rattle.body_verifier.specs.Goings.{found_by}
+use Rattle.code_flow.specs.Frames.{Frame}
+use Rattle.code_flow.specs.Goings.{found_by}
 use Rattle.body_verifier.specs.StateMeanings.{state_meant, IsStateWithin}
-use Rattle.body_verifier.specs.Typings as typings
+use Rattle.code_flow.specs.Typings as typings
 
 -- a state of the pool that means a stack of these types
 pub record IsStack (ns : List Node) (s : State) (xs : List Stack) : Type 0 where

@@ -1,10 +1,10 @@
 -- How many joins and parents a check of a body takes at most.
 use Rattle.std.specs.Prelude.{◌≡◌, ℕ, ◌+◌, ◌*◌, ◌<◌, List, length}
 use Rattle.std.specs.List.{Contains, AllPairs}
-use Rattle.assignability.specs.Scopes.{Sources}
-use Rattle.assignability.specs.Ancestors.{all_declared}
-use Rattle.body_verifier.specs.Frames.{Frame}
-use Rattle.body_verifier.specs.Edges.{Carries, Edge}
+use Rattle.type_world.specs.Scopes.{Sources}
+use Rattle.type_world.specs.Ancestors.{all_declared}
+use Rattle.code_flow.specs.Frames.{Frame}
+use Rattle.code_flow.specs.Edges.{Carries, Edge}
 
 -- two instructions with an edge from one to the other
 pub record Joined (f : Frame) (e : ℕ × ℕ) : Type 0 where

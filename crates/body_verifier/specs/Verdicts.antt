@@ -2,20 +2,20 @@
 use Rattle.std.specs.Prelude.{◌≡◌, ◌⊎◌, ◌↔◌, ℕ, ◌+◌, ◌<◌, Bool, true, false, ◌&&◌, ◌||◌, List, [], ◌∷◌, length, get_or, Option, None, Some, IsTrue}
 use Rattle.std.specs.List.{Contains}
 use Rattle.assembly_tree.specs.declared.body.Clause.{Clause}
-use Rattle.assignability.specs.Hierarchy.{Hierarchy}
-use Rattle.assignability.specs.Stack.{Stack}
+use Rattle.type_world.specs.Hierarchy.{Hierarchy}
+use Rattle.type_world.specs.Stack.{Stack}
 use Rattle.body_verifier.specs.declared.judging.StackBreaks.{StackBreaks}
 use Rattle.body_verifier.specs.declared.judging.CodeBreaks.{CodeBreaks}
-use Rattle.body_verifier.specs.declared.operation.Operation.{Operation}
-use Rattle.body_verifier.specs.declared.operation.Operation.TheVariants as does
+use Rattle.code_flow.specs.declared.operation.Operation.{Operation}
+use Rattle.code_flow.specs.declared.operation.Operation.TheVariants as does
 use Rattle.body_verifier.specs.Asking.{HasWrongOperand, FailsToFit, IsMismatched}
-use Rattle.body_verifier.specs.CodeRules.{RunsOff, LacksLocal, LacksArgument, ReturnsInside, BranchesAcross, FallsAcross, IsMisplaced, IsUnverified}
-use Rattle.body_verifier.specs.Effects.{effect}
-use Rattle.body_verifier.specs.Frames.{Frame}
+use Rattle.code_flow.specs.CodeRules.{RunsOff, LacksLocal, LacksArgument, ReturnsInside, BranchesAcross, FallsAcross, IsMisplaced, IsUnverified}
+use Rattle.code_flow.specs.Effects.{effect}
+use Rattle.code_flow.specs.Frames.{Frame}
 use Rattle.body_verifier.specs.Judging.{Misfits, HasUnfitPrefix, PointsToReference}
-use Rattle.body_verifier.specs.Rows.{Row}
-use Rattle.body_verifier.specs.Rules.{BreaksFirst}
-use Rattle.body_verifier.specs.Typings.{Typing}
+use Rattle.code_flow.specs.Rows.{Row}
+use Rattle.code_flow.specs.Rules.{BreaksFirst}
+use Rattle.code_flow.specs.Typings.{Typing}
 
 -- each is true exactly where that rule is broken by the stack
 pub record AreStackBreaks (w : Hierarchy) (bound : ℕ) (r : Row) (s : List Stack) (b : StackBreaks) : Type 0 where

@@ -4,26 +4,26 @@ use Rattle.std.specs.List.{All, sum_by}
 use Rattle.type_terms.specs.declared.term.SigType.{SigType}
 use Rattle.assembly_tree.specs.declared.body.Ins.{Ins}
 use Rattle.sig_pool.specs.declared.node.Node.{Node}
-use Rattle.assignability.specs.Hierarchy.{Hierarchy}
-use Rattle.assignability.specs.Laws.{IsGrounded, IsOrder}
-use Rattle.assignability.specs.Stack.{Stack}
-use Rattle.body_verifier.specs.declared.goings.Carried.{Carried}
-use Rattle.body_verifier.specs.declared.goings.Carried.TheVariants.{Flowing, Nothing, Object, Caught}
-use Rattle.body_verifier.specs.declared.goings.Going.{Going}
-use Rattle.body_verifier.specs.declared.row.Row.{Row}
+use Rattle.type_world.specs.Hierarchy.{Hierarchy}
+use Rattle.type_world.specs.Laws.{IsGrounded, IsOrder}
+use Rattle.type_world.specs.Stack.{Stack}
+use Rattle.code_flow.specs.declared.goings.Carried.{Carried}
+use Rattle.code_flow.specs.declared.goings.Carried.TheVariants.{Flowing, Nothing, Object, Caught}
+use Rattle.code_flow.specs.declared.goings.Going.{Going}
+use Rattle.stack_rows.specs.declared.row.Row.{Row}
 use Rattle.body_verifier.specs.declared.state.State.{State}
 use Rattle.body_verifier.specs.declared.stated.Stated.{Stated}
-use Rattle.body_verifier.specs.Edges as edges
-use Rattle.body_verifier.specs.Effects.{effect}
-use Rattle.body_verifier.specs.Frames.{Frame}
-use Rattle.body_verifier.specs.Goings.{found_in}
-use Rattle.body_verifier.specs.Laws.{AreMonotone}
+use Rattle.code_flow.specs.Edges as edges
+use Rattle.code_flow.specs.Effects.{effect}
+use Rattle.code_flow.specs.Frames.{Frame}
+use Rattle.code_flow.specs.Goings.{found_in}
+use Rattle.code_flow.specs.Laws.{AreMonotone}
 use Rattle.body_verifier.specs.Meetings.{IsNewMeeting, IsMeeting}
 use Rattle.body_verifier.specs.Potential.{IsLow, reached, potential, potential_at}
-use Rattle.body_verifier.specs.RowMeanings.{row_meant, IsRowWithin}
-use Rattle.body_verifier.specs.Rows as rows
+use Rattle.stack_rows.specs.RowMeanings.{row_meant, IsRowWithin}
+use Rattle.code_flow.specs.Rows as rows
 use Rattle.body_verifier.specs.StateMeanings.{state_meant, IsStateWithin, typing_of}
-use Rattle.body_verifier.specs.Typings as typings
+use Rattle.code_flow.specs.Typings as typings
 use Rattle.body_verifier.specs.Waiting.{Waiting, has, pushed}
 
 -- ---- typings on the way

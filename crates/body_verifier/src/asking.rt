@@ -2,21 +2,21 @@
 //! alone is given a stack's values, or the topmost of them.
 ghost use Rattle.std.specs.Prelude.{◌≡◌, ◌↔◌, ◌<◌, ◌≤◌, List, length, IsTrue, IfOk};
 ghost use Rattle.sig_pool.specs.declared.node.Node.{Node};
-ghost use Rattle.assignability.specs.Hierarchy.{Hierarchy};
-ghost use Rattle.assignability.specs.Stack as stack;
-ghost use Rattle.assignability.specs.World.{hierarchy, Stays};
+ghost use Rattle.type_world.specs.Hierarchy.{Hierarchy};
+ghost use Rattle.type_world.specs.Stack as stack;
+ghost use Rattle.type_world.specs.World.{hierarchy, Stays};
 ghost use Rattle.body_verifier.specs.Asking.{IsWrongAt, HasWrongOperand, IsUnassignableAt, HasUnassignable, IsUnstored, FailsToFit, IsMismatched};
-ghost use Rattle.body_verifier.specs.Effects.{effect};
-ghost use Rattle.body_verifier.specs.RowMeanings.{row_meant, stack_meant, IsRowWithin, IsStackWithin};
+ghost use Rattle.code_flow.specs.Effects.{effect};
+ghost use Rattle.stack_rows.specs.RowMeanings.{row_meant, stack_meant, IsRowWithin, IsStackWithin};
 
 use crate::meeting::{fails_to_assign, is_unassignable, is_wrong, referent};
 use crate::operands::operand;
 use crate::pairs::clash;
-use crate::row::{Row, Together};
 use crate::stack::Stack;
 use assignability::StackType;
 use assignability::types::World;
 use il_lists::NoMemory;
+use stack_rows::row::{Row, Together};
 
 /// Whether there are too few operands. Takes no memory.
 pub(crate) fn has_too_few(row: &Row, stack: &Stack) -> bool

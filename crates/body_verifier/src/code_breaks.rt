@@ -1,24 +1,24 @@
 //! Which rules an instruction breaks whatever the stack is.
 ghost use Rattle.std.specs.Prelude.{◌≡◌, ◌<◌, ◌^◌, length};
-ghost use Rattle.assignability.specs.Indexed.{KnowsTypes};
+ghost use Rattle.type_world.specs.Indexed.{KnowsTypes};
 ghost use Rattle.body_verifier.specs.CodeMarks.{AreAsMany, IsBody};
-ghost use Rattle.body_verifier.specs.Frames.{Frame};
-ghost use Rattle.body_verifier.specs.RowMeanings.{IsFrameWithin};
+ghost use Rattle.code_flow.specs.Frames.{Frame};
+ghost use Rattle.stack_rows.specs.RowMeanings.{IsFrameWithin};
 ghost use Rattle.body_verifier.specs.Verdicts.{AreCodeBreaks};
 
-use crate::blocks::Spans;
 use crate::code_marks::CodeMarks;
-use crate::code_rules::{
-    branches_across, falls_across, is_misplaced, is_unverified, returns_inside, runs_off,
-};
-use crate::frame::CodeFrame;
 use crate::judging::CodeBreaks;
 use crate::naming_rules::{misfits, points_to_reference};
-use crate::prefixes::is_stray;
-use crate::variable_rules::{lacks_argument, lacks_local};
-use crate::variables::variable_number;
 use assembly_tree::{Assembly, Ins};
 use assignability::types::World;
+use code_flow::blocks::Spans;
+use code_flow::code_rules::{
+    branches_across, falls_across, is_misplaced, is_unverified, returns_inside, runs_off,
+};
+use code_flow::prefixes::is_stray;
+use code_flow::variable_rules::{lacks_argument, lacks_local};
+use stack_rows::frame::CodeFrame;
+use stack_rows::variables::variable_number;
 
 /// What instruction `k` of a body breaks whatever the stack is. Takes no memory.
 ///

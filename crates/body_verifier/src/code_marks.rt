@@ -1,13 +1,13 @@
 //! Marks for the instructions of a body, by which the rules that ask no stack are told.
 ghost use Rattle.std.specs.Prelude.{◌≡◌, ◌<◌, ◌^◌, map, length, replicate, false, IfOk};
-ghost use Rattle.body_verifier.specs.BlockTests.{spans_of};
+ghost use Rattle.code_flow.specs.BlockTests.{spans_of};
 ghost use Rattle.body_verifier.specs.CodeMarks.{HaveTries, marked_tries, AreAsMany, AreCodeMarks};
-ghost use Rattle.body_verifier.specs.Frames.{Frame};
+ghost use Rattle.code_flow.specs.Frames.{Frame};
 
-use crate::blocks::Spans;
-use crate::marks::{mark, marks_of};
-use crate::prefixes::pasts_of;
 use assembly_tree::Ins;
+use code_flow::blocks::Spans;
+use code_flow::marks::{mark, marks_of};
+use code_flow::prefixes::pasts_of;
 use il_lists::{Items, NoMemory};
 use std::alloc::Global;
 

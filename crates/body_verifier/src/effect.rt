@@ -2,22 +2,22 @@
 ghost use Rattle.std.specs.Prelude.{◌≡◌, ◌<◌, ◌-◌, ◌++◌, ℕ, List, length, map, take, IfOk, OnOk};
 ghost use Rattle.std.specs.List.{All};
 ghost use Rattle.sig_pool.specs.declared.node.Node.{Node};
-ghost use Rattle.assignability.specs.Meaning.{meant, IsWithin, Means};
-ghost use Rattle.assignability.specs.World.{Stays};
-ghost use Rattle.body_verifier.specs.Demands.{object_element, referent};
-ghost use Rattle.body_verifier.specs.Effects.{effect};
-ghost use Rattle.body_verifier.specs.RowMeanings.{given_by, pushed_meant, IsPushedWithin, row_meant, IsRowWithin, stack_meant, IsStackWithin, MeansStack};
-ghost use Rattle.body_verifier.specs.Rows.{kept_if, reference_to, fetched_from};
+ghost use Rattle.type_world.specs.Meaning.{meant, IsWithin, Means};
+ghost use Rattle.type_world.specs.World.{Stays};
+ghost use Rattle.code_flow.specs.Demands.{object_element, referent};
+ghost use Rattle.code_flow.specs.Effects.{effect};
+ghost use Rattle.stack_rows.specs.RowMeanings.{given_by, pushed_meant, IsPushedWithin, row_meant, IsRowWithin, stack_meant, IsStackWithin, MeansStack};
+ghost use Rattle.code_flow.specs.Rows.{kept_if, reference_to, fetched_from};
 
-use crate::kinds::{is_integer, is_null, is_number};
 use crate::meeting::{object_element, referent};
 use crate::operands::operand;
 use crate::pairs::outcome;
-use crate::row::{Pushed, Row};
 use crate::stack::Stack;
 use assignability::StackType;
 use assignability::types::World;
 use il_lists::NoMemory;
+use stack_rows::kinds::{is_integer, is_null, is_number};
+use stack_rows::row::{Pushed, Row};
 use std::alloc::Global;
 
 /// An element of a vector of a reference type, and null of null.

@@ -6,7 +6,7 @@ ghost use Rattle.assembly_tree.specs.declared.typedef.TypeDef.TheViews.{out-Type
 ghost use Rattle.body_verifier.specs.Checking.{LeadsToBody};
 ghost use Rattle.body_verifier.specs.Finding.{method_in, typedef_at, typedef_by};
 ghost use Rattle.assignability.specs.Fields.{the_module};
-ghost use Rattle.body_verifier.specs.Methods.{inwards, method_at, type_by_place, Nested};
+ghost use Rattle.code_flow.specs.Methods.{inwards, method_at, type_by_place, Nested};
 
 use assembly_tree::{Assembly, Method, MethodPath, TypeDef};
 use il_lists::{Copies, NoMemory, Text};

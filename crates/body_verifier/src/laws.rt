@@ -1,8 +1,8 @@
 ghost use Rattle.std.specs.Prelude.{ℕ};
 ghost use Rattle.type_terms.specs.declared.term.SigType.{SigType};
-ghost use Rattle.assignability.specs.Laws.{IsGrounded};
-ghost use Rattle.body_verifier.specs.Frames.{Frame};
-ghost use Rattle.body_verifier.specs.Laws.{AreMonotone, HasOneLeast, IsFormed, PathsAreRight};
+ghost use Rattle.type_world.specs.Laws.{IsGrounded};
+ghost use Rattle.code_flow.specs.Frames.{Frame};
+ghost use Rattle.code_flow.specs.Laws.{AreMonotone, HasOneLeast, IsFormed, PathsAreRight};
 
 use assignability::{assignable_is_a_preorder, joins_are_least_upper_bounds};
 

@@ -1,38 +1,36 @@
 //! The rules on the member or the variable that an instruction names (V10, V19). Nothing here takes memory.
 ghost use Rattle.std.specs.Prelude.{◌≡◌, ◌↔◌, ◌<◌, ℕ, length, slice_get, codes, IsTrue, Some};
 ghost use Rattle.sig_pool.specs.Terms.{AllBelow};
-ghost use Rattle.assignability.specs.Indexed.{KnowsTypes};
-ghost use Rattle.assignability.specs.Names.{same_text};
-ghost use Rattle.body_verifier.specs.Frames.{Frame};
+ghost use Rattle.type_world.specs.Indexed.{KnowsTypes};
+ghost use Rattle.type_world.specs.Names.{same_text};
+ghost use Rattle.code_flow.specs.Frames.{Frame};
 ghost use Rattle.body_verifier.specs.Judging.{Misfits, PointsToReference};
 ghost use Rattle.body_verifier.specs.MemberTests.{IsOther, HasOther, is_reference_there, addresses_reference};
-ghost use Rattle.body_verifier.specs.Methods.{is_static};
-ghost use Rattle.body_verifier.specs.Operations.{operation};
-ghost use Rattle.body_verifier.specs.RowMeanings.{type_option, MeansFrame, IsFrameWithin};
-ghost use Rattle.body_verifier.specs.Rows.{variable};
-ghost use Rattle.body_verifier.specs.Rules.{misfits_method, wants_static, MisfitsField, MisfitsMember};
+ghost use Rattle.code_flow.specs.Methods.{is_static};
+ghost use Rattle.code_flow.specs.Operations.{operation};
+ghost use Rattle.stack_rows.specs.RowMeanings.{type_option, MeansFrame, IsFrameWithin};
+ghost use Rattle.code_flow.specs.Rows.{variable};
+ghost use Rattle.code_flow.specs.Rules.{misfits_method, wants_static, MisfitsField, MisfitsMember};
 
 use crate::declaring::fields_of;
-use crate::frame::CodeFrame;
-use crate::operation::{Operation, operation_of};
-use crate::type_kinds::is_by_reference;
-use crate::variables::variable_key;
 use assembly_tree::{Assembly, Field, Ins, Operand};
 use assignability::types::World;
 use assignability::{TypeKeys, id_of};
+use code_flow::operation::{Operation, operation_of};
+use stack_rows::frame::CodeFrame;
+use stack_rows::type_kinds::is_by_reference;
+use stack_rows::variables::variable_key;
 use std::cmp::Ordering;
 use type_terms::{FieldRef, MethodRef, SigType, compare_terms};
 
-impl Operation {
-    /// Whether it wants a static field, where it wants a field (ECMA-335 III.4.10 to III.4.30).
-    fn wants_static(self) -> Option<bool>
-        ensures { result ≡ wants_static self }
-    {
-        match self {
-            Operation::LoadField | Operation::FieldAddress | Operation::StoreField => Some(false),
-            Operation::LoadStatic | Operation::StaticAddress | Operation::StoreStatic => Some(true),
-            _ => None,
-        }
+/// Whether an instruction wants a static field, where it wants a field (ECMA-335 III.4.10 to III.4.30).
+fn wants_static(does: Operation) -> Option<bool>
+    ensures { result ≡ wants_static does }
+{
+    match does {
+        Operation::LoadField | Operation::FieldAddress | Operation::StoreField => Some(false),
+        Operation::LoadStatic | Operation::StaticAddress | Operation::StoreStatic => Some(true),
+        _ => None,
     }
 }
 
@@ -102,7 +100,7 @@ fn misfits_declared(w: &World, a: &Assembly, does: Operation, r: &FieldRef) -> b
     requires { KnowsTypes a.now w.now.tables }
     ensures { (f : Frame) → f.image ≡ a.now → (IsTrue result ↔ MisfitsField f does r.now) }
 {
-    match does.wants_static() {
+    match wants_static(does) {
         Some(wanted) => misfits_field(fields_of(w, a, &r.owner), r, wanted),
         None => false,
     }

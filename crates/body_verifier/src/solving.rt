@@ -1,28 +1,28 @@
 //! The least typing of a body, by the instructions that wait.
 ghost use Rattle.std.specs.Prelude.{◌≡◌, ℕ, List, ◌+◌, ◌-◌, ◌*◌, ◌<◌, ◌≤◌, ◌^◌, [], ◌∷◌, length, min, replicate, slice_get, Some, IfOk, OnOk};
 ghost use Rattle.std.specs.List.{All};
-ghost use Rattle.assignability.specs.World.{hierarchy, Stays};
-ghost use Rattle.body_verifier.specs.Goings.{IsGoings};
+ghost use Rattle.type_world.specs.World.{hierarchy, Stays};
+ghost use Rattle.code_flow.specs.Goings.{IsGoings};
 ghost use Rattle.body_verifier.specs.StepBound.{AreEdges, step_bound};
-ghost use Rattle.body_verifier.specs.RowMeanings.{row_meant, IsRowWithin};
+ghost use Rattle.stack_rows.specs.RowMeanings.{row_meant, IsRowWithin};
 ghost use Rattle.body_verifier.specs.StateMeanings.{state_meant, IsStateWithin, state_depth, depth_or_none, typing_of};
 ghost use Rattle.assembly_tree.specs.declared.body.Ins.{Ins};
-ghost use Rattle.body_verifier.specs.Rows.{row_of};
+ghost use Rattle.code_flow.specs.Rows.{row_of};
 ghost use Rattle.body_verifier.specs.Potential.{total};
-ghost use Rattle.body_verifier.specs.Typings as typings;
+ghost use Rattle.code_flow.specs.Typings as typings;
 ghost use Rattle.body_verifier.specs.Ways.{Setup, IsSetUp, IsUnderWay, IsSolved, IsCost, IsDepth, FlowsApart, HasNoMore, HasLessAt, flows, AreRows, AreStated, AreStatedFor, AreWays, AreAllWays, Raises, charge, depth_charges, step_budget};
 
 use crate::effect::stack_after;
-use crate::goings::{Going, Goings};
-use crate::row::Row;
 use crate::stack::Stack;
 use crate::state::{State, meet};
 use crate::stated::Stated;
 use crate::worklist::Worklist;
 use assignability::keys_keep_their_types;
 use assignability::types::World;
+use code_flow::goings::{Going, Goings};
 use il_base::Steps;
 use il_lists::{Items, NoMemory};
+use stack_rows::row::Row;
 use std::alloc::Global;
 
 /// What is known after an instruction with that row.

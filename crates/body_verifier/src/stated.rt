@@ -1,20 +1,20 @@
 //! The stacks that edges state.
 ghost use Rattle.std.specs.Prelude.{◌≡◌, [], ◌∷◌, map, IfOk};
 ghost use Rattle.std.specs.List.{AllZip};
-ghost use Rattle.assignability.specs.World.{hierarchy, Stays};
-ghost use Rattle.assignability.specs.Stack.{boxed_of};
-ghost use Rattle.body_verifier.specs.Frames.{Frame, owner_in};
-ghost use Rattle.body_verifier.specs.Edges.{any_object};
-ghost use Rattle.body_verifier.specs.Goings.{found_by};
+ghost use Rattle.type_world.specs.World.{hierarchy, Stays};
+ghost use Rattle.type_world.specs.Stack.{boxed_of};
+ghost use Rattle.code_flow.specs.Frames.{Frame, owner_in};
+ghost use Rattle.code_flow.specs.Edges.{any_object};
+ghost use Rattle.code_flow.specs.Goings.{found_by};
 ghost use Rattle.body_verifier.specs.Stating.{IsStack, found_at};
 ghost use Rattle.body_verifier.specs.Ways.{brought, AreStatedFor};
 
-use crate::goings::Carried;
 use crate::stack::Stack;
 use crate::state::State;
 use assembly_tree::{Clause, ClauseKind};
 use assignability::types::World;
 use assignability::{StackType, boxed_of, owner_key, primitive_key};
+use code_flow::goings::Carried;
 use il_lists::{Items, NoMemory};
 use std::alloc::Global;
 use type_terms::{Owner, Prim};

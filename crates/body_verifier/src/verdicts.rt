@@ -1,27 +1,27 @@
 //! The first rule that an instruction breaks, by what is known before it.
 ghost use Rattle.std.specs.Prelude.{◌≡◌, ◌<◌, ◌^◌, ℕ, length, slice_get, Some, IfOk};
 ghost use Rattle.assembly_tree.specs.declared.body.Ins.{Ins};
-ghost use Rattle.assignability.specs.Indexed.{KnowsTypes};
-ghost use Rattle.assignability.specs.World.{hierarchy, Stays};
+ghost use Rattle.type_world.specs.Indexed.{KnowsTypes};
+ghost use Rattle.type_world.specs.World.{hierarchy, Stays};
 ghost use Rattle.body_verifier.specs.CodeMarks.{AreAsMany, IsBody};
-ghost use Rattle.body_verifier.specs.Frames.{Frame};
-ghost use Rattle.body_verifier.specs.RowMeanings.{row_meant, IsRowWithin, IsFrameWithin};
-ghost use Rattle.body_verifier.specs.Rows.{row_of};
+ghost use Rattle.code_flow.specs.Frames.{Frame};
+ghost use Rattle.stack_rows.specs.RowMeanings.{row_meant, IsRowWithin, IsFrameWithin};
+ghost use Rattle.code_flow.specs.Rows.{row_of};
 ghost use Rattle.body_verifier.specs.StateMeanings.{state_meant, IsStateWithin};
-ghost use Rattle.body_verifier.specs.Typings.{Typing};
+ghost use Rattle.code_flow.specs.Typings.{Typing};
 ghost use Rattle.body_verifier.specs.Verdicts.{Judges};
 
-use crate::blocks::Spans;
 use crate::code_breaks::code_breaks;
 use crate::code_marks::CodeMarks;
-use crate::frame::CodeFrame;
 use crate::judging::judge;
-use crate::operation::operation_of;
-use crate::row::Row;
 use crate::state::State;
 use assembly_tree::{Assembly, Ins};
 use assignability::types::World;
+use code_flow::blocks::Spans;
+use code_flow::operation::operation_of;
 use il_lists::NoMemory;
+use stack_rows::frame::CodeFrame;
+use stack_rows::row::Row;
 use std::alloc::Global;
 
 /// The number of the first rule that instruction `k` of a body breaks, by its row and what is known before it; none where

@@ -1,2 +1,4 @@
+pub mod Borders
+pub mod Plain
 pub mod Pools
 pub mod Spelled

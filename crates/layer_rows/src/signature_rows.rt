@@ -5,84 +5,13 @@ ghost use Rattle.sig_codec.specs.Spellable.{HasSpelling, MethodHasSpelling};
 ghost use Rattle.type_terms.specs.declared.term.Owner.{Owner};
 ghost use Rattle.type_terms.specs.declared.term.SigType.TheVariants.{SzArray};
 
-use il_base::{Boxed, NoMemory, Numbers, Signed, Units};
-use sig_codec::{Namer, Numberer, decode_method, decode_type, encode_method, encode_type};
+use crate::nameless::Nameless;
+use il_base::{Boxed, NoMemory, Numbers, Signed};
+use sig_codec::{decode_method, decode_type, encode_method, encode_type};
 use std::alloc::Global;
 use std::cmp::Ordering;
 use std::test::Fail;
-use type_terms::{FieldRef, MethodRef, MethodSig, Owner, Prim, SigType, Types, compare_terms};
-
-/// An image that names nothing.
-#[derive(Drop)]
-struct NoNames;
-
-impl Namer for NoNames {
-    ghost use Rattle.std.specs.Prelude.{None};
-
-    ghost owners = { λ _ _. None };
-
-    ghost methods = { λ _ _. None };
-
-    ghost fields = { λ _ _. None };
-
-    ghost locals = { λ _ _. None };
-
-    ghost texts = { λ _ _. None };
-
-    fn owner_of(&self, _token: u32) -> Option<&Owner> {
-        None
-    }
-
-    fn method_of(&self, _token: u32) -> Option<&MethodRef> {
-        None
-    }
-
-    fn field_of(&self, _token: u32) -> Option<&FieldRef> {
-        None
-    }
-
-    fn locals_of(&self, _token: u32) -> Option<&Types> {
-        None
-    }
-
-    fn text_of(&self, _token: u32) -> Option<&Units> {
-        None
-    }
-}
-
-impl Numberer for NoNames {
-    ghost use Rattle.std.specs.Prelude.{None};
-
-    ghost owner_tokens = { λ _ _. None };
-
-    ghost method_tokens = { λ _ _. None };
-
-    ghost field_tokens = { λ _ _. None };
-
-    ghost locals_tokens = { λ _ _. None };
-
-    ghost text_tokens = { λ _ _. None };
-
-    fn token_of_owner(&self, _owner: &Owner) -> Option<u32> {
-        None
-    }
-
-    fn token_of_method(&self, _method: &MethodRef) -> Option<u32> {
-        None
-    }
-
-    fn token_of_field(&self, _field: &FieldRef) -> Option<u32> {
-        None
-    }
-
-    fn token_of_locals(&self, _locals: &Types) -> Option<u32> {
-        None
-    }
-
-    fn token_of_text(&self, _text: &Units) -> Option<u32> {
-        None
-    }
-}
+use type_terms::{MethodSig, Prim, SigType, Types, compare_terms};
 
 /// A vector of this type.
 pub(crate) fn vector(alloc: Global, of: SigType) -> Result<SigType, NoMemory>
@@ -137,7 +66,7 @@ fn takes_a_string(alloc: Global) -> Result<MethodSig, NoMemory>
 fn is_spelled(alloc: Global, t: &SigType, bytes: &[u8]) -> Result<bool, NoMemory>
     requires { (tokens : Owner → Option ℕ) → HasSpelling tokens t.now }
 {
-    let made = encode_type(alloc, t, &NoNames)?;
+    let made = encode_type(alloc, t, &Nameless)?;
     Ok(made.as_slice() == bytes)
 }
 
@@ -145,7 +74,7 @@ fn is_spelled(alloc: Global, t: &SigType, bytes: &[u8]) -> Result<bool, NoMemory
 fn is_method_spelled(alloc: Global, sig: &MethodSig, bytes: &[u8]) -> Result<bool, NoMemory>
     requires { (tokens : Owner → Option ℕ) → MethodHasSpelling tokens sig.now }
 {
-    let made = encode_method(alloc, sig, &NoNames)?;
+    let made = encode_method(alloc, sig, &Nameless)?;
     Ok(made.as_slice() == bytes)
 }
 
@@ -190,7 +119,7 @@ static SPELLINGS: [(&[u8], bool); 12] = [
 
 /// Whether these bytes spell a type.
 fn spells_a_type(alloc: Global, bytes: &[u8]) -> Result<bool, NoMemory> {
-    Ok(decode_type(alloc, bytes, &NoNames)?.is_some())
+    Ok(decode_type(alloc, bytes, &Nameless)?.is_some())
 }
 
 fn spellings_hold(alloc: Global) -> Result<bool, NoMemory> {
@@ -210,7 +139,7 @@ fn bytes_that_spell_types(rt: HostRuntime) -> Result<(), Fail> {
 
 /// Whether these bytes spell this type.
 fn spells(alloc: Global, bytes: &[u8], wanted: &SigType) -> Result<bool, NoMemory> {
-    match decode_type(alloc, bytes, &NoNames)? {
+    match decode_type(alloc, bytes, &Nameless)? {
         Some(found) => Ok(compare_terms(&found, wanted) == Ordering::Equal),
         None => Ok(false),
     }
@@ -242,7 +171,7 @@ fn is_of_a_string(found: &MethodSig) -> bool {
 }
 
 fn method_from_bytes(alloc: Global) -> Result<bool, NoMemory> {
-    let found = decode_method(alloc, b"\x20\x01\x01\x0E", &NoNames)?;
+    let found = decode_method(alloc, b"\x20\x01\x01\x0E", &Nameless)?;
     Ok(found.is_some_and(|sig| is_of_a_string(&sig)))
 }
 

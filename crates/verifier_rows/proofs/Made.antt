@@ -4,9 +4,9 @@ use Rattle.std.specs.List.{All}
 use Rattle.std.proofs.lemmas.List.{append-nil}
 use Rattle.std.proofs.lemmas.List.Elements.{All-nil}
 use Rattle.assembly_tree.specs.declared.assembly.Assembly.{Assembly}
-use Rattle.assignability.specs.Members.{sources}
-use Rattle.assignability.specs.Scopes.{Sources}
-use Rattle.assignability.specs.World.{Content}
+use Rattle.type_world.specs.Members.{sources}
+use Rattle.type_world.specs.Scopes.{Sources}
+use Rattle.type_world.specs.World.{Content}
 use Rattle.assignability.specs.Worlds.{IsFit, IsWorldOf}
 use Rattle.body_verifier.specs.Checking.{IsWorldSince}
 

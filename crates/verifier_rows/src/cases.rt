@@ -1,7 +1,7 @@
 //! A body in a method of the class `T`, and what the checker says of it.
 
 ghost use Rattle.std.specs.Prelude.{◌≡◌, IsTrue};
-ghost use Rattle.assignability.specs.Scopes.{Sources};
+ghost use Rattle.type_world.specs.Scopes.{Sources};
 ghost use Rattle.assignability.specs.Worlds.{IsFit};
 ghost use Rattle.body_verifier.specs.Checking.{IsWorldSince, LeadsToBody};
 
@@ -65,7 +65,7 @@ pub struct Answer {
 }
 
 /// Whether a world takes an assembly: it is well formed, and its weight at most 2^26.
-fn is_fit(a: &Assembly) -> bool
+pub fn is_fit(a: &Assembly) -> bool
     ensures { IsTrue result → IsFit a.now }
 {
     well_formed(a) && weight(a) <= 0x400_0000

@@ -1,5 +1,5 @@
 //! The assembly that the cases share: interfaces, classes, value types, enums and generic types, and methods that take a
-//! value of each type.
+//! value of each type. Others are made of the same parts.
 
 use crate::terms::{has, id, owner, signature, term};
 use assembly_tree::{
@@ -77,18 +77,25 @@ const STATIC: u16 = 0x16;
 
 const CONSTRUCTOR: u16 = 0x1806;
 
-fn generics(alloc: Global, some: bool) -> Result<Generics, NoMemory> {
+/// A generic parameter for each word `generic`.
+fn generics(alloc: Global, head: &str) -> Result<Generics, NoMemory> {
     let mut all = Items::new(alloc);
-    if some {
-        let name = Text::new(alloc, "T")?;
-        all.push(Generic {
-            name,
-            flags: 0,
-            bounds: Items::new(alloc),
-            attributes: Items::new(alloc),
-        })?;
+    for word in head.split_whitespace() {
+        if word == "generic" {
+            push_generic(&mut all, alloc)?;
+        }
     }
     Ok(all)
+}
+
+fn push_generic(all: &mut Generics, alloc: Global) -> Result<(), NoMemory> {
+    let name = Text::new(alloc, "T")?;
+    all.push(Generic {
+        name,
+        flags: 0,
+        bounds: Items::new(alloc),
+        attributes: Items::new(alloc),
+    })
 }
 
 /// The owners of the words that begin with `mark`.
@@ -107,7 +114,8 @@ fn extended(alloc: Global, head: &str) -> Result<Option<Owner>, NoMemory> {
     Ok(all.pop())
 }
 
-fn field(alloc: Global, name: &str, description: &str) -> Result<Field, NoMemory> {
+/// A field, with `static:` before its type where it is static.
+pub fn field(alloc: Global, name: &str, description: &str) -> Result<Field, NoMemory> {
     let name = Text::new(alloc, name)?;
     let (flags, of) = match description.strip_prefix("static:") {
         Some(of) => (STATIC, of),
@@ -175,7 +183,7 @@ fn method_of(alloc: Global, name: Text, sig: MethodSig, generics: Generics, body
 /// A method with the signature of these words and that body.
 pub fn method(alloc: Global, name: &str, head: &str, body: Body) -> Result<Method, NoMemory> {
     let name = Text::new(alloc, name)?;
-    let generics = generics(alloc, has(head, "generic"))?;
+    let generics = generics(alloc, head)?;
     let sig = signature(alloc, head)?;
     Ok(method_of(alloc, name, sig, generics, body))
 }
@@ -210,7 +218,7 @@ pub fn class(
     let id = id(alloc, "", name)?;
     let extends = extended(alloc, head)?;
     let implements = owners(alloc, head, "implements:")?;
-    let generics = generics(alloc, has(head, "generic"))?;
+    let generics = generics(alloc, head)?;
     Ok(TypeDef {
         id,
         flags: class_flags(head),
@@ -253,17 +261,17 @@ fn manifest_of(alloc: Global, name: Text, module: Text, culture: Text) -> Manife
     }
 }
 
-fn manifest(alloc: Global) -> Result<Manifest, NoMemory> {
-    let name = Text::new(alloc, "Test")?;
-    let module = Text::new(alloc, "Test.dll")?;
+fn manifest(alloc: Global, name: &str) -> Result<Manifest, NoMemory> {
+    let module = Text::new(alloc, name)?;
+    let name = Text::new(alloc, name)?;
     let culture = Text::new(alloc, "")?;
     Ok(manifest_of(alloc, name, module, culture))
 }
 
-fn core(alloc: Global) -> Result<ExternAssembly, NoMemory> {
-    let name = Text::new(alloc, "mscorlib")?;
+fn push_extern(all: &mut Externs, alloc: Global, name: &str) -> Result<(), NoMemory> {
+    let name = Text::new(alloc, name)?;
     let culture = Text::new(alloc, "")?;
-    Ok(ExternAssembly {
+    all.push(ExternAssembly {
         name,
         version: [0, 0, 0, 0],
         flags: 0,
@@ -273,10 +281,25 @@ fn core(alloc: Global) -> Result<ExternAssembly, NoMemory> {
     })
 }
 
+/// The core, and behind it `Lib`.
 fn externs(alloc: Global) -> Result<Externs, NoMemory> {
     let mut externs = Items::new(alloc);
-    externs.push(core(alloc)?)?;
+    push_extern(&mut externs, alloc, "mscorlib")?;
+    push_extern(&mut externs, alloc, "Lib")?;
     Ok(externs)
+}
+
+/// The assembly of that name with these types.
+pub fn assembly(alloc: Global, name: &str, types: TypeDefs) -> Result<Assembly, NoMemory> {
+    let manifest = manifest(alloc, name)?;
+    let externs = externs(alloc)?;
+    Ok(Assembly {
+        manifest,
+        externs,
+        fields: Items::new(alloc),
+        methods: Items::new(alloc),
+        types,
+    })
 }
 
 fn classes(alloc: Global) -> Result<TypeDefs, NoMemory> {
@@ -305,15 +328,7 @@ pub const TESTED: u32 = 12;
 
 /// The assembly, and in its last class, `T`, that method alone.
 pub fn with_method(alloc: Global, m: Method) -> Result<Assembly, NoMemory> {
-    let manifest = manifest(alloc)?;
-    let externs = externs(alloc)?;
     let mut types = classes(alloc)?;
     types.push(tester(alloc, m)?)?;
-    Ok(Assembly {
-        manifest,
-        externs,
-        fields: Items::new(alloc),
-        methods: Items::new(alloc),
-        types,
-    })
+    assembly(alloc, "Test", types)
 }

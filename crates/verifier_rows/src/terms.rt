@@ -10,7 +10,7 @@ pub fn id(alloc: Global, space: &str, name: &str) -> Result<TypeId, NoMemory> {
     Ok(TypeId { space, name })
 }
 
-fn path(alloc: Global, space: &str, name: &str) -> Result<Path, NoMemory> {
+pub fn path(alloc: Global, space: &str, name: &str) -> Result<Path, NoMemory> {
     let id = id(alloc, space, name)?;
     Path::new(alloc, id)
 }
@@ -29,22 +29,29 @@ fn name(alloc: Global, word: &str) -> Result<TypeName, NoMemory> {
     Ok(TypeName { scope, path })
 }
 
-/// `int32`, and others that have words.
+/// Primitive types by their words.
+static PRIMITIVES: [(&str, Prim); 12] = [
+    ("void", Prim::Void),
+    ("bool", Prim::Bool),
+    ("char", Prim::Char),
+    ("int8", Prim::I1),
+    ("uint8", Prim::U1),
+    ("int32", Prim::I4),
+    ("int64", Prim::I8),
+    ("native", Prim::NInt),
+    ("float32", Prim::R4),
+    ("float64", Prim::R8),
+    ("string", Prim::Str),
+    ("object", Prim::Object),
+];
+
 fn primitive(word: &str) -> Option<Prim> {
-    match word {
-        "void" => Some(Prim::Void),
-        "bool" => Some(Prim::Bool),
-        "char" => Some(Prim::Char),
-        "uint8" => Some(Prim::U1),
-        "int32" => Some(Prim::I4),
-        "int64" => Some(Prim::I8),
-        "native" => Some(Prim::NInt),
-        "float32" => Some(Prim::R4),
-        "float64" => Some(Prim::R8),
-        "string" => Some(Prim::Str),
-        "object" => Some(Prim::Object),
-        _ => None,
+    for (name, of) in &PRIMITIVES {
+        if *name == word {
+            return Some(*of);
+        }
     }
+    None
 }
 
 /// A primitive type, or the parameter `!0` of a class or `!!0` of a method.

@@ -1,8 +1,8 @@
 use Rattle.std.proofs.Common.{◌≡◌, ◌+◌, ◌++◌, List}
-use Rattle.assignability.specs.World.{hierarchy, Stays}
+use Rattle.type_world.specs.World.{hierarchy, Stays}
 use Rattle.body_verifier.specs.declared.report.Broken.{Broken}
 use Rattle.body_verifier.specs.Checking.{IsFrameOf}
-use Rattle.body_verifier.specs.Frames.{Frame}
+use Rattle.code_flow.specs.Frames.{Frame}
 use Rattle.body_verifier.specs.Reports.{Lists}
 use Rattle.body_verifier.specs.StateMeanings.{typing_of}
 use Rattle.body_verifier.specs.Ways.{AreRows}

@@ -1,13 +1,13 @@
 use Rattle.std.proofs.Common.{◌≡◌, ◌∙◌, refl, sym, ap, subst, ℕ, ◌+◌, ◌≤◌, List, [], ◌∷◌, length, map, arith}
 use Rattle.std.specs.Prelude.{IfOk}
 use Rattle.std.proofs.lemmas.Result.{IfOk-weaker}
-use Rattle.assignability.specs.World.{hierarchy}
+use Rattle.type_world.specs.World.{hierarchy}
 use Rattle.body_verifier.specs.declared.report.Broken.{Broken}
-use Rattle.body_verifier.specs.BlockTests.{spans_of}
+use Rattle.code_flow.specs.BlockTests.{spans_of}
 use Rattle.body_verifier.specs.Checking.{AreBroken}
 use Rattle.body_verifier.specs.Finding.{RisesWithin, typedef_at}
-use Rattle.body_verifier.specs.Frames.{frame}
-use Rattle.body_verifier.specs.Methods.{Declared}
+use Rattle.code_flow.specs.Frames.{frame}
+use Rattle.code_flow.specs.Methods.{Declared}
 use Rattle.body_verifier.specs.Reports.{Fails}
 use Rattle.body_verifier.specs.StepBound.{AreEdges, height, step_bound}
 use Rattle.body_verifier.proofs.Checked.{known_in, light_in, few_in, forward_all, whole_fails, same_method, set_up_body, ready, fails_all, rises_all, same_edges, same_declared, code_of_frame, bound_of_frame}

@@ -1,6 +1,6 @@
-use Rattle.assignability.specs.World.{hierarchy}
+use Rattle.type_world.specs.World.{hierarchy}
 use Rattle.body_verifier.specs.Checking.{setup}
-use Rattle.body_verifier.specs.Frames.{frame}
+use Rattle.code_flow.specs.Frames.{frame}
 use Rattle.body_verifier.proofs.checking.broken_in.Given as goal
 
 abbrev pub ghost-broken_instructions : goal.ghost-broken_instructions

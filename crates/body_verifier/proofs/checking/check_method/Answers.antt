@@ -2,11 +2,11 @@ use Rattle.std.proofs.Common.{◌≡◌, ◌∙◌, sym, ap, subst, ℕ, ◌+◌
 use Rattle.std.specs.Prelude.{IfOk}
 use Rattle.std.proofs.lemmas.Result.{IfOk-weaker}
 use Rattle.assembly_tree.specs.declared.body.Body.{Body}
-use Rattle.assignability.specs.World.{hierarchy}
+use Rattle.type_world.specs.World.{hierarchy}
 use Rattle.body_verifier.specs.declared.report.Failure.{Failure}
 use Rattle.body_verifier.specs.Checking.{HasBody}
-use Rattle.body_verifier.specs.Frames.{frame}
-use Rattle.body_verifier.specs.Paths.{NeverWrong}
+use Rattle.code_flow.specs.Frames.{frame}
+use Rattle.code_flow.specs.Paths.{NeverWrong}
 use Rattle.body_verifier.specs.Reports.{Reports}
 use Rattle.body_verifier.specs.StepBound.{AreEdges, height, step_bound}
 use Rattle.body_verifier.proofs.Breaking.{one_report, same_body}

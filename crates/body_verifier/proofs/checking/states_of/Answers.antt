@@ -1,5 +1,5 @@
 use Rattle.std.proofs.Common.{◌≡◌, ◌∙◌, sym, ap, map, ◌<◌, ◌≤◌, ◌+◌, length, arith}
-use Rattle.body_verifier.specs.BlockTests.{spans_of}
+use Rattle.code_flow.specs.BlockTests.{spans_of}
 use Rattle.body_verifier.proofs.Checked.{rows_still}
 use Rattle.body_verifier.proofs.EdgeCounts.{room_low}
 use Rattle.body_verifier.proofs.EdgeStart.{setup_kept}

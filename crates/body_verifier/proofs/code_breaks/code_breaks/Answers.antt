@@ -5,7 +5,7 @@ use Rattle.std.proofs.lemmas.Option.{slice_get_read}
 use Rattle.type_terms.specs.declared.term.SigType.{SigType}
 use Rattle.assembly_tree.specs.declared.body.Ins.{Ins}
 use Rattle.sig_pool.specs.Terms.{term_of}
-use Rattle.body_verifier.specs.Marks.{HaveMarks, IsPast}
+use Rattle.code_flow.specs.Marks.{HaveMarks, IsPast}
 use Rattle.body_verifier.specs.Verdicts.{TryBegins}
 use Rattle.body_verifier.proofs.VerdictLemmas.{unfit_exact}
 use Rattle.body_verifier.proofs.code_breaks.code_breaks.Goals as goal

@@ -1,6 +1,6 @@
 use Rattle.std.proofs.Common.{ℕ, List, Bool, false, sym, ◌∙◌, ap, subst, length}
 use Rattle.std.specs.Prelude.{replicate}
-use Rattle.body_verifier.specs.declared.blocks.Spans.{Spans}
+use Rattle.code_flow.specs.declared.blocks.Spans.{Spans}
 use Rattle.body_verifier.specs.CodeMarks.{HaveTries, marked_tries}
 use Rattle.body_verifier.proofs.TryMarks.{have_tries, tries_long}
 use Rattle.body_verifier.proofs.code_marks.tries_of.Goals as goal

@@ -1,6 +1,6 @@
 use Rattle.std.proofs.Common.{◌≡◌, [], ◌∷◌, length, Some}
 use Rattle.assembly_tree.specs.declared.typedef.TypeDef.TheViews.{out-TypeDef}
-use Rattle.body_verifier.specs.Methods.{inwards, Nested}
+use Rattle.code_flow.specs.Methods.{inwards, Nested}
 use Rattle.body_verifier.proofs.finding.inner_path.Given as goal
 
 abbrev pub invariant-loop-rest : goal.invariant-loop-rest

@@ -1,6 +1,6 @@
-use Rattle.body_verifier.specs.Rows.{row_of}
-use Rattle.assignability.specs.Relations.{Below}
-use Rattle.body_verifier.specs.Laws.{Under}
+use Rattle.code_flow.specs.Rows.{row_of}
+use Rattle.type_world.specs.Relations.{Below}
+use Rattle.code_flow.specs.Laws.{Under}
 use Rattle.body_verifier.proofs.Refining.{below_refines, under_refines}
 use Rattle.body_verifier.proofs.Monotone.{monotone}
 use Rattle.body_verifier.proofs.SoundRows.{sound_at, sound_row}

@@ -1,7 +1,7 @@
 use Rattle.std.proofs.Common.{subst}
 use Rattle.std.specs.Prelude.{◌↔◌, IsTrue}
-use Rattle.body_verifier.specs.declared.operation.Operation.{Operation}
-use Rattle.body_verifier.specs.Rules.{MisfitsMember}
+use Rattle.code_flow.specs.declared.operation.Operation.{Operation}
+use Rattle.code_flow.specs.Rules.{MisfitsMember}
 use Rattle.body_verifier.proofs.MemberLemmas.{member_exact}
 use Rattle.body_verifier.proofs.naming_rules.misfits.Goals as goal
 

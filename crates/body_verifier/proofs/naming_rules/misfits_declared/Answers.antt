@@ -4,7 +4,7 @@ use Rattle.assembly_tree.specs.declared.assembly.Assembly.{Assembly}
 use Rattle.assembly_tree.specs.declared.members.Field.{Field}
 use Rattle.body_verifier.specs.MemberTests.{HasOther}
 use Rattle.assignability.specs.Fields.{fields_of}
-use Rattle.body_verifier.specs.Methods.{written_name}
+use Rattle.code_flow.specs.Methods.{written_name}
 use Rattle.body_verifier.proofs.MemberLemmas.{field_exact}
 use Rattle.body_verifier.proofs.naming_rules.misfits_declared.Goals as goal
 

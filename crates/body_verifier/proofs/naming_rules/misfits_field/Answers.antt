@@ -3,8 +3,8 @@ use Rattle.std.proofs.lemmas.Bool.{both_ways, cases_lt, false≢true}
 use Rattle.std.proofs.lemmas.Option.{slice_get_read, slice_get_within}
 use Rattle.assembly_tree.specs.declared.members.Field.{Field}
 use Rattle.body_verifier.specs.MemberTests.{IsOther}
-use Rattle.body_verifier.proofs.Members.{contains_at, place_of}
-use Rattle.body_verifier.proofs.PairLemmas.{one_item}
+use Rattle.code_flow.proofs.Members.{contains_at, place_of}
+use Rattle.code_flow.proofs.PairLemmas.{one_item}
 use Rattle.body_verifier.proofs.naming_rules.misfits_field.Goals as goal
 
 pub returns-then-is_other : goal.returns-then-is_other

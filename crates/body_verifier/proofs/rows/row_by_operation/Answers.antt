@@ -1,10 +1,10 @@
 use Rattle.std.proofs.Common.{[], ◌∷◌, IfOk, refl, sym, subst}
-use Rattle.assignability.specs.World.{hierarchy}
-use Rattle.body_verifier.specs.declared.operation.Operation.{Operation}
-use Rattle.body_verifier.specs.Demands as demands
-use Rattle.body_verifier.specs.RowMeanings.{framed, type_option, MeansRow}
-use Rattle.body_verifier.specs.Rows.{row_by, number_type, pushes}
-use Rattle.body_verifier.proofs.RowParts.{always_means}
+use Rattle.type_world.specs.World.{hierarchy}
+use Rattle.code_flow.specs.declared.operation.Operation.{Operation}
+use Rattle.code_flow.specs.Demands as demands
+use Rattle.stack_rows.specs.RowMeanings.{framed, type_option, MeansRow}
+use Rattle.code_flow.specs.Rows.{row_by, number_type, pushes}
+use Rattle.stack_rows.proofs.RowParts.{always_means}
 use Rattle.body_verifier.proofs.rows.row_by_operation.Goals as goal
 
 pub returns-in-LoadNumber-clause-ok : goal.returns-in-LoadNumber-clause-ok

@@ -1,9 +1,9 @@
 use Rattle.std.proofs.Common.{◌≡◌, ◌∙◌, ◌∷◌, ◌<◌, sym, ap, subst, ℕ, arith, length, List}
 use Rattle.body_verifier.specs.declared.state.State.{State}
 use Rattle.body_verifier.specs.StateMeanings.{state_depth, typing_of, IsStateWithin}
-use Rattle.body_verifier.specs.Typings as typings
+use Rattle.code_flow.specs.Typings as typings
 use Rattle.body_verifier.specs.Ways.{Raises}
-use Rattle.assignability.specs.World.{hierarchy}
+use Rattle.type_world.specs.World.{hierarchy}
 use Rattle.body_verifier.proofs.EdgeLoop.{IsSetOff, IsFollowing, asks_within, asks_target, asks_room, asks_few, less_low, follows_more, target_of}
 use Rattle.body_verifier.proofs.EdgeStart.{set_off, follows_none, all_followed_at, no_more_from, less_from, unreached_settled, unreached_true, unreached_false, within_there}
 use Rattle.body_verifier.proofs.FollowLemmas.{typing_kept}

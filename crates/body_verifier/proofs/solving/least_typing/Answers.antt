@@ -5,7 +5,8 @@ use Rattle.body_verifier.specs.Potential.{total}
 use Rattle.body_verifier.specs.StateMeanings.{typing_of}
 use Rattle.body_verifier.specs.StepBound.{step_bound}
 use Rattle.body_verifier.specs.Ways.{IsSolved}
-use Rattle.body_verifier.proofs.EdgeCounts.{budget_bound, shallow_bound, ok_joined}
+use Rattle.body_verifier.proofs.EdgeCounts.{budget_bound}
+use Rattle.body_verifier.proofs.ShallowCounts.{shallow_bound, ok_joined}
 use Rattle.body_verifier.proofs.WayLemmas.{all_ways_of}
 use Rattle.body_verifier.proofs.solving.least_typing.Goals as goal
 

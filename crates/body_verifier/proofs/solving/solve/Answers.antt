@@ -1,9 +1,9 @@
 use Rattle.std.proofs.Common.{◌≡◌, ◌∙◌, ◌∷◌, [], ◌<◌, ◌≤◌, ◌+◌, ◌*◌, sym, ap, subst, ℕ, arith, length, List, refl}
-use Rattle.assignability.specs.World.{hierarchy}
+use Rattle.type_world.specs.World.{hierarchy}
 use Rattle.body_verifier.specs.Potential.{potential, potential_at, total}
-use Rattle.body_verifier.specs.Typings as typings
+use Rattle.code_flow.specs.Typings as typings
 use Rattle.body_verifier.specs.StateMeanings.{typing_of}
-use Rattle.body_verifier.specs.declared.goings.Going.{Going}
+use Rattle.code_flow.specs.declared.goings.Going.{Going}
 use Rattle.body_verifier.specs.Waiting.{Waiting}
 use Rattle.body_verifier.specs.Ways.{IsUnderWay, AreWays, charge, depth_charges, step_budget}
 use Rattle.body_verifier.proofs.EdgeStart.{setup_kept, stated_kept, stays_itself}

@@ -1,12 +1,12 @@
 use Rattle.std.proofs.Common.{sym, subst, List}
 use Rattle.sig_pool.specs.declared.node.Node.{Node}
-use Rattle.assignability.specs.declared.stack_type.StackType.{StackType}
-use Rattle.assignability.specs.Stack.{Stack}
-use Rattle.assignability.specs.World.{hierarchy}
+use Rattle.type_world.specs.declared.stack_type.StackType.{StackType}
+use Rattle.type_world.specs.Stack.{Stack}
+use Rattle.type_world.specs.World.{hierarchy}
 use Rattle.body_verifier.specs.Meetings.{IsNewMeeting}
-use Rattle.body_verifier.specs.RowMeanings.{stack_meant, MeansStack}
+use Rattle.stack_rows.specs.RowMeanings.{stack_meant, MeansStack}
 use Rattle.body_verifier.specs.StateMeanings.{AllJoinAs}
-use Rattle.body_verifier.specs.Typings.{stack}
+use Rattle.code_flow.specs.Typings.{stack}
 use Rattle.body_verifier.proofs.StackLemmas.{stacks_meet_same, stacks_meet_new}
 use Rattle.body_verifier.proofs.state.values_meet.Goals as goal
 

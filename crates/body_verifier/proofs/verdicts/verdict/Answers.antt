@@ -3,9 +3,9 @@ use Rattle.std.specs.Prelude.{slice_get}
 use Rattle.std.proofs.lemmas.Option.{slice_get_read}
 use Rattle.assembly_tree.specs.declared.body.Ins.{Ins}
 use Rattle.body_verifier.specs.declared.state.State.{State}
-use Rattle.body_verifier.specs.Operations.{operation}
+use Rattle.code_flow.specs.Operations.{operation}
 use Rattle.body_verifier.specs.StateMeanings.{state_meant}
-use Rattle.body_verifier.proofs.PairLemmas.{one_item}
+use Rattle.code_flow.proofs.PairLemmas.{one_item}
 use Rattle.body_verifier.proofs.RuleLemmas.{breaks_at_clash}
 use Rattle.body_verifier.proofs.verdicts.verdict.Goals as goal
 

@@ -1,9 +1,0 @@
-use Rattle.std.proofs.Common.{◌<◌, ◌∙◌, ℕ, List, length, ap, sym, subst}
-use Rattle.std.specs.List.{All}
-use Rattle.body_rows.proofs.Plain.{switch_plain}
-use Rattle.body_rows.proofs.encode_rows.switch.Goals as goal
-
-pub add-requires-clause-new : goal.add-requires-clause-new
-add-requires-clause-new c =
-    let P : List ℕ → Type 0 = λ ts. All (λ t. t < c.args.count) ts in
-    switch_plain c.args.count c.in_ok-targets.targets (subst P (sym c.in_ok-targets.ensures) c.requires.to) (ap length c.in_ok-targets.ensures ∙ c.requires.three)

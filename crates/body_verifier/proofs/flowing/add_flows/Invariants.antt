@@ -1,7 +1,0 @@
-use Rattle.std.proofs.Common.{◌≡◌, ◌++◌, map, take}
-use Rattle.body_verifier.specs.declared.goings.Carried.TheVariants as carries
-use Rattle.body_verifier.specs.GoingTests.{going}
-use Rattle.body_verifier.proofs.flowing.add_flows.Given as goal
-
-abbrev pub invariant-loop-to : goal.invariant-loop-to
-invariant-loop-to l = l.goings ≡ l.initial.goings ++ map (going carries.Flowing) (take l.to-index l.flows)

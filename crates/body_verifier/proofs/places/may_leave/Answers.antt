@@ -1,8 +1,0 @@
-use Rattle.std.proofs.Common.{sym, ◌∙◌}
-use Rattle.body_verifier.proofs.Placing.{leave_exact}
-use Rattle.body_verifier.proofs.places.may_leave.Goals as goal
-
-pub returns : goal.returns
-returns c = λ f e.
-    let x = leave_exact f c.args.clauses.now c.args.k c.args.t e in
-    (λ h. x.0 (sym c.all_release.ensures ∙ h), λ m. c.all_release.ensures ∙ x.1 m)

@@ -1,0 +1,6 @@
+use Rattle.std.proofs.Common.{◌≡◌, ◌++◌, drop}
+use Rattle.code_flow.specs.GoingTests.{leaves_from}
+use Rattle.code_flow.proofs.leaving.leaves_of.Given as goal
+
+abbrev pub invariant-loop-ins : goal.invariant-loop-ins
+invariant-loop-ins l = (l.leaves ++ leaves_from l.at (drop l.ins-index l.code) ≡ leaves_from 0 l.code) × (l.at ≡ l.ins-index)
