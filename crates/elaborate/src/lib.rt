@@ -1,53 +1,18 @@
-//! From a source's tokens and derivation to the assembly that it denotes, or to its first fault. What stands: the values of
-//! tokens, as `source_model` defines them; looking for productions among the nodes of a derivation, whose bodies stand below
-//! them; names that are found by their hash and those that stand twice; the classes by their paths; types whole with their
-//! owners; signatures, references and the types of locals; the labels of methods; the flags of declarations; some of the
-//! rules that a source must meet, and the first of each class of rules from the least tokens of its rules. All of it is
-//! private until the passes that use it stand.
+//! From a source's tokens and derivation to the assembly that it denotes (ECMA-335 II.5 to II.22). What stands: the lines of
+//! which the last holds, with the version, the key and the flags of an assembly and the numbers that a source sets; the names
+//! of assembly and module; attributes, and to what they belong; the flags of declarations, as their words give them; methods
+//! that are overridden; numbers in the widths of what holds them; the numbers of labels. Each is proved for a source none of
+//! whose numbers is out of its range. All but the law on such sources is private until the passes that use it stand.
 #![tactic(auto)]
 
-mod asking;
-mod barred;
-mod bases;
+mod attributes;
 mod bounds;
-mod branch_rules;
-mod class_paths;
-mod class_rules;
-mod counts;
-mod data_numbers;
-mod declared;
-mod declared_flags;
-mod derived;
-mod field_references;
-mod firsts;
-mod flag_rows;
-mod flags;
-mod hashes;
-mod label_numbers;
-mod label_rules;
-mod labels;
-mod least;
-mod merging;
-mod methods;
-mod name_lists;
-mod narrowing;
-mod naturals;
-mod nestings;
-mod number_rules;
-mod operations;
-mod owners;
-mod pieces;
-mod place;
-mod ranges;
-mod reader;
-mod references;
-mod repeats;
-mod shapes;
-mod signatures;
-mod suffixes;
-mod types;
-mod unbroken;
-mod undeclared;
-mod values;
-mod walk;
-mod written;
+mod code_places;
+mod field_places;
+mod keys;
+pub mod laws;
+mod names;
+mod overrides;
+mod runs;
+mod settings;
+mod wrapping;

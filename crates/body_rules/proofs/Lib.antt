@@ -1,0 +1,13 @@
+pub mod BodyNumberLemmas
+pub mod BranchLemmas
+pub mod ClauseCountLemmas
+pub mod ClauseLemmas
+pub mod CodeLemmas
+pub mod NamedLemmas
+pub mod OffsetLemmas
+pub mod OperandLemmas
+pub mod RangeNames
+pub mod RealParts
+pub mod ShortBranchLemmas
+pub mod SizeLemmas
+pub mod VariableParts

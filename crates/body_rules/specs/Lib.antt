@@ -1,0 +1,7 @@
+pub mod ClauseCounts
+pub mod CodeParts
+pub mod CodePlaces
+pub mod NamedVariables
+pub mod OperandRanges
+pub mod Ranges
+pub mod Sizes

@@ -1,6 +1,0 @@
-use Rattle.source_model.specs.Flags.{typar_flags}
-use Rattle.elaborate.proofs.FlagLemmas.{narrowed}
-use Rattle.elaborate.proofs.declared_flags.typar_flags.Goals as goal
-
-pub returns : goal.returns
-returns c s f r e = narrowed (typar_flags s f) c.row_flags.result c.low.result (c.row_flags.ensures s f r e) c.low.ensures

@@ -1,0 +1,35 @@
+-- The part of a production behind so many of them, piece by piece.
+use Rattle.std.proofs.Common.{◌≡◌, ℕ, zero, suc, ◌-◌, List, ◌∷◌, ap, sym, ◌∙◌, refl, arith}
+use Rattle.std.specs.Prelude.{true, false, ◌==◌, drop, Option, None, Some}
+use Rattle.source_model.specs.Forest as tree
+use Rattle.source_model.specs.Forest.{Forest, each, first_token, joined}
+use Rattle.source_model.specs.Laws.{ForestsJoin}
+use Rattle.source_model.specs.TypeRules.{first_of}
+use Rattle.source_reading.specs.Least.{least}
+use Rattle.rule_steps.proofs.RepeatLemmas.{drop_none, each_other, each_own}
+
+abbrev pub behind : ℕ → ℕ → Unit {0} → Forest → Option ℕ
+behind p skip i f = least (first_of (drop skip (each p f)))
+
+drop_one : (skip : ℕ) (f : Forest) (fs : List Forest) → (skip ≡ 0 → ⊥) → drop (skip - 1) fs ≡ drop skip (f ∷ fs)
+drop_one zero f fs some = absurd (some refl)
+drop_one (suc skip) f fs some = let same : suc skip - 1 ≡ skip = omega arith in ap (λ n. drop n fs) same
+
+module _ (p : ℕ) where
+  pub behind_other : ForestsJoin → (skip q : ℕ) (b a : Forest) → (p == q) ≡ false → behind p skip tt (joined b a) ≡ behind p skip tt (tree.branch q b a)
+  behind_other joins skip q b a e = ap (λ fs. least (first_of (drop skip fs))) (each_other p joins q b a e)
+
+  pub behind_own : (skip q : ℕ) (b a : Forest) → (p == q) ≡ true → (skip ≡ 0 → ⊥) → behind p (skip - 1) tt a ≡ behind p skip tt (tree.branch q b a)
+  behind_own skip q b a e some =
+      ap (λ fs. least (first_of fs)) (drop_one skip b (each p a) some)
+      ∙ ap (λ fs. least (first_of (drop skip fs))) (sym (each_own p q b a e))
+
+  pub behind_first : (skip q token : ℕ) (b a : Forest) → (p == q) ≡ true → skip ≡ 0 → token ≡ first_token b
+      → Some token ≡ behind p skip tt (tree.branch q b a)
+  behind_first skip q token b a e none is =
+      ap Some is
+      ∙ ap (λ fs. least (first_of fs)) (sym (each_own p q b a e))
+      ∙ ap (λ n. least (first_of (drop n (each p (tree.branch q b a))))) (sym none)
+
+  pub behind_none : (skip : ℕ) → None ≡ behind p skip tt tree.none
+  behind_none skip = ap (λ fs. least (first_of fs)) (sym (drop_none skip (each p tree.none) refl))

@@ -1,0 +1,4 @@
+pub mod AskingLemmas
+pub mod CountLemmas
+pub mod RangeLemmas
+pub mod RepeatLemmas

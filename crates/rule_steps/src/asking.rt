@@ -1,0 +1,202 @@
+//! The productions of a source, each with what stands around its parts, and rules that are asked of each of them.
+
+ghost use Rattle.std.specs.Prelude.{◌≡◌, ◌<◌, ◌^◌, ℕ, ◌+◌, [], length, min, true, IfOk};
+ghost use Rattle.std.specs.List.{flat_map};
+ghost use Rattle.source_model.specs.Forest.{Forest, preorder};
+ghost use Rattle.source_model.specs.Nodes.{Around, Node, entered, nodes, typar_names};
+ghost use Rattle.source_model.specs.Parameters.{parameters};
+ghost use Rattle.source_model.specs.Source.{Source};
+ghost use Rattle.source_reading.specs.Least.{least};
+ghost use Rattle.source_reading.specs.Derived.{HasBodies};
+ghost use Rattle.rule_steps.specs.Surroundings.{found_in, is_scope, HasParameters, IsDerived, IsNode, IsSurrounding};
+ghost use Rattle.source_reading.specs.Readers.{Reads};
+ghost use Rattle.source_reading.specs.Walk.{IsForest};
+
+use il_base::NoMemory;
+use ilasm_grammar::{TreeNode, productions};
+use source_model::{derivations_are_forests, forests_join, forests_open};
+use source_reading::declared::Declared;
+use source_reading::derived::derivations_have_bodies;
+use source_reading::least::sooner;
+use source_reading::name_lists::typar_names;
+use source_reading::reader::Reader;
+use source_reading::walk::{child, count, next};
+use std::alloc::Global;
+
+/// What stands around a place: the number of the classes that it is in, counted up to 101, the nodes below the innermost of
+/// them, and those below the method. Outside of any class or method these are none.
+#[derive(Clone, Copy)]
+pub struct Surrounding<'n, 't> {
+    pub depth: u8,
+    pub class: &'n [TreeNode],
+    pub method: &'n [TreeNode],
+    /// The names of the generic parameters of that class and of that method.
+    pub class_typars: &'t Declared,
+    pub method_typars: &'t Declared,
+    /// How many parameters the method has.
+    pub parameters: usize,
+}
+
+// The parameters of a class or a method: the names of the generic parameters of the class around it and of its own, an empty
+// list of names, and how many others it has.
+#[derive(Clone, Copy)]
+struct Own<'t> {
+    class_typars: &'t Declared,
+    typars: &'t Declared,
+    none: &'t Declared,
+    parameters: usize,
+}
+
+/// A rule that each production of a source meets or breaks by itself.
+pub trait Rule {
+    ghost use Rattle.std.specs.Prelude.{ℕ, List};
+    ghost use Rattle.source_model.specs.Nodes.{Node};
+    ghost use Rattle.source_model.specs.Source.{Source};
+
+    /// The tokens at which a production breaks it.
+    ghost broken: { Self → Source → Node → List ℕ };
+
+    /// The least token at which this production breaks it.
+    fn first(
+        &self,
+        alloc: Global,
+        reader: &Reader,
+        place: &Surrounding,
+        production: u16,
+        below: &[TreeNode],
+    ) -> Result<Option<u32>, NoMemory>
+        requires { IsForest below.now }
+        ensures { (s : Source) (n : Node) → Reads reader.now s → IsNode place.now production below.now n → IsDerived s place.now n →
+            IfOk result (λ k. k ≡ least (broken self.now s n)) };
+}
+
+/// The least token at which a production among these nodes breaks a rule.
+pub fn first_in<'n, R: Rule>(
+    rule: &R,
+    alloc: Global,
+    reader: &Reader,
+    place: &Surrounding<'n, '_>,
+    nodes: &'n [TreeNode],
+) -> Result<Option<u32>, NoMemory>
+    requires { IsForest nodes.now }
+    ensures { (s : Source) (a : Around) (f : Forest) → Reads reader.now s → IsSurrounding place.now a → preorder f ≡ nodes.now → HasBodies s f → HasParameters s place.now a →
+        IfOk result (λ k. k ≡ least (found_in (R.broken rule.now) s a f)) }
+{
+    derivations_are_forests();
+    forests_open();
+    forests_join();
+    let mut left = nodes;
+    let mut found = None;
+    while let Some((node, rest)) = next(left) {
+        match node {
+            TreeNode::Branch {
+                production,
+                nodes: count,
+            } => {
+                let (below, after) = rest.split_at(count as usize);
+                if is_scope(production) {
+                    let typars = typar_names(alloc, reader, below)?;
+                    let none = Declared::new(alloc);
+                    let parameters = count_parameters(alloc, below)?;
+                    let own = Own {
+                        class_typars: place.class_typars,
+                        typars: &typars,
+                        none: &none,
+                        parameters,
+                    };
+                    let inner = entered(place, production, below, &own);
+                    let here = rule.first(alloc, reader, &inner, production, below)?;
+                    let within = first_in(rule, alloc, reader, &inner, below)?;
+                    found = sooner(found, sooner(here, within));
+                    left = after;
+                } else {
+                    let here = rule.first(alloc, reader, place, production, below)?;
+                    found = sooner(found, here);
+                    left = rest;
+                }
+            }
+            TreeNode::Leaf { .. } => left = rest,
+        }
+    }
+    Ok(found)
+}
+
+// Whether the parts of this production have other things around them than it has.
+fn is_scope(production: u16) -> bool
+    ensures { result ≡ is_scope production }
+{
+    production == productions::CLASS || production == productions::METHOD
+}
+
+/// How many parameters a method has.
+pub fn count_parameters(alloc: Global, below: &[TreeNode]) -> Result<usize, NoMemory>
+    requires { IsForest below.now }
+    ensures { (f : Forest) → preorder f ≡ below.now → IfOk result (λ n. n ≡ length (parameters f)) }
+{
+    let parameters = child(below, productions::DEF_ARGS_OPT_SOME);
+    count(alloc, parameters, productions::DEF_ARG)
+}
+
+// What stands around the parts of a class or a method.
+fn entered<'n, 't>(
+    place: &Surrounding<'n, '_>,
+    production: u16,
+    below: &'n [TreeNode],
+    own: &Own<'t>,
+) -> Surrounding<'n, 't>
+    requires { is_scope production ≡ true }
+    ensures around { (s : Source) (a : Around) (f : Forest) → IsSurrounding place.now a → preorder f ≡ below.now → IsSurrounding result (entered s a production f) }
+    ensures parameters { (s : Source) (a : Around) (f : Forest) → HasParameters s place.now a → own.now.class_typars.now ≡ typar_names s a.class → own.now.typars.now ≡ typar_names s f → own.now.none.now ≡ [] →
+        own.now.parameters ≡ length (parameters f) → length (typar_names s f) < 2 ^ 32 → HasParameters s result (entered s a production f) }
+{
+    if production == productions::CLASS {
+        Surrounding {
+            depth: deeper(place.depth),
+            class: below,
+            method: &[],
+            class_typars: own.typars,
+            method_typars: own.none,
+            parameters: 0,
+        }
+    } else {
+        Surrounding {
+            depth: place.depth,
+            class: place.class,
+            method: below,
+            class_typars: own.class_typars,
+            method_typars: own.typars,
+            parameters: own.parameters,
+        }
+    }
+}
+
+/// One more, up to 101.
+pub fn deeper(depth: u8) -> u8
+    ensures { (n : ℕ) → depth ≡ min n 101 → result ≡ min (n + 1) 101 }
+{
+    if depth < 101 { depth + 1 } else { 101 }
+}
+
+/// The least token at which a production of a source breaks a rule.
+#[tactic(auto, unfolding(source_model::specs::Nodes::nodes))]
+pub fn first_at_all<R: Rule>(
+    rule: &R,
+    alloc: Global,
+    reader: &Reader,
+) -> Result<Option<u32>, NoMemory>
+    requires { IsForest reader.now.nodes.now }
+    ensures { (s : Source) → Reads reader.now s → IfOk result (λ k. k ≡ least (flat_map (R.broken rule.now s) (nodes s))) }
+{
+    let none = Declared::new(alloc);
+    let outside = Surrounding {
+        depth: 0,
+        class: &[],
+        method: &[],
+        class_typars: &none,
+        method_typars: &none,
+        parameters: 0,
+    };
+    derivations_have_bodies();
+    let first = first_in(rule, alloc, reader, &outside, reader.nodes)?;
+    Ok(first)
+}

@@ -1,0 +1,5 @@
+pub mod Bits
+pub mod FlagBounds
+pub mod FlagLemmas
+pub mod FlagNumbers
+pub mod Gathered

@@ -1,0 +1,11 @@
+use Rattle.source_model.specs.Flags.{implementation_flags}
+use Rattle.source_flags.specs.declared.flag_rows.Row.TheVariants.{Implementation}
+use Rattle.source_flags.proofs.FlagBounds.{low_is_all, row_fits}
+use Rattle.source_flags.proofs.FlagLemmas.{narrowed}
+use Rattle.source_flags.proofs.declared_flags.implementation_flags.Goals as goal
+
+pub returns-clause-low : goal.returns-clause-low
+returns-clause-low c s f r e = narrowed (implementation_flags s f) c.row_flags.result c.low.result (c.row_flags.ensures s f r e) c.low.ensures
+
+pub returns-clause-all : goal.returns-clause-all
+returns-clause-all c s f r e h = low_is_all (implementation_flags s f) 16 c.low.result (row_fits s Implementation f h) (narrowed (implementation_flags s f) c.row_flags.result c.low.result (c.row_flags.ensures s f r e) c.low.ensures)

@@ -1,0 +1,10 @@
+use Rattle.std.proofs.Common.{length, ◌-◌}
+use Rattle.source_flags.specs.Lines.{productions_of}
+use Rattle.source_reading.proofs.PieceLemmas.{Gathered}
+use Rattle.source_flags.proofs.gathering.parts_of.Given as goal
+
+abbrev pub invariant-loop-node : goal.invariant-loop-node
+invariant-loop-node l = Gathered l.nodes (productions_of l.kind) l.at l.found
+
+abbrev pub decreases-loop-node : goal.decreases-loop-node
+decreases-loop-node l = length l.nodes - l.at

@@ -1,0 +1,4 @@
+pub mod FlagRows
+pub mod FlagWords
+pub mod InRange
+pub mod Lines

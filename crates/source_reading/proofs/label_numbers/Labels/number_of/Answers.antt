@@ -1,0 +1,10 @@
+use Rattle.std.proofs.Common.{ap, ◌∙◌}
+use Rattle.source_reading.specs.Labels.{number_found}
+use Rattle.source_reading.proofs.LabelLemmas.{named_number}
+use Rattle.source_reading.proofs.label_numbers.Labels.number_of.Goals as goal
+
+pub returns : goal.returns
+returns c s f r labels name =
+    c.number_named.ensures
+    ∙ ap (number_found c.args.self.now.names c.args.self.now.numbers) (c.as_bytes.ensures ∙ c.in_ok-name.ensures s r name)
+    ∙ named_number s f c.args.self.now.names c.args.self.now.numbers c.args.token labels.names-are labels.numbers-are

@@ -1,0 +1,16 @@
+use Rattle.std.proofs.Common.{◌≡◌, length}
+use Rattle.source_model.specs.Forest.{Forest, preorder}
+use Rattle.source_reading.specs.Namings.{names_in}
+use Rattle.source_reading.specs.Walk.{IsForest}
+use Rattle.source_reading.proofs.Collecting.{SoFar}
+use Rattle.source_reading.proofs.NamingLemmas.{Any}
+use Rattle.source_reading.proofs.name_lists.name_tokens.Given as goal
+
+abbrev pub invariant-loop-x : goal.invariant-loop-x
+invariant-loop-x l = record {
+  forest : IsForest l.left;
+  so_far : (f : Forest) → preorder f ≡ l.nodes → SoFar Any (names_in l.naming) (names_in l.naming f) l.left l.found;
+}
+
+abbrev pub decreases-loop-x : goal.decreases-loop-x
+decreases-loop-x l = length l.left

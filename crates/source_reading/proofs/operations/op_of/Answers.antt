@@ -1,0 +1,11 @@
+use Rattle.std.proofs.Common.{ap, ◌∙◌}
+use Rattle.std.specs.Prelude.{find, bytes_eq}
+use Rattle.opcode_table.specs.Opcodes.{names}
+use Rattle.source_model.specs.Instructions.{op_or_nop}
+use Rattle.source_model.specs.Source.{spelling}
+use Rattle.source_reading.proofs.operations.op_of.Goals as goal
+
+pub returns : goal.returns
+returns c s p r e =
+    c.op_named.ensures
+    ∙ ap (λ w. op_or_nop (find (λ row. bytes_eq row.0 w) names)) (c.spelling.ensures.value s r ∙ ap (spelling s) (c.first_token.ensures p.below e))

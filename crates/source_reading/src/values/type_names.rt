@@ -1,0 +1,51 @@
+//! Names as texts, and as those of types (ECMA-335 II.5.3, II.22.37).
+
+ghost use Rattle.std.specs.Prelude.{◌≡◌, IfOk, IsUtf8};
+ghost use Rattle.il_lexer.specs.declared.types.TokenKind.TheVariants.{Scope};
+ghost use Rattle.il_lexer.specs.Spelled.{IsName, IsSpelling};
+ghost use Rattle.source_model.specs.Nodes.{id_of_texts};
+ghost use Rattle.source_model.specs.Values.{between_quotes, dotted, part_texts};
+
+use crate::values::names::name_of;
+use crate::values::texts::scope_of;
+use il_base::{NoMemory, Text};
+use std::alloc::Global;
+use type_terms::TypeId;
+
+/// The text of a name: its parts, without quotes, joined by dots.
+pub fn name_text(alloc: Global, spelling: &[u8]) -> Result<Text, NoMemory>
+    ensures { IsName spelling.now → IsUtf8 spelling.now → IfOk result (λ text. text ≡ dotted (part_texts spelling.now)) }
+{
+    let name = name_of(alloc, spelling)?;
+    let text = text_of(alloc, name.text.as_slice())?;
+    Ok(text)
+}
+
+/// The text of a name in brackets, without them.
+pub fn scope_text(alloc: Global, spelling: &[u8]) -> Result<Text, NoMemory>
+    ensures { IsSpelling Scope spelling.now → IsUtf8 spelling.now → IfOk result (λ text. text ≡ dotted (part_texts (between_quotes spelling.now))) }
+{
+    let name = scope_of(alloc, spelling)?;
+    let text = text_of(alloc, name.text.as_slice())?;
+    Ok(text)
+}
+
+/// A name as that of a type: all its parts but the last, joined by dots, are the space, the last one is the name.
+pub fn type_id(alloc: Global, spelling: &[u8]) -> Result<TypeId, NoMemory>
+    ensures { IsName spelling.now → IsUtf8 spelling.now → IfOk result (λ id. id ≡ id_of_texts (part_texts spelling.now)) }
+{
+    let full = name_of(alloc, spelling)?;
+    let space = text_of(alloc, full.space())?;
+    let name = text_of(alloc, full.name())?;
+    Ok(TypeId { space, name })
+}
+
+// The text of bytes that are UTF-8; no others come here.
+fn text_of(alloc: Global, bytes: &[u8]) -> Result<Text, NoMemory>
+    ensures { IsUtf8 bytes.now → IfOk result (λ text. text ≡ bytes.now) }
+{
+    match str::from_utf8(bytes) {
+        Ok(text) => Text::new(alloc, text),
+        Err(_) => Text::new(alloc, ""),
+    }
+}

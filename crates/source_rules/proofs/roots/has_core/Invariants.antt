@@ -1,0 +1,15 @@
+use Rattle.std.proofs.Common.{length}
+use Rattle.source_model.specs.Source.{Source}
+use Rattle.source_reading.specs.Readers.{Reads}
+use Rattle.source_reading.specs.Walk.{IsForest}
+use Rattle.source_rules.proofs.CoreWalks.{CoreLeft}
+use Rattle.source_rules.proofs.roots.has_core.Given as goal
+
+abbrev pub invariant-loop-x : goal.invariant-loop-x
+invariant-loop-x l = record {
+  forest : IsForest l.left;
+  so_far : (s : Source) → Reads l.reader s → CoreLeft s l.left;
+}
+
+abbrev pub decreases-loop-x : goal.decreases-loop-x
+decreases-loop-x l = length l.left

@@ -1,0 +1,13 @@
+pub mod ArrayNumbers
+pub mod Breaches
+pub mod ClassSizes
+pub mod DataItems
+pub mod DeclaredClasses
+pub mod Leasts
+pub mod MappedData
+pub mod Missing
+pub mod NamedTypes
+pub mod Roots
+pub mod StatedSizes
+pub mod TypeDepths
+pub mod WrittenTypes

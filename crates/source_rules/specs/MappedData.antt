@@ -1,0 +1,13 @@
+-- The lengths of data with labels, counted up to 2^32, which no value has (ECMA-335 II.16.3).
+use Rattle.std.specs.Prelude.{ℕ, min, if◌then◌else◌, List, [], ◌∷◌}
+use Rattle.ilasm_grammar.specs.declared.productions.TheConstants.{DATA_LABEL}
+use Rattle.source_model.specs.Data.{data_length}
+use Rattle.source_model.specs.Forest.{Forest, has}
+use Rattle.source_model.specs.Source.{Source}
+
+abbrev pub counted_length : Source → Forest → ℕ
+counted_length s f = min (data_length s f) 0x100000000
+
+-- that of data which has a label
+abbrev pub length_labelled : Source → Forest → List ℕ
+length_labelled s f = if has DATA_LABEL f then counted_length s f ∷ [] else []
