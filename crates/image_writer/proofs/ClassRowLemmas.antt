@@ -9,8 +9,9 @@ use Rattle.metadata_tables.specs.Schema.{schema}
 use Rattle.assembly_tree.specs.declared.members.Field.{Field}
 use Rattle.assembly_tree.specs.declared.typedef.Layout.{Layout}
 use Rattle.assembly_tree.specs.declared.typedef.TypeDef.TheViews.{out-TypeDef}
-use Rattle.image_writer.specs.FieldRows.{lent_fields, stated_offset, offset_rows}
+use Rattle.image_writer.specs.FieldRows.{stated_offset, offset_rows}
 use Rattle.image_writer.specs.ClassRows.{encloser_rows, stated_rows, nested_rows, layout_rows}
+use Rattle.image_writer.specs.Places.{lent}
 use Rattle.image_writer.specs.Pushing.{Tables, AddsRows}
 use Rattle.image_writer.specs.declared.classes.Class.{Class}
 use Rattle.image_writer.proofs.PushLemmas.{rows_none, rows_one, rows_both}
@@ -105,6 +106,6 @@ lent_offset_rows (row, f) = offset_rows (row, f.now)
 pub offset_short : (row : ℕ) (f : Bor Field) → length (lent_offset_rows (row, f)) ≤ 1
 offset_short row f = optional_short row f.now.offset
 
-pub lent_offsets : (row : ℕ) (fs : List (Bor Field)) → flat_map lent_offset_rows (enumerate_from row fs) ≡ flat_map offset_rows (enumerate_from row (lent_fields fs))
+pub lent_offsets : (row : ℕ) (fs : List (Bor Field)) → flat_map lent_offset_rows (enumerate_from row fs) ≡ flat_map offset_rows (enumerate_from row (lent fs))
 lent_offsets row [] = refl
 lent_offsets row (f ∷ fs) = ap (λ rows. lent_offset_rows (row, f) ++ rows) (lent_offsets (row + 1) fs)

@@ -2,8 +2,7 @@
 use Rattle.std.proofs.Common.{◌≡◌, ap, sym, ◌∙◌, List, [], ◌∷◌, ◌++◌, map}
 use Rattle.std.specs.Borrow.{Bor}
 use Rattle.std.proofs.lemmas.List.{append-nil, append_assoc, map-append}
-use Rattle.assembly_tree.specs.declared.members.Field.{Field}
-use Rattle.image_writer.specs.FieldRows.{lent_fields}
+use Rattle.image_writer.specs.Places.{lent}
 
 module _ {X : Type 0} where
   -- what is to follow completes the whole
@@ -22,5 +21,5 @@ module _ {X : Type 0} where
   filled_end start now xs rest e d = d.on now (sym (append-nil now) ∙ ap (λ ys. now ++ ys) (sym e))
 
 -- one more
-pub lent_one : (old new : List (Bor Field)) (f : Bor Field) → new ≡ old ++ f ∷ [] → lent_fields new ≡ lent_fields old ++ f.now ∷ []
-lent_one old new f e = ap lent_fields e ∙ map-append (λ (x : Bor Field). x.now) old (f ∷ [])
+pub lent_one : {X : Type 0} → (old new : List (Bor X)) (x : Bor X) → new ≡ old ++ x ∷ [] → lent new ≡ lent old ++ x.now ∷ []
+lent_one {X} old new x e = ap (lent {X = X}) e ∙ map-append (λ (y : Bor X). y.now) old (x ∷ [])

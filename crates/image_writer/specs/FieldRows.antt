@@ -1,24 +1,14 @@
 -- The rows of Field and FieldLayout, in the order in which fields are declared (ECMA-335 II.22.15, II.22.16, II.23.1.5).
-use Rattle.std.specs.Prelude.{◌≡◌, ℕ, List, [], ◌∷◌, ◌++◌, map, bit_or, Option, None, Some}
-use Rattle.std.specs.Borrow.{Bor}
-use Rattle.std.specs.List.{AllZip, flat_map}
-use Rattle.assembly_tree.specs.declared.assembly.Assembly.{Assembly}
+use Rattle.std.specs.Prelude.{◌≡◌, ℕ, List, [], ◌∷◌, bit_or, Option, None, Some}
+use Rattle.std.specs.List.{AllZip}
 use Rattle.assembly_tree.specs.declared.members.Field.{Field}
 use Rattle.sig_codec.specs.Signature.{SpellsField}
-use Rattle.image_writer.specs.DeclaredMembers.{class_fields, IsFieldOf}
+use Rattle.image_writer.specs.DeclaredMembers.{IsFieldOf}
 use Rattle.image_writer.specs.Pushing.{Tables, AddsRows}
-use Rattle.image_writer.specs.References.{HasSignature}
-use Rattle.image_writer.specs.Texts.{HoldsText}
-use Rattle.image_writer.specs.declared.classes.Class.{Class}
-use Rattle.image_writer.specs.declared.references.References.{References}
-use Rattle.image_writer.specs.declared.row_set.Cells.{Cells}
-
--- the fields in the order of their rows: those of `<Module>`, and then those of each type
-abbrev pub all_fields : Assembly → List Class → List Field
-all_fields a classes = a.fields ++ flat_map class_fields classes
-
-abbrev pub lent_fields : List (Bor Field) → List Field
-lent_fields fields = map (λ (f : Bor Field). f.now) fields
+use Rattle.image_references.specs.References.{HasSignature}
+use Rattle.image_references.specs.Texts.{HoldsText}
+use Rattle.image_references.specs.declared.references.References.{References}
+use Rattle.image_references.specs.declared.row_set.Cells.{Cells}
 
 -- a bit where something is there
 abbrev pub flag_if : {X : Type 0} → ℕ → Option X → ℕ

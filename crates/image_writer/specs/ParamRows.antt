@@ -5,12 +5,10 @@ use Rattle.assembly_tree.specs.declared.members.Method.{Method}
 use Rattle.assembly_tree.specs.declared.members.Param.{Param}
 use Rattle.image_writer.specs.DeclaredMembers.{class_methods}
 use Rattle.image_writer.specs.FieldRows.{flag_if}
-use Rattle.image_writer.specs.Texts.{HasNoZero, HoldsText}
+use Rattle.image_writer.specs.Places.{params_of}
+use Rattle.image_references.specs.Texts.{HasNoZero, HoldsText}
 use Rattle.image_writer.specs.declared.classes.Class.{Class}
-use Rattle.image_writer.specs.declared.references.References.{References}
-
-abbrev pub params_of : Method → List Param
-params_of m = m.params
+use Rattle.image_references.specs.declared.references.References.{References}
 
 abbrev pub class_params : Class → List Param
 class_params c = flat_map params_of (class_methods c)

@@ -1,9 +1,9 @@
 -- Rows of tables as they are made: a table has a row for each of its items, in order (ECMA-335 II.22, II.24.2.6).
-use Rattle.std.specs.Prelude.{◌≡◌, ◌≢◌, ℕ, ◌+◌, ◌≤◌, List, ◌++◌, sum_by}
-use Rattle.std.specs.List.{AllZip}
-use Rattle.metadata_tables.specs.Encoding.{rows_of}
-use Rattle.image_writer.specs.References.{size, Grows, AreKnown}
-use Rattle.image_writer.specs.declared.references.References.{References}
+use Rattle.std.specs.Prelude.{◌≡◌, ◌≢◌, ℕ, ◌+◌, ◌^◌, ◌<◌, ◌≤◌, List, ◌++◌, length, sum_by}
+use Rattle.std.specs.List.{AllByRecursion, AllZip}
+use Rattle.metadata_tables.specs.Encoding.{rows_of, rows_in}
+use Rattle.image_references.specs.References.{size, Grows, AreKnown}
+use Rattle.image_references.specs.declared.references.References.{References}
 
 -- the tables, each the list of its rows, each the list of its cells
 abbrev pub Tables : Type 0
@@ -22,3 +22,10 @@ pub record Pushes {X : Type 0} (table : ℕ) (IsRow : References → List ℕ �
   pub rows : List (List ℕ)
   pub adds : AddsRows table rows from to
   pub each : AllZip (IsRow new) rows items
+
+-- such rows can be added: each item can be written, and there is room
+pub record CanPush {X : Type 0} (table : ℕ) (Can : References → X → Type 0) (weigh : X → ℕ) (items : List X) (r : References) (tables : Tables) : Type 0 where
+  pub known : AreKnown r
+  pub each : AllByRecursion (Can r) items
+  pub few : rows_in tables table + length items < 2 ^ 24
+  pub room : size r + sum_by weigh items ≤ 2 ^ 26

@@ -6,9 +6,9 @@ ghost use Rattle.image_writer.specs.ClassRows.{class_rows, encloser_rows, nested
 ghost use Rattle.image_writer.specs.Pushing.{AddsRows};
 
 use crate::classes::Class;
-use crate::tokens::{CLASS_LAYOUT, NESTED_CLASS};
 use assembly_tree::Layout;
 use il_base::NoMemory;
+use image_references::tokens::{CLASS_LAYOUT, NESTED_CLASS};
 use metadata_tables::{Rows, row_of_columns};
 
 /// Adds a row of NestedClass for each type that another one nests.

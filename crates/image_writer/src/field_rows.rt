@@ -2,14 +2,15 @@
 ghost use Rattle.std.specs.Prelude.{◌≡◌, ◌+◌, ◌-◌, ◌^◌, ◌<◌, ◌∷◌, [], length, OnOk};
 ghost use Rattle.std.specs.List.{AllZip, flat_map, enumerate_from};
 ghost use Rattle.metadata_tables.specs.Encoding.{rows_in};
-ghost use Rattle.image_writer.specs.FieldRows.{lent_fields, stated_offset, offset_rows, field_flags, IsFieldRow, IsFieldAt, AddsItems};
+ghost use Rattle.image_writer.specs.FieldRows.{stated_offset, offset_rows, field_flags, IsFieldRow, IsFieldAt, AddsItems};
+ghost use Rattle.image_writer.specs.Places.{lent};
 ghost use Rattle.image_writer.specs.Pushing.{AddsRows};
 
-use crate::references::References;
-use crate::row_set::Cells;
-use crate::tokens::{FIELD, FIELD_LAYOUT};
 use assembly_tree::Field;
 use il_base::NoMemory;
+use image_references::references::References;
+use image_references::row_set::Cells;
+use image_references::tokens::{FIELD, FIELD_LAYOUT};
 use metadata_tables::{Rows, row_of_columns};
 
 /// Adds a row of Field for each declared field, in the order of the declared rows.
@@ -18,9 +19,9 @@ pub(crate) fn push_fields<'a>(
     rows: &mut Rows,
     fields: &[&'a Field],
 ) -> Result<(), NoMemory>
-    requires declared { AllZip (IsFieldAt refs.now) refs.now.declared.fields (lent_fields fields.now) }
+    requires declared { AllZip (IsFieldAt refs.now) refs.now.declared.fields (lent fields.now) }
     requires few { rows_in rows.old 0x04 + length fields.now < 2 ^ 24 }
-    ensures { OnOk result (AddsItems 0x04 (IsFieldRow refs.now) (lent_fields fields.now) rows.old rows.new) }
+    ensures { OnOk result (AddsItems 0x04 (IsFieldRow refs.now) (lent fields.now) rows.old rows.new) }
 {
     let mut place: usize = 0;
     for field in fields {
@@ -55,7 +56,7 @@ fn flags_of(field: &Field) -> u16
 pub(crate) fn push_offsets<'a>(rows: &mut Rows, fields: &[&'a Field]) -> Result<(), NoMemory>
     requires count { length fields.now < 2 ^ 24 - 1 }
     requires few { rows_in rows.old 0x10 + length fields.now < 2 ^ 24 }
-    ensures { OnOk result (AddsRows 0x10 (flat_map offset_rows (enumerate_from 1 (lent_fields fields.now))) rows.old rows.new) }
+    ensures { OnOk result (AddsRows 0x10 (flat_map offset_rows (enumerate_from 1 (lent fields.now))) rows.old rows.new) }
 {
     let mut row: u32 = 1;
     for field in fields {

@@ -2,16 +2,17 @@
 ghost use Rattle.std.specs.Prelude.{◌≡◌, ◌+◌, ◌-◌, ◌^◌, ◌<◌, ◌≤◌, ◌∷◌, [], length, sum_by, OnOk};
 ghost use Rattle.std.specs.List.{AllByRecursion, flat_map};
 ghost use Rattle.metadata_tables.specs.Encoding.{rows_in};
-ghost use Rattle.image_writer.specs.ParamRows.{params_of, class_params, all_params, param_flags, IsParamRow, param_bytes, IsPlainParam};
+ghost use Rattle.image_writer.specs.ParamRows.{class_params, all_params, param_flags, IsParamRow, param_bytes, IsPlainParam};
+ghost use Rattle.image_writer.specs.Places.{params_of};
 ghost use Rattle.image_writer.specs.Pushing.{Pushes};
-ghost use Rattle.image_writer.specs.References.{size, AreKnown};
+ghost use Rattle.image_references.specs.References.{size, AreKnown};
 
 use crate::classes::Class;
-use crate::members::refer_text;
-use crate::references::References;
-use crate::tokens::PARAM;
 use assembly_tree::{Method, Param};
 use il_base::NoMemory;
+use image_references::members::refer_text;
+use image_references::references::References;
+use image_references::tokens::PARAM;
 use metadata_tables::{Rows, row_of_columns};
 
 /// Adds the rows of the parameters of methods: those of `<Module>`, and then those of each type.

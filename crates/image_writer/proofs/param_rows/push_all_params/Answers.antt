@@ -5,7 +5,8 @@ use Rattle.std.proofs.lemmas.List.{length-append}
 use Rattle.std.proofs.lemmas.List.Sums.{sum_by-append}
 use Rattle.std.proofs.lemmas.Result.{on_ok_weaker}
 use Rattle.assembly_tree.specs.declared.members.Param.{Param}
-use Rattle.image_writer.specs.ParamRows.{params_of, class_params, IsParamRow, param_bytes, IsPlainParam}
+use Rattle.image_writer.specs.ParamRows.{class_params, IsParamRow, param_bytes, IsPlainParam}
+use Rattle.image_writer.specs.Places.{params_of}
 use Rattle.image_writer.proofs.ParamLemmas.{param_kept}
 use Rattle.image_writer.proofs.PushLemmas.{all_front, all_back, pushes_both, pushes_count}
 use Rattle.image_writer.proofs.param_rows.push_all_params.Goals as goal

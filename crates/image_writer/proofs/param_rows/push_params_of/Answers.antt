@@ -4,7 +4,8 @@ use Rattle.std.specs.List.{AllByRecursion, flat_map}
 use Rattle.std.proofs.lemmas.List.{drop_more}
 use Rattle.assembly_tree.specs.declared.members.Method.{Method}
 use Rattle.assembly_tree.specs.declared.members.Param.{Param}
-use Rattle.image_writer.specs.ParamRows.{params_of, class_params, IsParamRow, param_bytes, IsPlainParam}
+use Rattle.image_writer.specs.ParamRows.{class_params, IsParamRow, param_bytes, IsPlainParam}
+use Rattle.image_writer.specs.Places.{params_of}
 use Rattle.image_writer.specs.Pushing.{Pushes}
 use Rattle.image_writer.proofs.ParamLemmas.{param_kept, CanPushParam, param_can}
 use Rattle.image_writer.proofs.PushLemmas.{pushes_begin, pushes_front, pushes_front_few, pushes_front_room, pushes_step, pushes_end}

@@ -1,6 +1,7 @@
 use Rattle.std.proofs.Common.{drop}
 use Rattle.std.specs.List.{flat_map}
-use Rattle.image_writer.specs.ParamRows.{params_of, IsParamRow, param_bytes}
+use Rattle.image_writer.specs.ParamRows.{IsParamRow, param_bytes}
+use Rattle.image_writer.specs.Places.{params_of}
 use Rattle.image_writer.proofs.ParamLemmas.{param_kept, CanPushParam, param_can}
 use Rattle.image_writer.proofs.PushLemmas.{PushesTo}
 use Rattle.image_writer.proofs.param_rows.push_params_of.Given as goal

@@ -1,0 +1,189 @@
+-- Rows of members that have been found or added, and the tokens that fields and methods are given.
+use Rattle.std.proofs.Common.{◌≡◌, ◌⊎◌, refl, ℕ, ◌+◌, ◌*◌, ◌≤◌, ◌-◌, List, [], ◌∷◌, ◌++◌, length, Some, Result, Ok, Err, arith}
+use Rattle.std.specs.Prelude.{IfOk, OnOk}
+use Rattle.assembly_tree.specs.Weight.{field_ref_weight, owner_weight, type_weight}
+use Rattle.sig_codec.specs.Spelling.{Notation}
+use Rattle.sig_codec.specs.Signature.{SpellsMethod, SpellsField}
+use Rattle.type_terms.specs.declared.reference.FieldRef.{FieldRef}
+use Rattle.type_terms.specs.declared.reference.MethodRef.{MethodRef}
+use Rattle.type_terms.specs.declared.term.Owner.{Owner}
+use Rattle.image_references.specs.Found.{token_in}
+use Rattle.image_references.specs.KnownTokens.{methods_apart, fields_apart}
+use Rattle.image_references.specs.Members.{IsRowToken, of_declared, of_referred, Leaves, HasField, HasMethod}
+use Rattle.image_references.specs.NameTokens.{Learns}
+use Rattle.image_references.specs.References.{tokens_of, size, HasSignature, HasMemberToken, HasGenericToken, IsMethodToken, IsFieldToken, Grows, AreKnown}
+use Rattle.image_references.specs.References as references
+use Rattle.image_references.specs.Texts.{HoldsText}
+use Rattle.image_references.specs.TypePaths.{GoesOn}
+use Rattle.image_references.specs.declared.references.References.{References}
+use Rattle.image_references.specs.declared.row_set.Cells.{Cells}
+use Rattle.image_references.proofs.GrowthLemmas.{grows_refl, still, still_known, tokens_kept, signature_kept, method_kept}
+use Rattle.image_references.proofs.LeavesLemmas.{members_grown, all_given, learns_either}
+use Rattle.image_references.proofs.PathLemmas.{text_kept}
+
+-- a member by its row
+pub member_of : {X : Type 0} (Spells : Notation → X → List ℕ → Type 0) (r : References) (table : ℕ) (declared : List Cells) (o : Owner) (text : List ℕ) (x : X) (type name blob token : ℕ)
+    → tokens_of r o ≡ Some type → HoldsText r.heaps.strings text name → HasSignature Spells r x blob → IsRowToken table declared r.referred.members type name blob token
+    → HasMemberToken Spells r table declared o text x token
+member_of Spells r table declared o text x type name blob token owner named signed (of_declared {row = row} at is) =
+    references.of_declared owner at.0 (record { cells = record { first = _; second = name; third = blob }; at = at.1; parent_is = refl; name_is = named; signature = signed }) is
+member_of Spells r table declared o text x type name blob token owner named signed (of_referred {row = row} at is) =
+    references.of_referred owner (record { cells = record { first = _; second = name; third = blob }; at = at; parent_is = refl; name_is = named; signature = signed }) is
+
+-- ---- fields
+
+abbrev pub with_fields : References → List Cells → List (FieldRef × ℕ) → References
+with_fields a rows fields = record {
+  heaps = a.heaps;
+  declared = a.declared;
+  referred = record { names = a.referred.names; specs = a.referred.specs; members = rows; instances = a.referred.instances; locals = a.referred.locals };
+  known = record { names = a.known.names; specs = a.known.specs; methods = a.known.methods; fields = fields; locals = a.known.locals; texts = a.known.texts };
+}
+
+fields_grow : (a : References) (rows : List Cells) (fields : List (FieldRef × ℕ)) → GoesOn a.referred.members rows → Learns a.known.fields fields → Grows a (with_fields a rows fields)
+fields_grow a rows fields on l = let g = grows_refl a in record {
+  strings = g.strings;
+  blobs = g.blobs;
+  user = g.user;
+  declared = refl;
+  names = g.names;
+  specs = g.specs;
+  members = on;
+  instances = g.instances;
+  locals = g.locals;
+  known_names = g.known_names;
+  known_specs = g.known_specs;
+  known_methods = g.known_methods;
+  known_fields = l;
+  known_locals = g.known_locals;
+  known_texts = g.known_texts;
+}
+
+pub field_given : {E : Type 0} (a : References) (rows : List Cells) (fields : List (FieldRef × ℕ)) (f : FieldRef) (type name blob token : ℕ) (r : Result ℕ E) → AreKnown a
+    → tokens_of a f.owner ≡ Some type → HoldsText a.heaps.strings f.name name → HasSignature SpellsField a f.of blob
+    → IsRowToken 0x04 a.declared.fields rows type name blob token → GoesOn a.referred.members rows → length rows ≤ length a.referred.members + 1
+    → IfOk r (λ given. token_in fields_apart fields f ≡ Some given) → OnOk r ((fields ≡ a.known.fields) ⊎ (fields ≡ a.known.fields ++ (f, token) ∷ []))
+    → IfOk r (Leaves (HasField f) a (with_fields a rows fields) 12)
+field_given a rows fields f type name blob token (Err e) known owner named signed at on more found kept = tt
+field_given a rows fields f type name blob token (Ok given) known owner named signed at on more found kept =
+    let b : References = with_fields a rows fields in
+    let g : Grows a b = fields_grow a rows fields on (learns_either a.known.fields fields f token kept) in
+    let s = still a b g known in
+    let is : IsFieldToken b f token =
+    member_of SpellsField b 0x04 b.declared.fields f.owner f.name f.of type name blob token (tokens_kept a b g f.owner type owner) (text_kept a.heaps.strings b.heaps.strings f.name name g.strings named)
+    (signature_kept SpellsField a b f.of blob g signed) at in
+    record {
+      grows = g;
+      known = record {
+        few = s.few;
+        names = s.names;
+        specs = s.specs;
+        methods = s.methods;
+        fields = all_given (λ e. IsFieldToken b e.0 e.1) a.known.fields fields (f, token) s.fields is kept;
+        locals = s.locals;
+        texts = s.texts;
+      };
+      room = members_grown a b more refl refl refl refl refl;
+      is = found;
+    }
+
+-- ---- methods
+
+abbrev pub with_members : References → List Cells → References
+with_members a rows = record {
+  heaps = a.heaps;
+  declared = a.declared;
+  referred = record { names = a.referred.names; specs = a.referred.specs; members = rows; instances = a.referred.instances; locals = a.referred.locals };
+  known = a.known;
+}
+
+members_grow : (a : References) (rows : List Cells) → GoesOn a.referred.members rows → Grows a (with_members a rows)
+members_grow a rows on = let g = grows_refl a in record {
+  strings = g.strings;
+  blobs = g.blobs;
+  user = g.user;
+  declared = refl;
+  names = g.names;
+  specs = g.specs;
+  members = on;
+  instances = g.instances;
+  locals = g.locals;
+  known_names = g.known_names;
+  known_specs = g.known_specs;
+  known_methods = g.known_methods;
+  known_fields = g.known_fields;
+  known_locals = g.known_locals;
+  known_texts = g.known_texts;
+}
+
+pub generic_by_row : {E : Type 0} (a : References) (rows : List Cells) (m : MethodRef) (type name blob : ℕ) (r : Result ℕ E) → AreKnown a
+    → tokens_of a m.owner ≡ Some type → HoldsText a.heaps.strings m.name name → HasSignature SpellsMethod a m.sig blob
+    → IfOk r (IsRowToken 0x06 a.declared.methods rows type name blob) → GoesOn a.referred.members rows → length rows ≤ length a.referred.members + 1
+    → IfOk r (Leaves (λ x. HasGenericToken x m) a (with_members a rows) 12)
+generic_by_row a rows m type name blob (Err e) known owner named signed at on more = tt
+generic_by_row a rows m type name blob (Ok token) known owner named signed at on more =
+    let b : References = with_members a rows in
+    let g : Grows a b = members_grow a rows on in
+    record {
+      grows = g;
+      known = still_known a b g known refl;
+      room = members_grown a b more refl refl refl refl refl;
+      is = member_of SpellsMethod b 0x06 b.declared.methods m.owner m.name m.sig type name blob token (tokens_kept a b g m.owner type owner)
+          (text_kept a.heaps.strings b.heaps.strings m.name name g.strings named) (signature_kept SpellsMethod a b m.sig blob g signed) at;
+    }
+
+abbrev pub with_methods : References → List (MethodRef × ℕ) → References
+with_methods a methods = record {
+  heaps = a.heaps;
+  declared = a.declared;
+  referred = a.referred;
+  known = record { names = a.known.names; specs = a.known.specs; methods = methods; fields = a.known.fields; locals = a.known.locals; texts = a.known.texts };
+}
+
+methods_grow : (a : References) (methods : List (MethodRef × ℕ)) → Learns a.known.methods methods → Grows a (with_methods a methods)
+methods_grow a methods l = let g = grows_refl a in record {
+  strings = g.strings;
+  blobs = g.blobs;
+  user = g.user;
+  declared = refl;
+  names = g.names;
+  specs = g.specs;
+  members = g.members;
+  instances = g.instances;
+  locals = g.locals;
+  known_names = g.known_names;
+  known_specs = g.known_specs;
+  known_methods = l;
+  known_fields = g.known_fields;
+  known_locals = g.known_locals;
+  known_texts = g.known_texts;
+}
+
+pub method_given : {E : Type 0} (a : References) (methods : List (MethodRef × ℕ)) (m : MethodRef) (token : ℕ) (r : Result ℕ E) → AreKnown a → IsMethodToken a m token
+    → IfOk r (λ given. token_in methods_apart methods m ≡ Some given) → OnOk r ((methods ≡ a.known.methods) ⊎ (methods ≡ a.known.methods ++ (m, token) ∷ []))
+    → IfOk r (Leaves (HasMethod m) a (with_methods a methods) 0)
+unfolding size
+method_given a methods m token (Err e) known h found kept = tt
+method_given a methods m token (Ok given) known h found kept =
+    let b : References = with_methods a methods in
+    let g : Grows a b = methods_grow a methods (learns_either a.known.methods methods m token kept) in
+    let s = still a b g known in
+    record {
+      grows = g;
+      known = record {
+        few = s.few;
+        names = s.names;
+        specs = s.specs;
+        methods = all_given (λ e. IsMethodToken b e.0 e.1) a.known.methods methods (m, token) s.methods (method_kept a b m token g h) kept;
+        fields = s.fields;
+        locals = s.locals;
+        texts = s.texts;
+      };
+      room = omega arith;
+      is = found;
+    }
+
+-- what the parts of a reference to a field weigh
+pub field_weighs : (f : FieldRef) → field_ref_weight f ≡ 64 + owner_weight f.owner + length f.name + type_weight f.of
+unfolding field_ref_weight
+field_weighs f = refl

@@ -1,0 +1,158 @@
+-- What has been given stays as more comes, and as more is declared.
+use base.Stored.{Coded}
+use Rattle.std.proofs.Common.{◌≡◌, ap, refl, sym, ◌∙◌, subst, ℕ, ◌<◌, ◌^◌, cond, List, [], ◌∷◌, ◌++◌, length, Some, inl, inr, arith}
+use Rattle.std.specs.List.{AllByRecursion}
+use Rattle.std.proofs.lemmas.Bool.{cases_Bool}
+use Rattle.std.proofs.lemmas.List.{append-nil, append_assoc}
+use Rattle.sig_codec.specs.Spelling.{Notation}
+use Rattle.sig_codec.specs.Signature.{SpellsMethod, SpellsField, SpellsLocals, SpellsInstantiation}
+use Rattle.sig_codec.specs.Spelling.{SpellsType}
+use Rattle.type_terms.specs.declared.name.TypeName.{TypeName}
+use Rattle.type_terms.specs.declared.reference.FieldRef.{FieldRef}
+use Rattle.type_terms.specs.declared.reference.MethodRef.{MethodRef}
+use Rattle.type_terms.specs.declared.term.Owner.{Owner, out-Owner}
+use Rattle.type_terms.specs.declared.term.Owner.TheOpen.{Owner-F, Name, Spec}
+use Rattle.type_terms.specs.declared.term.SigType.{SigType}
+use Rattle.image_references.specs.Blobs.{HoldsBlob, KeepsBlobs}
+use Rattle.image_references.specs.Found.{same_term, token_in}
+use Rattle.image_references.specs.KnownTokens.{layer_token, owner_token, names_apart, types_apart}
+use Rattle.image_references.specs.NameTokens.{AreNames, Learns}
+use Rattle.image_references.specs.References.{tokens_of, HasSignature, IsSpecToken, IsMemberRow, HasMemberToken, HasGenericToken, of_declared, of_referred, IsMethodToken, plain, instance, IsFieldToken, IsLocalsToken, IsTextToken, AreKnown, Widens}
+use Rattle.image_references.specs.Rows.{IsRowAt}
+use Rattle.image_references.specs.Texts.{HoldsText, KeepsTexts}
+use Rattle.image_references.specs.TypePaths.{GoesOn}
+use Rattle.image_references.specs.Units.{HoldsUnits, KeepsUnits}
+use Rattle.image_references.specs.declared.references.References.{References}
+use Rattle.image_references.specs.declared.row_set.Cells.{Cells}
+use Rattle.image_references.proofs.NameLemmas.{all_weaker, names_kept}
+use Rattle.image_references.proofs.PathLemmas.{row_kept, text_kept}
+
+-- ---- tokens
+
+found_before : {T : Type 0} (coded : Coded T) (es more : List (T × ℕ)) (x : T) (t : ℕ) → token_in coded es x ≡ Some t → token_in coded (es ++ more) x ≡ Some t
+found_before coded [] more x t at = absurd cc
+found_before coded (e ∷ es) more x t at = elim (cases_Bool (same_term coded e.0 x)) [
+  | inl is_so ↦
+      ap (λ b. cond b (Some e.1) (token_in coded (es ++ more) x)) is_so ∙ sym (ap (λ b. cond b (Some e.1) (token_in coded es x)) is_so) ∙ at
+  | inr not_so ↦
+      ap (λ b. cond b (Some e.1) (token_in coded (es ++ more) x)) not_so
+      ∙ found_before coded es more x t (sym (ap (λ b. cond b (Some e.1) (token_in coded es x)) not_so) ∙ at)
+]
+
+pub token_kept : {T : Type 0} (coded : Coded T) (old new : List (T × ℕ)) (x : T) (t : ℕ) → Learns old new → token_in coded old x ≡ Some t → token_in coded new x ≡ Some t
+token_kept coded old new x t l at = ap (λ es. token_in coded es x) l.is ∙ found_before coded old l.more x t at
+
+layer_kept : (n0 n1 : List (TypeName × ℕ)) (s0 s1 : List (SigType × ℕ)) (o : Owner-F Owner SigType) (t : ℕ) → Learns n0 n1 → Learns s0 s1
+    → layer_token n0 s0 o ≡ Some t → layer_token n1 s1 o ≡ Some t
+layer_kept n0 n1 s0 s1 (Name name) t p q at = token_kept names_apart n0 n1 name t p at
+layer_kept n0 n1 s0 s1 (Spec of) t p q at = token_kept types_apart s0 s1 of t q at
+
+pub wide_tokens : (a b : References) → Widens a b → (o : Owner) (t : ℕ) → tokens_of a o ≡ Some t → tokens_of b o ≡ Some t
+wide_tokens a b g o t at = layer_kept a.known.names b.known.names a.known.specs b.known.specs (out-Owner o) t g.known_names g.known_specs at
+
+-- ---- what a token stands for
+
+pub wide_signature : {X : Type 0} (Spells : Notation → X → List ℕ → Type 0) (a b : References) (x : X) (blob : ℕ) → Widens a b → HasSignature Spells a x blob
+    → HasSignature Spells b x blob
+wide_signature Spells a b x blob g s = record {
+  bytes = s.bytes;
+  holds = record { there = g.blobs.blobs blob s.bytes s.holds.there; used = g.blobs.used blob s.holds.used };
+  earlier = s.earlier;
+  within = λ o t e. wide_tokens a b g o t (s.within o t e);
+  spells = s.spells;
+}
+
+spec_kept : (a b : References) (t : SigType) (token : ℕ) → Widens a b → IsSpecToken a t token → IsSpecToken b t token
+spec_kept a b t token g h = record {
+  row = h.row;
+  blob = h.blob;
+  at = row_kept a.referred.specs b.referred.specs _ h.row g.specs h.at;
+  signature = wide_signature SpellsType a b t h.blob g h.signature;
+  is = h.is;
+}
+
+member_row_kept : {X : Type 0} (Spells : Notation → X → List ℕ → Type 0) (a b : References) (rows more : List Cells) (parent : ℕ) (name : List ℕ) (x : X) (row : ℕ)
+    → Widens a b → GoesOn rows more → IsMemberRow Spells a rows parent name x row → IsMemberRow Spells b more parent name x row
+member_row_kept Spells a b rows more parent name x row g on h = record {
+  cells = h.cells;
+  at = row_kept rows more h.cells row on h.at;
+  parent_is = h.parent_is;
+  name_is = text_kept a.heaps.strings b.heaps.strings name h.cells.second g.strings h.name_is;
+  signature = wide_signature Spells a b x h.cells.third g h.signature;
+}
+
+member_kept : {X : Type 0} (Spells : Notation → X → List ℕ → Type 0) (a b : References) (table : ℕ) (rows more : List Cells) (owner : Owner) (name : List ℕ) (x : X) (token : ℕ)
+    → Widens a b → GoesOn rows more → HasMemberToken Spells a table rows owner name x token → HasMemberToken Spells b table more owner name x token
+member_kept Spells a b table rows more owner name x token g on (of_declared {type = type} {row = row} o t m is) =
+    of_declared (wide_tokens a b g owner type o) t (member_row_kept Spells a b rows more _ name x row g on m) is
+member_kept Spells a b table rows more owner name x token g on (of_referred {type = type} {row = row} o m is) =
+    of_referred (wide_tokens a b g owner type o) (member_row_kept Spells a b a.referred.members b.referred.members _ name x row g g.members m) is
+
+pub wide_generic : (a b : References) (m : MethodRef) (token : ℕ) → Widens a b → HasGenericToken a m token → HasGenericToken b m token
+wide_generic a b m token g h = member_kept SpellsMethod a b 0x06 a.declared.methods b.declared.methods m.owner m.name m.sig token g g.methods h
+
+pub wide_method : (a b : References) (m : MethodRef) (token : ℕ) → Widens a b → IsMethodToken a m token → IsMethodToken b m token
+wide_method a b m token g (plain none h) =
+    plain none (member_kept SpellsMethod a b 0x06 a.declared.methods b.declared.methods m.owner m.name m.sig token g g.methods h)
+wide_method a b m token g (instance {args = args} {generic = generic} {blob = blob} {row = row} some h at signature is) =
+    instance some (member_kept SpellsMethod a b 0x06 a.declared.methods b.declared.methods m.owner m.name m.sig generic g g.methods h)
+    (row_kept a.referred.instances b.referred.instances _ row g.instances at) (wide_signature SpellsInstantiation a b args blob g signature) is
+
+field_kept : (a b : References) (f : FieldRef) (token : ℕ) → Widens a b → IsFieldToken a f token → IsFieldToken b f token
+field_kept a b f token g h = member_kept SpellsField a b 0x04 a.declared.fields b.declared.fields f.owner f.name f.of token g g.fields h
+
+locals_kept : (a b : References) (ts : List SigType) (token : ℕ) → Widens a b → IsLocalsToken a ts token → IsLocalsToken b ts token
+locals_kept a b ts token g h = record {
+  row = h.row;
+  blob = h.blob;
+  at = row_kept a.referred.locals b.referred.locals _ h.row g.locals h.at;
+  signature = wide_signature SpellsLocals a b ts h.blob g h.signature;
+  is = h.is;
+}
+
+units_kept : (a b : References) (units : List ℕ) (token : ℕ) → Widens a b → IsTextToken a units token → IsTextToken b units token
+units_kept a b units token g h = record {
+  index = h.index;
+  holds = record { there = g.user.units h.index _ h.holds.there; used = g.user.used h.index h.holds.used };
+  is = h.is;
+}
+
+-- ---- all that has been given
+
+-- what a later state has for what was known before
+pub record AreStill (b a : References) : Type 0 where
+  pub few : length b.declared.types < 2 ^ 24
+  pub names : AreNames b.heaps.strings b.declared.types b.referred.names a.known.names
+  pub specs : AllByRecursion (λ e. IsSpecToken b e.0 e.1) a.known.specs
+  pub methods : AllByRecursion (λ e. IsMethodToken b e.0 e.1) a.known.methods
+  pub fields : AllByRecursion (λ e. IsFieldToken b e.0 e.1) a.known.fields
+  pub locals : AllByRecursion (λ e. IsLocalsToken b e.0 e.1) a.known.locals
+  pub texts : AllByRecursion (λ e. IsTextToken b e.0 e.1) a.known.texts
+
+pub wide_still : (a b : References) → Widens a b → AreKnown a → AreStill b a
+wide_still a b g k =
+    let types : b.declared.types ≡ a.declared.types = g.types in
+    record {
+      few = subst (λ (rows : List Cells). length rows < 2 ^ 24) (sym types) k.few;
+      names = subst (λ (rows : List Cells). AreNames b.heaps.strings rows b.referred.names a.known.names) (sym types)
+          (names_kept a.heaps.strings b.heaps.strings a.declared.types a.referred.names b.referred.names a.known.names g.strings g.names k.names);
+      specs = all_weaker (λ e. IsSpecToken a e.0 e.1) (λ e. IsSpecToken b e.0 e.1) a.known.specs (λ e h. spec_kept a b e.0 e.1 g h) k.specs;
+      methods = all_weaker (λ e. IsMethodToken a e.0 e.1) (λ e. IsMethodToken b e.0 e.1) a.known.methods (λ e h. wide_method a b e.0 e.1 g h) k.methods;
+      fields = all_weaker (λ e. IsFieldToken a e.0 e.1) (λ e. IsFieldToken b e.0 e.1) a.known.fields (λ e h. field_kept a b e.0 e.1 g h) k.fields;
+      locals = all_weaker (λ e. IsLocalsToken a e.0 e.1) (λ e. IsLocalsToken b e.0 e.1) a.known.locals (λ e h. locals_kept a b e.0 e.1 g h) k.locals;
+      texts = all_weaker (λ e. IsTextToken a e.0 e.1) (λ e. IsTextToken b e.0 e.1) a.known.texts (λ e h. units_kept a b e.0 e.1 g h) k.texts;
+    }
+
+-- nothing more is known
+pub wide_known : (a b : References) → Widens a b → AreKnown a → b.known ≡ a.known → AreKnown b
+wide_known a b g k same =
+    let s = wide_still a b g k in
+    record {
+      few = s.few;
+      names = subst (λ es. AreNames b.heaps.strings b.declared.types b.referred.names es) (sym (ap (λ x. x.names) same)) s.names;
+      specs = subst (λ es. AllByRecursion (λ e. IsSpecToken b e.0 e.1) es) (sym (ap (λ x. x.specs) same)) s.specs;
+      methods = subst (λ es. AllByRecursion (λ e. IsMethodToken b e.0 e.1) es) (sym (ap (λ x. x.methods) same)) s.methods;
+      fields = subst (λ es. AllByRecursion (λ e. IsFieldToken b e.0 e.1) es) (sym (ap (λ x. x.fields) same)) s.fields;
+      locals = subst (λ es. AllByRecursion (λ e. IsLocalsToken b e.0 e.1) es) (sym (ap (λ x. x.locals) same)) s.locals;
+      texts = subst (λ es. AllByRecursion (λ e. IsTextToken b e.0 e.1) es) (sym (ap (λ x. x.texts) same)) s.texts;
+    }

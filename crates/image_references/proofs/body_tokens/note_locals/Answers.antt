@@ -1,0 +1,22 @@
+use Rattle.std.proofs.Common.{◌≡◌, length, ◌+◌, ◌*◌, ◌≤◌, arith}
+use Rattle.std.specs.Prelude.{sum_by}
+use Rattle.assembly_tree.specs.Weight.{type_weight}
+use Rattle.image_references.specs.BodyTokens.{HaveLocalsToken}
+use Rattle.image_references.specs.Members.{HasLocals}
+use Rattle.image_references.proofs.BodyLemmas.{locals_noted, some_locals, nothing_noted}
+use Rattle.image_references.proofs.body_tokens.note_locals.Goals as goal
+
+pub returns-then-is_empty : goal.returns-then-is_empty
+returns-then-is_empty c =
+    nothing_noted (λ r. HaveLocalsToken r c.args.locals.now) c.args.refs.now _ c.requires.known (λ some. absurd (some (c.is_empty.ensures.0 c.if-is_empty.true)))
+
+pub refer_locals-requires-clause-room : goal.refer_locals-requires-clause-room
+refer_locals-requires-clause-room c =
+    let some = some_locals c.args.locals.now c.is_empty.result c.is_empty.ensures.1 c.if-is_empty.false in
+    let room = c.requires.room in
+    omega arith
+
+pub returns : goal.returns
+returns c =
+    let some = some_locals c.args.locals.now c.is_empty.result c.is_empty.ensures.1 c.if-is_empty.false in
+    locals_noted c.args.refs.now c.refer_locals.new.refs c.args.locals.now c.in_ok-refer_locals.field-0 some c.in_ok-refer_locals.ensures

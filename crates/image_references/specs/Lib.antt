@@ -1,0 +1,17 @@
+pub mod Blobs
+pub mod BodyTokens
+pub mod Chains
+pub mod Found
+pub mod Hashing
+pub mod Indexes
+pub mod KnownTokens
+pub mod Loaded
+pub mod Members
+pub mod NameTokens
+pub mod Noted
+pub mod References
+pub mod Rows
+pub mod Texts
+pub mod TypePaths
+pub mod Units
+pub mod Writable

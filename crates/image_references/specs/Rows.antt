@@ -1,0 +1,27 @@
+-- Rows that are found again by their cells.
+use Rattle.std.specs.Prelude.{◌≡◌, ℕ, ◌-◌, ◌<◌, ◌&&◌, Bool, nat_eq, List, Option, Some, slice_get}
+use Rattle.image_references.specs.declared.row_set.Cells.{Cells}
+
+-- the row with this number, counted from 1, has these cells
+pub record IsRowAt (rows : List Cells) (cells : Cells) (row : ℕ) : Type 0 where
+  pub counted : 0 < row
+  pub at : slice_get rows (row - 1) ≡ Some cells
+
+-- no row has these cells
+abbrev pub Lacks : List Cells → Cells → Type 0
+Lacks rows cells = (k : ℕ) → slice_get rows k ≡ Some cells → ⊥
+
+-- no two rows have the same cells
+abbrev pub AreDistinct : List Cells → Type 0
+AreDistinct rows = (j k : ℕ) (cells : Cells) → slice_get rows j ≡ Some cells → slice_get rows k ≡ Some cells → j ≡ k
+
+-- ---- rows in a list, where some may have the same cells
+
+-- whether two rows have the same cells
+abbrev pub are_same : Cells → Cells → Bool
+are_same a b = nat_eq a.first b.first && (nat_eq a.second b.second && nat_eq a.third b.third)
+
+-- cells lead to the place of a row that has them, counted from 0, where there is one
+pub record LeadsTo (places : Cells → Option ℕ) (rows : List Cells) : Type 0 where
+  pub right : (cells : Cells) (k : ℕ) → places cells ≡ Some k → slice_get rows k ≡ Some cells
+  pub reached : (cells : Cells) (k : ℕ) → slice_get rows k ≡ Some cells → (j : ℕ) × (places cells ≡ Some j)

@@ -1,0 +1,48 @@
+//! What is filled while an image is made: heaps, rows that are found again, and the tokens of what a tree
+//! names.
+use crate::heap_contents::Heaps;
+use crate::known::Known;
+use crate::row_list::RowList;
+use crate::row_set::RowSet;
+use std::alloc::Global;
+
+/// What is declared, as rows by which names and references find it: types by encloser, name and space,
+/// fields and methods by type, name and signature. Item k is row k + 1 of its table.
+#[derive(Drop)]
+pub struct Declared {
+    pub types: RowSet,
+    pub fields: RowList,
+    pub methods: RowList,
+}
+
+/// The rows of the tables of references: TypeRef, TypeSpec, MemberRef, MethodSpec and StandAloneSig.
+#[derive(Drop)]
+pub struct Referred {
+    pub names: RowSet,
+    pub specs: RowSet,
+    pub members: RowSet,
+    pub instances: RowSet,
+    pub locals: RowSet,
+}
+
+/// All of it together.
+#[derive(Drop)]
+pub struct References<'a> {
+    pub heaps: Heaps,
+    pub declared: Declared,
+    pub referred: Referred,
+    pub known: Known<'a>,
+}
+
+impl Referred {
+    /// No rows. Takes no memory.
+    pub fn new(alloc: Global) -> Referred {
+        Referred {
+            names: RowSet::new(alloc),
+            specs: RowSet::new(alloc),
+            members: RowSet::new(alloc),
+            instances: RowSet::new(alloc),
+            locals: RowSet::new(alloc),
+        }
+    }
+}

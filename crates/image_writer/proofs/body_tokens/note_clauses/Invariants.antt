@@ -1,9 +1,0 @@
-use Rattle.std.proofs.Common.{drop}
-use Rattle.assembly_tree.specs.Weight.{clause_weight}
-use Rattle.image_writer.specs.BodyTokens.{HasClauseToken}
-use Rattle.image_writer.specs.Writable.{IsClauseWritable}
-use Rattle.image_writer.proofs.StepLemmas.{AreDoneTo}
-use Rattle.image_writer.proofs.body_tokens.note_clauses.Given as goal
-
-abbrev pub invariant-loop-clause : goal.invariant-loop-clause
-invariant-loop-clause l = AreDoneTo clause_weight IsClauseWritable HasClauseToken l.initial.refs l.refs l.clauses (drop l.clause-index l.clauses)
