@@ -62,10 +62,10 @@ rule_custom : ilasm CUSTOM ≡ Some (rule_of n.CUSTOM custom_body)
 unfolding ilasm rule_by
 rule_custom = refl
 
-abbrev one_body : List Symbol
+abbrev pub one_body : List Symbol
 one_body = Nonterminal n.CUSTOM ∷ []
 
-holds_method : (s : Source) (f : Forest) → Fits s one_body f → HasBodies s f → has METHOD_REF f ≡ true
+pub holds_method : (s : Source) (f : Forest) → Fits s one_body f → HasBodies s f → has METHOD_REF f ≡ true
 holds_method s f fits bodies =
     let own = fits_child (FitsBody s) s one_body f n.CUSTOM CUSTOM fits bodies refl (λ q i j. one_custom q i) in
     let below = child (CUSTOM ∷ []) f in

@@ -69,3 +69,18 @@ array_at s p k f e h = of_kind (slice_get s.tokens (leaf_at k f)) t.BYTE_ARRAY k
 
 pub real_at : (s : Source) (p k : ℕ) (f : Forest) → slice_get (terminals_of_rule (ilasm p)) k ≡ Some t.REAL_BYTES → FitsBody s p f → IsOf s kind.RealBytes (leaf_at k f)
 real_at s p k f e h = of_kind (slice_get s.tokens (leaf_at k f)) t.REAL_BYTES kind.RealBytes kind_real (by_rule s (ilasm p) f h k t.REAL_BYTES e)
+
+kind_string : (k : TokenKind) → terminal_of k ≡ t.QSTRING → k ≡ kind.QString
+kind_string kind.Name e = absurd cc
+kind_string kind.Scope e = absurd cc
+kind_string kind.Int e = absurd cc
+kind_string kind.QString e = refl
+kind_string kind.EqBytes e = absurd cc
+kind_string kind.ByteArray e = absurd cc
+kind_string kind.RealBytes e = absurd cc
+kind_string kind.Hash e = absurd cc
+kind_string kind.Unused e = absurd cc
+kind_string (kind.Word k) e = absurd (word_is_more k 3 (omega arith) e)
+
+pub string_at : (s : Source) (p k : ℕ) (f : Forest) → slice_get (terminals_of_rule (ilasm p)) k ≡ Some t.QSTRING → FitsBody s p f → IsOf s kind.QString (leaf_at k f)
+string_at s p k f e h = of_kind (slice_get s.tokens (leaf_at k f)) t.QSTRING kind.QString kind_string (by_rule s (ilasm p) f h k t.QSTRING e)

@@ -145,7 +145,7 @@ fn word_type(production: u16) -> Option<Prim>
 }
 
 /// The integer type whose word stands in a forest.
-fn int_type(nodes: &[TreeNode]) -> Prim
+pub fn int_type(nodes: &[TreeNode]) -> Prim
     requires { IsForest nodes.now }
     ensures { (f : Forest) → preorder f ≡ nodes.now → result ≡ int_type f }
 {

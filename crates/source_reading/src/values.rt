@@ -8,5 +8,5 @@ pub mod integers;
 mod names;
 mod quotes;
 pub mod spellings;
-mod texts;
+pub mod texts;
 pub mod type_names;
