@@ -60,7 +60,7 @@ is_interface s f = not (bit_and (type_flags s f) 0x20 == 0)
 
 -- a class without a base of its own gets `System.Object`
 abbrev pub wants_object : Source → Around → Forest → Bool
-wants_object s a f = not (is_interface s f || has EXTENDS_OPT_SOME f || is_root a.path)
+wants_object s a f = not (is_interface s f || has EXTENDS (child (EXTENDS_OPT_SOME ∷ []) f) || is_root a.path)
 
 -- the base of a class. An interface has none, whatever it names, and the root has none where it names none.
 abbrev pub base : Source → Around → Forest → Option Owner

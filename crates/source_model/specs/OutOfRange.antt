@@ -1,6 +1,6 @@
 -- Numbers, counts, depths and data out of their bounds, outside of instructions (ECMA-335 II.6.2, II.10.7, II.15.4, II.16.2, II.16.3,
 -- II.22, II.23.1, II.25.2.3).
-use Rattle.std.specs.Prelude.{ℕ, ◌+◌, ◌-◌, ◌==◌, ◌&&◌, ◌||◌, ◌^◌, nat_lt, nat_le, Bool, false, not, if◌then◌else◌, ℤ, pos, negsuc, List, [], ◌∷◌, ◌++◌, length, bit_and, Option, None, Some}
+use Rattle.std.specs.Prelude.{ℕ, ◌+◌, ◌-◌, ◌==◌, ◌&&◌, ◌||◌, ◌^◌, nat_lt, nat_le, min, Bool, false, not, if◌then◌else◌, ℤ, pos, negsuc, List, [], ◌∷◌, ◌++◌, length, bit_and, Option, None, Some}
 use Rattle.std.specs.List.{flat_map}
 use Rattle.assembly_tree.specs.WellFormed.{is_image_base, is_file_alignment}
 use Rattle.assembly_tree.specs.WellFormedTypes.{is_pack}
@@ -173,11 +173,15 @@ abbrev pub data_named_length : Source → Option Forest → Option ℕ
 data_named_length s None = None
 data_named_length s (Some f) = Some (data_length s f)
 
+-- Bytes are counted up to 2^32: only a number that is out of its range itself, in `.size` or as a repeat, gives so many.
+abbrev pub counted : ℕ → ℕ
+counted n = min n 0x100000000
+
 -- data with fewer bytes than the field has: the label behind `at`
 abbrev pub label_if_short : Option ℕ → Option ℕ → ℕ → List ℕ
 label_if_short None length k = []
 label_if_short (Some size) None k = []
-label_if_short (Some size) (Some length) k = if nat_lt length size then k ∷ [] else []
+label_if_short (Some size) (Some length) k = if nat_lt (counted length) (counted size) then k ∷ [] else []
 
 abbrev pub data_too_short_of : Source → Node → List ℕ
 data_too_short_of s n =

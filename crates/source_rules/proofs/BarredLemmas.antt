@@ -1,9 +1,7 @@
 -- What a reference or a property can't have.
 use Rattle.std.proofs.Common.{◌≡◌, ℕ, List, [], ◌∷◌, ◌++◌, ap, sym, ◌∙◌, refl, arith}
-use Rattle.std.specs.Prelude.{Bool, true, false, ◌==◌, nat_lt, if◌then◌else◌, map, drop, Option, None, Some}
-use Rattle.ilasm_grammar.specs.declared.productions.TheConstants.{CALL_CONV, CALL_KIND_VARARG, EXPLICIT_OPT_SOME}
-use Rattle.source_model.specs.Forest.{Forest, Part, below_each, child, each, first_token, has, is_any_part, parts}
-use Rattle.source_model.specs.Signatures.{conventions, ellipses, not_in_property}
+use Rattle.std.specs.Prelude.{true, false, map, Option, None, Some}
+use Rattle.source_model.specs.Forest.{Forest, Part, below_each, each, first_token, has, is_any_part, parts}
 use Rattle.source_reading.specs.Least.{least, sooner}
 use Rattle.source_reading.proofs.LeastLemmas.{least_append}
 

@@ -3,7 +3,6 @@ use Rattle.std.proofs.Common.{◌≡◌, ℕ, suc, ◌+◌, List, [], ◌∷◌,
 use Rattle.std.specs.Prelude.{Bool, true, false, ◌==◌, ◌||◌, if◌then◌else◌, filter, is_some}
 use Rattle.std.specs.List.{list_any}
 use Rattle.std.proofs.lemmas.List.{map-append, take-append-drop}
-use Rattle.std.proofs.lemmas.Bool.Decides.{Decides-eqb}
 use Rattle.type_terms.specs.declared.name.TypeId.{TypeId}
 use Rattle.assembly_tree.specs.DataSize.{is_id}
 use Rattle.ilasm_grammar.specs.declared.productions.TheConstants.{CLASS, METHOD}

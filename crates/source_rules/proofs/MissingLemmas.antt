@@ -1,19 +1,17 @@
 -- Names that aren't declared, from what is found of them.
-use Rattle.std.proofs.Common.{◌≡◌, ℕ, suc, ◌+◌, inl, inr, List, [], ◌∷◌, ◌++◌, Option, None, Some, length, cond, map, refl, ap, sym, ◌∙◌, arith}
+use Rattle.std.proofs.Common.{◌≡◌, ℕ, suc, ◌+◌, List, [], ◌∷◌, ◌++◌, None, Some, length, cond, map, refl, ap, sym, ◌∙◌, arith}
 use Rattle.std.specs.Prelude.{Bool, true, false, not, ◌||◌, ◌==◌, if◌then◌else◌, nat_lt, position, bytes_eq, is_some, find, filter}
 use Rattle.std.specs.List.{flat_map, list_any, position_or_len}
-use Rattle.std.proofs.lemmas.Bool.{cases_Bool, ltb-true}
-use Rattle.ilasm_grammar.specs.declared.productions.TheConstants.{AT_NAME, DATA}
-use Rattle.source_model.specs.Data.{data_named, label_token, labelled}
-use Rattle.source_model.specs.Forest.{Forest, each, has, leaf_at}
-use Rattle.source_model.specs.Nodes.{Node, nodes, nodes_of}
+use Rattle.ilasm_grammar.specs.declared.productions.TheConstants.{AT_NAME}
+use Rattle.source_model.specs.Data.{label_token, labelled}
+use Rattle.source_model.specs.Forest.{Forest, leaf_at}
+use Rattle.source_model.specs.Nodes.{Node, nodes}
 use Rattle.source_model.specs.Source.{Source}
-use Rattle.source_model.specs.TypeRules.{name_unless_among, typar_undeclared}
-use Rattle.source_model.specs.Undeclared.{data_undeclared, label_undeclared_of, param_type_undeclared}
+use Rattle.source_model.specs.TypeRules.{name_unless_among}
+use Rattle.source_model.specs.Undeclared.{data_undeclared, label_undeclared_of}
 use Rattle.source_model.specs.Values.{name_text}
 use Rattle.source_reading.specs.Least.{least}
 use Rattle.source_rules.specs.Missing.{label_missing}
-use Rattle.source_reading.proofs.NamingLemmas.{labels_are}
 use Rattle.source_reading.proofs.ScopeLemmas.{either_way}
 
 -- ---- the first that passes is there where any passes

@@ -111,7 +111,7 @@ module _ (s : Source) (keys own : List (List ℕ)) (k : keys ≡ map (name_text 
   written_scope_is None = refl
   written_scope_is (Some j) = scope_is (scope_text s j)
 
-  one_scope : (w : Option Written) → scope_missing_in keys own s w ≡ scope_undeclared_in s w
+  pub one_scope : (w : Option Written) → scope_missing_in keys own s w ≡ scope_undeclared_in s w
   one_scope None = refl
   one_scope (Some w) = ap (λ x. scope_token_unless (is_some x) w.scope) (written_scope_is w.scope)
 
@@ -125,7 +125,7 @@ module _ (s : Source) (keys own : List (List ℕ)) (k : keys ≡ map (name_text 
     one_path (j ∷ js) (Some (Extern n)) = refl
     one_path (j ∷ js) (Some Here) = ap (λ (b : Bool). if b then [] else j ∷ []) (declared_is s cs knows (type_id s j) (map (type_id s) js))
 
-    one_type : (w : Option Written) → type_missing_in keys own cs s w ≡ type_undeclared_in s w
+    pub one_type : (w : Option Written) → type_missing_in keys own cs s w ≡ type_undeclared_in s w
     one_type None = refl
     one_type (Some w) = ap (path_missing cs s w.path) (written_scope_is w.scope) ∙ one_path w.path (written_scope s w.scope)
 

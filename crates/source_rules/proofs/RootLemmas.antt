@@ -5,10 +5,10 @@ use Rattle.std.specs.List.{flat_map, list_any}
 use Rattle.std.proofs.lemmas.Grind.{flat_map-append}
 use Rattle.type_terms.specs.declared.name.Scope.TheVariants.{Here}
 use Rattle.type_terms.specs.declared.name.TypeId.{TypeId}
-use Rattle.ilasm_grammar.specs.declared.productions.TheConstants.{CLASS, METHOD, EXTENDS_OPT_SOME}
+use Rattle.ilasm_grammar.specs.declared.productions.TheConstants.{CLASS, METHOD, EXTENDS, EXTENDS_OPT_SOME}
 use Rattle.source_model.specs.Classes.{core_scope, is_core, is_interface, is_root, object_scope, system_object, wants_object}
 use Rattle.source_model.specs.Forest as tree
-use Rattle.source_model.specs.Forest.{Forest, has}
+use Rattle.source_model.specs.Forest.{Forest, child, has}
 use Rattle.source_model.specs.Names.{classes, externs, is_declared_path}
 use Rattle.source_model.specs.Nodes.{Around, Node, class_token, entered, nodes, nodes_in, nothing_around, type_id}
 use Rattle.source_model.specs.Source.{Source}
@@ -57,7 +57,7 @@ module _ (s : Source) where
           ≡ (if c then wanting (record { production = p; below = b; around = entered s a p b }) else [])
       go false e = refl
       go true e =
-          ap (λ (r : Bool). if not (is_interface s b || has EXTENDS_OPT_SOME b || r) then class_token b ∷ [] else [])
+          ap (λ (r : Bool). if not (is_interface s b || has EXTENDS (child (EXTENDS_OPT_SOME ∷ []) b) || r) then class_token b ∷ [] else [])
           (sym (ap is_root (path_is a p b e) ∙ root_is s a.path (class_token b) ∙ ap (λ path. is_root_named s (length path) (class_token b)) (sym (path_is a p b e))))
 
   every_class : (a : Around) (f : Forest) → flat_map (rootless s) (nodes_in s a f) ≡ flat_map wanting_class (nodes_in s a f)
@@ -151,19 +151,19 @@ named_at s depth n token name e same =
 module _ (s : Source) (n : Node) where
   pub root_alone : is_root_named s (length n.around.path) (class_token n.below) ≡ true → None ≡ least (if is_rootless s n then class_token n.below ∷ [] else [])
   root_alone e =
-      sym (ap (λ (r : Bool). least (if not (is_interface s n.below || has EXTENDS_OPT_SOME n.below || r) then class_token n.below ∷ [] else [])) e
-      ∙ go (is_interface s n.below) (has EXTENDS_OPT_SOME n.below))
+      sym (ap (λ (r : Bool). least (if not (is_interface s n.below || has EXTENDS (child (EXTENDS_OPT_SOME ∷ []) n.below) || r) then class_token n.below ∷ [] else [])) e
+      ∙ go (is_interface s n.below) (has EXTENDS (child (EXTENDS_OPT_SOME ∷ []) n.below)))
     where
       go : (i h : Bool) → least (if not (i || h || true) then class_token n.below ∷ [] else []) ≡ None
       go true h = refl
       go false true = refl
       go false false = refl
 
-  pub without_base : (token : ℕ) → is_interface s n.below ≡ false → has EXTENDS_OPT_SOME n.below ≡ false
+  pub without_base : (token : ℕ) → is_interface s n.below ≡ false → has EXTENDS (child (EXTENDS_OPT_SOME ∷ []) n.below) ≡ false
       → is_root_named s (length n.around.path) (class_token n.below) ≡ false → token ≡ class_token n.below
       → Some token ≡ least (if is_rootless s n then class_token n.below ∷ [] else [])
   without_base token i h r same =
       ap Some same
-      ∙ sym (ap (λ (b : Bool). least (if not (b || has EXTENDS_OPT_SOME n.below || is_root_named s (length n.around.path) (class_token n.below)) then class_token n.below ∷ [] else [])) i
+      ∙ sym (ap (λ (b : Bool). least (if not (b || has EXTENDS (child (EXTENDS_OPT_SOME ∷ []) n.below) || is_root_named s (length n.around.path) (class_token n.below)) then class_token n.below ∷ [] else [])) i
       ∙ ap (λ (b : Bool). least (if not (b || is_root_named s (length n.around.path) (class_token n.below)) then class_token n.below ∷ [] else [])) h
       ∙ ap (λ (b : Bool). least (if not b then class_token n.below ∷ [] else [])) r)

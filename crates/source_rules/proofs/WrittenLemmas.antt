@@ -1,6 +1,6 @@
 -- Types' names as they are written: which of their tokens are names.
 use Rattle.std.proofs.Common.{◌≡◌, ℕ, List, [], ◌∷◌, ◌++◌, Option, None, Some, map, refl, ap, sym, subst, ◌∙◌}
-use Rattle.std.specs.Prelude.{Bool, true, false, ◌==◌, ◌||◌, if◌then◌else◌, slice_get, ⊤, All}
+use Rattle.std.specs.Prelude.{Bool, true, false, ◌==◌, ◌||◌, if◌then◌else◌, slice_get, ⊤}
 use Rattle.std.proofs.lemmas.Bool.Decides.{Decides-eqb}
 use Rattle.std.specs.List.{flat_map}
 use Rattle.std.proofs.lemmas.Option.{same_Some}
@@ -15,11 +15,11 @@ use Rattle.ilasm_grammar.specs.declared.terminals.TheConstants as t
 use Rattle.source_model.specs.Forest.{Forest, none, leaf, branch, child, each, has, leaf_at}
 use Rattle.source_model.specs.Names.{Written, name_and_tail, path_tokens, with_scope, without_scope, written_name}
 use Rattle.source_model.specs.Source.{Source}
-use Rattle.source_reading.specs.Derived.{Fits, FitsRule, FitsBody, HasBodies, head_of}
+use Rattle.source_reading.specs.Derived.{Fits, FitsRule, FitsBody, HasBodies}
 use Rattle.source_reading.specs.Namings.{names_in}
 use Rattle.source_reading.specs.Readers.{IsOf}
 use Rattle.source_reading.specs.declared.name_lists.Naming.TheVariants.{Slash}
-use Rattle.source_reading.proofs.NameTokens.{Each, IsBody, all_of_each, each_body, name_at, scope_at, terminals_of_rule}
+use Rattle.source_reading.proofs.NameTokens.{Each, IsBody, each_body, name_at, scope_at, terminals_of_rule}
 use Rattle.source_rules.proofs.SignatureParts.{tail_of_field_target, tail_of_target}
 use Rattle.source_reading.proofs.WrittenNames.{one_path, path_begins, slash_names}
 

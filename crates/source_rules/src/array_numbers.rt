@@ -29,7 +29,7 @@ use std::alloc::Global;
 const MOST_COMMAS: u8 = 31;
 
 /// The least number of an array's shape that is out of its range, or what of the shape stands at a wrong place.
-pub(crate) fn array_number(
+pub fn array_number(
     alloc: Global,
     reader: &Reader,
     production: u16,

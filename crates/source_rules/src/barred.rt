@@ -21,11 +21,7 @@ use source_reading::reader::Reader;
 use source_reading::walk::{child, has, leaf_at, the};
 
 /// The number of a parameter's `flags(n)` that is out of its range.
-pub(crate) fn parameter_flags_number(
-    reader: &Reader,
-    production: u16,
-    below: &[TreeNode],
-) -> Option<u32>
+pub fn parameter_flags_number(reader: &Reader, production: u16, below: &[TreeNode]) -> Option<u32>
     requires { IsForest below.now }
     ensures { (s : Source) (n : Node) → Reads reader.now s → n.production ≡ production → preorder n.below ≡ below.now → result ≡ least (parameter_flags_out_of_range s n) }
 {
@@ -36,7 +32,7 @@ pub(crate) fn parameter_flags_number(
 }
 
 /// The `<` of generic arguments of an attribute, an overridden method or an accessor.
-pub(crate) fn barred_argument(production: u16, below: &[TreeNode]) -> Option<u32>
+pub fn barred_argument(production: u16, below: &[TreeNode]) -> Option<u32>
     requires { IsForest below.now }
     ensures { (n : Node) → n.production ≡ production → preorder n.below ≡ below.now → result ≡ least (barred_arguments n) }
 {
@@ -56,8 +52,8 @@ pub(crate) fn barred_argument(production: u16, below: &[TreeNode]) -> Option<u32
     }
 }
 
-// The `<` of a reference's generic arguments.
-fn generic_arguments(reference: &[TreeNode]) -> Option<u32>
+/// The `<` of a reference's generic arguments.
+pub fn generic_arguments(reference: &[TreeNode]) -> Option<u32>
     requires { IsForest reference.now }
     ensures { (f : Forest) → preorder f ≡ reference.now → result ≡ least (generic_arguments_token f) }
 {
@@ -70,7 +66,7 @@ fn generic_arguments(reference: &[TreeNode]) -> Option<u32>
 }
 
 /// The least `...`, `explicit` or `vararg` of a property.
-pub(crate) fn barred_of_property(production: u16, below: &[TreeNode]) -> Option<u32>
+pub fn barred_of_property(production: u16, below: &[TreeNode]) -> Option<u32>
     requires { IsForest below.now }
     ensures { (n : Node) → n.production ≡ production → preorder n.below ≡ below.now → result ≡ least (barred_in_property n) }
 {
@@ -81,7 +77,7 @@ pub(crate) fn barred_of_property(production: u16, below: &[TreeNode]) -> Option<
 }
 
 /// The same, from what stands below the property's production.
-pub(crate) fn not_in_property(property: &[TreeNode]) -> Option<u32>
+pub fn not_in_property(property: &[TreeNode]) -> Option<u32>
     requires { IsForest property.now }
     ensures { (f : Forest) → preorder f ≡ property.now → result ≡ least (not_in_property f) }
 {

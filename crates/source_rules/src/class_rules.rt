@@ -27,20 +27,20 @@ use type_terms::TypeId;
 /// The classes of a source by their paths, and the least of their names whose path is that of an earlier one, or of the class
 /// that needs no declaration.
 #[derive(Drop)]
-pub(crate) struct Classes {
+pub struct Classes {
     pub paths: ClassPaths,
     pub again: Option<u32>,
 }
 
 /// The number of a class, and the token of its name where its path was there already.
 #[derive(Debug, Clone, Copy, Drop)]
-pub(crate) struct Entered {
+pub struct Entered {
     pub number: usize,
     pub again: Option<u32>,
 }
 
 /// The classes of a source.
-pub(crate) fn collect_classes(alloc: Global, reader: &Reader) -> Result<Classes, NoMemory>
+pub fn collect_classes(alloc: Global, reader: &Reader) -> Result<Classes, NoMemory>
     requires { IsForest reader.now.nodes.now }
     ensures { (s : Source) → Reads reader.now s → IfOk result (λ c. AreClasses s c) }
 {

@@ -17,7 +17,7 @@ use source_reading::reader::Reader;
 use source_reading::walk::{leaf_at, next};
 
 /// The bytes of a value of a class, where its layout states them: its class size, counted up to 2^32.
-pub(crate) fn class_size(reader: &Reader, class: &[TreeNode]) -> Option<u64>
+pub fn class_size(reader: &Reader, class: &[TreeNode]) -> Option<u64>
     requires { IsForest class.now }
     ensures { (s : Source) (f : Forest) → Reads reader.now s → preorder f ≡ class.now →
         result ≡ option_map (λ (n : ℕ). min n 0x100000000) (layout_size (layout s f)) }

@@ -28,7 +28,7 @@ use std::alloc::Global;
 const MOST: u32 = 67_108_864;
 
 /// The first token of the item with which data has more than 67,108,864 bytes.
-pub(crate) fn data_too_long(
+pub fn data_too_long(
     alloc: Global,
     reader: &Reader,
     production: u16,
@@ -84,7 +84,7 @@ fn item_past_length(
 }
 
 /// Whether a production is an item of data.
-pub(crate) fn is_item(production: u16) -> bool
+pub fn is_item(production: u16) -> bool
     ensures { result ≡ is_item production }
 {
     production == productions::DATA_ITEM_BYTES || production == productions::DATA_ITEM_DATA_NUM
@@ -145,7 +145,7 @@ fn repeat_of(value: i128) -> Option<u32>
 }
 
 /// How many bytes `bytearray ( .. )` has.
-pub(crate) fn byte_count(alloc: Global, reader: &Reader, token: u32) -> Result<u64, NoMemory>
+pub fn byte_count(alloc: Global, reader: &Reader, token: u32) -> Result<u64, NoMemory>
     ensures { (s : Source) → Reads reader.now s → IsOf s ByteArray token → IfOk result (λ n. n ≡ length (array_bytes s token)) }
 {
     let bytes = reader.array_bytes(alloc, token)?;
@@ -161,7 +161,7 @@ fn number_length(item: &[TreeNode]) -> u8
 }
 
 /// The bytes of a width.
-pub(crate) fn width_length(width: Width) -> u8
+pub fn width_length(width: Width) -> u8
     ensures { result ≡ bits_in width / 8 }
 {
     match width {

@@ -22,7 +22,7 @@ use source_reading::walk::{has, the};
 const MOST: u32 = 67_108_864;
 
 /// The least number of an item of data that is out of its range.
-pub(crate) fn data_number(reader: &Reader, production: u16, below: &[TreeNode]) -> Option<u32>
+pub fn data_number(reader: &Reader, production: u16, below: &[TreeNode]) -> Option<u32>
     requires { IsForest below.now }
     ensures { (s : Source) (n : Node) → Reads reader.now s → n.production ≡ production → preorder n.below ≡ below.now → result ≡ least (data_number_out_of_range s n) }
 {
@@ -48,7 +48,7 @@ fn item_number(reader: &Reader, item: &[TreeNode]) -> Option<u32>
 }
 
 /// The width of the numbers of an item.
-pub(crate) fn item_width(item: &[TreeNode]) -> Width
+pub fn item_width(item: &[TreeNode]) -> Width
     requires { IsForest item.now }
     ensures { (f : Forest) → preorder f ≡ item.now → bits_in result ≡ item_bits f }
 {

@@ -21,7 +21,7 @@ use std::alloc::Global;
 
 /// The least name in brackets that is no assembly's, or name of a class that would have `System.Object` as its base where that
 /// stands nowhere.
-pub(crate) fn extern_undeclared(
+pub fn extern_undeclared(
     alloc: Global,
     reader: &Reader,
     externs: &Named,

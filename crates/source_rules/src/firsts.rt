@@ -12,7 +12,7 @@ use source_model::the_first_is_least;
 
 /// The least tokens of what is declared twice, rule by rule.
 #[derive(Debug, Clone, Copy, Drop)]
-pub(crate) struct Twice {
+pub struct Twice {
     /// Types.
     pub types: Option<u32>,
     /// Members of a class.
@@ -31,7 +31,7 @@ pub(crate) struct Twice {
 
 /// The least tokens of what is named and not declared, rule by rule.
 #[derive(Debug, Clone, Copy, Drop)]
-pub(crate) struct Undeclared {
+pub struct Undeclared {
     /// Types.
     pub types: Option<u32>,
     /// Assemblies, and `System.Object`.
@@ -52,7 +52,7 @@ pub(crate) struct Undeclared {
 
 /// The least tokens of what is out of its bounds, rule by rule.
 #[derive(Debug, Clone, Copy, Drop)]
-pub(crate) struct Unbounded {
+pub struct Unbounded {
     /// Numbers and counts.
     pub numbers: Option<u32>,
     /// Short branches.
@@ -73,7 +73,7 @@ pub(crate) struct Unbounded {
 
 /// The first of what is declared twice.
 #[tactic(auto, unfolding(source_model::specs::Denotes::broken_d))]
-pub(crate) fn first_twice(least: &Twice) -> Option<Breach>
+pub fn first_twice(least: &Twice) -> Option<Breach>
     ensures { (s : Source) → AreTwice s least.now → any_broken result ≡ earliest (broken_d s) }
 {
     the_first_is_least();
@@ -94,7 +94,7 @@ pub(crate) fn first_twice(least: &Twice) -> Option<Breach>
 
 /// The first of what is named and not declared.
 #[tactic(auto, unfolding(source_model::specs::Denotes::broken_n))]
-pub(crate) fn first_undeclared(least: &Undeclared) -> Option<Breach>
+pub fn first_undeclared(least: &Undeclared) -> Option<Breach>
     ensures { (s : Source) → AreUndeclared s least.now → any_broken result ≡ earliest (broken_n s) }
 {
     the_first_is_least();
@@ -117,7 +117,7 @@ pub(crate) fn first_undeclared(least: &Undeclared) -> Option<Breach>
 
 /// The first of what is out of its bounds.
 #[tactic(auto, unfolding(source_model::specs::Denotes::broken_b))]
-pub(crate) fn first_unbounded(least: &Unbounded) -> Option<Breach>
+pub fn first_unbounded(least: &Unbounded) -> Option<Breach>
     ensures { (s : Source) → AreUnbounded s least.now → any_broken result ≡ earliest (broken_b s) }
 {
     the_first_is_least();

@@ -1,25 +1,24 @@
 //! The rules that a source's declarations, names and numbers must meet (ECMA-335 II.5.8, II.10, II.15, II.23.2), each with
-//! the least token at which it is broken, and the first of each class of rules from the least tokens of its rules. No pass
-//! calls them yet: all of it is private until one does.
+//! the least token at which it is broken, and the first of each class of rules from the least tokens of its rules.
 #![tactic(auto)]
 
-mod array_numbers;
-mod barred;
-mod class_rules;
-mod class_sizes;
-mod data_lengths;
-mod data_numbers;
-mod extern_rules;
-mod firsts;
-mod mapped_data;
-mod merging;
-mod named_types;
-mod nestings;
-mod number_rules;
-mod out_of_range;
-mod param_numbers;
-mod roots;
-mod stated_sizes;
-mod type_depths;
-mod undeclared;
-mod written;
+pub mod array_numbers;
+pub mod barred;
+pub mod class_rules;
+pub mod class_sizes;
+pub mod data_lengths;
+pub mod data_numbers;
+pub mod extern_rules;
+pub mod firsts;
+pub mod mapped_data;
+pub mod merging;
+pub mod named_types;
+pub mod nestings;
+pub mod number_rules;
+pub mod out_of_range;
+pub mod param_numbers;
+pub mod roots;
+pub mod stated_sizes;
+pub mod type_depths;
+pub mod undeclared;
+pub mod written;

@@ -32,7 +32,7 @@ use std::alloc::Global;
 const MOST: u64 = 0x1_0000_0000;
 
 /// The length of the first data with this label, counted up to 2^32.
-pub(crate) fn length_named(labels: &Named, lengths: &[u64], label: &[u8]) -> Option<u64>
+pub fn length_named(labels: &Named, lengths: &[u64], label: &[u8]) -> Option<u64>
     ensures { (s : Source) → AreNames s naming.Label labels.now → lengths.now ≡ map (counted_length s) (labelled s) →
         result ≡ option_map (counted_length s) (data_named s label.now) }
 {
@@ -49,7 +49,7 @@ fn length_at(lengths: &[u64], k: usize) -> Option<u64>
 }
 
 /// The lengths of the data with labels, in order, each counted up to 2^32.
-pub(crate) fn lengths(alloc: Global, reader: &Reader) -> Result<Items<u64>, NoMemory>
+pub fn lengths(alloc: Global, reader: &Reader) -> Result<Items<u64>, NoMemory>
     requires { IsForest reader.now.nodes.now }
     ensures { (s : Source) → Reads reader.now s → IfOk result (λ ns. ns ≡ map (counted_length s) (labelled s)) }
 {
@@ -152,7 +152,7 @@ fn item_count(reader: &Reader, item: &[TreeNode]) -> u64
 }
 
 /// The number that an INT spells, counted up to 2^32; 0 for a negative one.
-pub(crate) fn natural(reader: &Reader, token: u32) -> u64
+pub fn natural(reader: &Reader, token: u32) -> u64
     ensures few { result ≤ 0x100000000 }
     ensures number { (s : Source) → Reads reader.now s → result ≡ min (natural (int_at s token)) 0x100000000 }
 {

@@ -7,13 +7,13 @@ ghost use Rattle.source_reading.specs.Least.{least};
 
 /// A rule, by its number in its class, is broken at a token.
 #[derive(Debug, Clone, Copy, PartialEq, Eq, Drop)]
-pub(crate) struct Breach {
+pub struct Breach {
     pub token: u32,
     pub rule: u8,
 }
 
 /// The first of what is broken by one rule, from the least of its tokens.
-pub(crate) fn of_rule(rule: u8, token: Option<u32>) -> Option<Breach>
+pub fn of_rule(rule: u8, token: Option<u32>) -> Option<Breach>
     ensures { (ks : List ℕ) → token ≡ least ks → any_broken result ≡ earliest (rule_at rule ks) }
 {
     match token {
@@ -23,7 +23,7 @@ pub(crate) fn of_rule(rule: u8, token: Option<u32>) -> Option<Breach>
 }
 
 /// The first of two: the one at the lesser token, and of two at one token that of the lesser rule.
-pub(crate) fn earlier(first: Option<Breach>, second: Option<Breach>) -> Option<Breach>
+pub fn earlier(first: Option<Breach>, second: Option<Breach>) -> Option<Breach>
     ensures { any_broken result ≡ earlier (any_broken first) (any_broken second) }
 {
     match (first, second) {

@@ -31,7 +31,7 @@ use std::alloc::Global;
 
 /// Which assembly a name in brackets stands for.
 #[derive(Debug, Clone, Copy, PartialEq, Eq, Drop)]
-pub(crate) enum Standing {
+pub enum Standing {
     /// This one.
     Here,
     /// A referenced one.
@@ -41,7 +41,7 @@ pub(crate) enum Standing {
 }
 
 /// The least first name of a path that no class of the source has.
-pub(crate) fn type_undeclared(
+pub fn type_undeclared(
     alloc: Global,
     reader: &Reader,
     externs: &Named,
@@ -65,7 +65,7 @@ pub(crate) fn type_undeclared(
 }
 
 /// The least name in brackets that is no assembly's.
-pub(crate) fn scope_undeclared(
+pub fn scope_undeclared(
     alloc: Global,
     reader: &Reader,
     externs: &Named,
@@ -83,18 +83,19 @@ pub(crate) fn scope_undeclared(
     Ok(first)
 }
 
-// The keys of the referenced assemblies, and the names of this one, of which the first counts.
+/// Names in brackets are those of assemblies: the keys of the referenced ones, and the names of this one, of which the first
+/// counts.
 #[derive(Clone, Copy)]
-struct Scopes<'a> {
-    keys: &'a Declared,
-    own: &'a Declared,
+pub struct Scopes<'a> {
+    pub keys: &'a Declared,
+    pub own: &'a Declared,
 }
 
-// Paths of this assembly are those of its classes.
+/// Paths of this assembly are those of its classes.
 #[derive(Clone, Copy)]
-struct Types<'a> {
-    scopes: Scopes<'a>,
-    classes: &'a ClassPaths,
+pub struct Types<'a> {
+    pub scopes: Scopes<'a>,
+    pub classes: &'a ClassPaths,
 }
 
 impl<'a> Scopes<'a> {

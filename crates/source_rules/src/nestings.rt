@@ -21,7 +21,7 @@ use source_reading::walk::{child, count, has, leaf_at};
 use std::alloc::Global;
 
 /// The least name of a class, or first name of a path, that nests deeper than 100.
-pub(crate) fn nesting_too_deep(alloc: Global, reader: &Reader) -> Result<Option<u32>, NoMemory>
+pub fn nesting_too_deep(alloc: Global, reader: &Reader) -> Result<Option<u32>, NoMemory>
     requires { IsForest reader.now.nodes.now }
     ensures { (s : Source) → Reads reader.now s → IfOk result (λ k. k ≡ least (nestings_too_deep s)) }
 {
@@ -61,8 +61,12 @@ fn deep_class(place: &Surrounding, production: u16, below: &[TreeNode]) -> Optio
     }
 }
 
-// The first name of a path that is too long, where this production begins with one.
-fn long_path(alloc: Global, production: u16, below: &[TreeNode]) -> Result<Option<u32>, NoMemory>
+/// The first name of a path that is too long, where this production begins with one.
+pub fn long_path(
+    alloc: Global,
+    production: u16,
+    below: &[TreeNode],
+) -> Result<Option<u32>, NoMemory>
     requires { IsForest below.now }
     ensures { (n : Node) → n.production ≡ production → preorder n.below ≡ below.now → IfOk result (λ k. k ≡ least (path_too_long n)) }
 {

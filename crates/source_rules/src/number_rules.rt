@@ -21,7 +21,7 @@ use source_reading::reader::Reader;
 use source_reading::walk::{child, has, last_token, leaf_at, the};
 
 /// The least number of the manifest that is out of its range, where this production is one of its lines.
-pub(crate) fn manifest_number(reader: &Reader, production: u16, below: &[TreeNode]) -> Option<u32>
+pub fn manifest_number(reader: &Reader, production: u16, below: &[TreeNode]) -> Option<u32>
     requires { IsForest below.now }
     ensures { (s : Source) (n : Node) → Reads reader.now s → n.production ≡ production → preorder n.below ≡ below.now → result ≡ least (manifest_number_out_of_range s n) }
 {
@@ -50,7 +50,7 @@ fn version_number(reader: &Reader, below: &[TreeNode]) -> Option<u32>
 }
 
 /// The number of `flags(n)` that is out of its range, where this production holds it.
-pub(crate) fn flags_number(reader: &Reader, production: u16, below: &[TreeNode]) -> Option<u32>
+pub fn flags_number(reader: &Reader, production: u16, below: &[TreeNode]) -> Option<u32>
     requires { IsForest below.now }
     ensures { (s : Source) (n : Node) → Reads reader.now s → n.production ≡ production → preorder n.below ≡ below.now → result ≡ least (flags_out_of_range s n) }
 {
@@ -69,7 +69,7 @@ pub(crate) fn flags_number(reader: &Reader, production: u16, below: &[TreeNode])
 }
 
 /// The token of the number of `flags(n)`.
-pub(crate) fn flags_token(nodes: &[TreeNode]) -> u32
+pub fn flags_token(nodes: &[TreeNode]) -> u32
     requires { IsForest nodes.now }
     ensures { (f : Forest) → preorder f ≡ nodes.now → result ≡ flags_token f }
 {
@@ -77,7 +77,7 @@ pub(crate) fn flags_token(nodes: &[TreeNode]) -> u32
 }
 
 /// The number of a constant that is out of its range, where this production is one.
-pub(crate) fn constant_number(reader: &Reader, production: u16, below: &[TreeNode]) -> Option<u32>
+pub fn constant_number(reader: &Reader, production: u16, below: &[TreeNode]) -> Option<u32>
     requires { IsForest below.now }
     ensures { (s : Source) (n : Node) → Reads reader.now s → n.production ≡ production → preorder n.below ≡ below.now → result ≡ least (constant_out_of_range s n) }
 {
@@ -101,7 +101,7 @@ fn const_token(nodes: &[TreeNode]) -> u32
 }
 
 /// The width of an integer type.
-pub(crate) fn int_width(nodes: &[TreeNode]) -> Width
+pub fn int_width(nodes: &[TreeNode]) -> Width
     requires { IsForest nodes.now }
     ensures { (f : Forest) → preorder f ≡ nodes.now → bits_in result ≡ bits_of (int_type f) }
 {
@@ -139,7 +139,7 @@ fn unsigned_width(nodes: &[TreeNode]) -> Width
 }
 
 /// The least number of a layout that is out of its range, where this production has one.
-pub(crate) fn layout_number(reader: &Reader, production: u16, below: &[TreeNode]) -> Option<u32>
+pub fn layout_number(reader: &Reader, production: u16, below: &[TreeNode]) -> Option<u32>
     requires { IsForest below.now }
     ensures { (s : Source) (n : Node) → Reads reader.now s → n.production ≡ production → preorder n.below ≡ below.now → result ≡ least (layout_number_out_of_range s n) }
 {

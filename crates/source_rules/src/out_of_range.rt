@@ -30,7 +30,7 @@ use source_reading::reader::Reader;
 use std::alloc::Global;
 
 /// The least number or count of a source that is out of its range.
-pub(crate) fn number_out_of_range(alloc: Global, reader: &Reader) -> Result<Option<u32>, NoMemory>
+pub fn number_out_of_range(alloc: Global, reader: &Reader) -> Result<Option<u32>, NoMemory>
     requires { IsForest reader.now.nodes.now }
     ensures { (s : Source) → Reads reader.now s → IfOk result (λ k. k ≡ least (numbers_out_of_range s)) }
 {
@@ -78,8 +78,8 @@ fn declared_number(reader: &Reader, production: u16, below: &[TreeNode]) -> Opti
     sooner(to_layout, data_number(reader, production, below))
 }
 
-// The least number or count of a type or a signature.
-fn number_in_type(
+/// The least number or count of a type or a signature that is out of its range, where this production is a part of one.
+pub fn number_in_type(
     alloc: Global,
     reader: &Reader,
     production: u16,

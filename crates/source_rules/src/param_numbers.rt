@@ -18,7 +18,7 @@ use source_reading::reader::Reader;
 use source_reading::walk::leaf_at;
 
 /// The number behind `.param` that no parameter or generic parameter around it has.
-pub(crate) fn param_number(
+pub fn param_number(
     reader: &Reader,
     place: &Surrounding,
     production: u16,

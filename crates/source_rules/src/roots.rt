@@ -3,9 +3,9 @@
 ghost use Rattle.std.specs.Prelude.{◌≡◌, ◌∷◌, [], IfOk, bytes_eq, if◌then◌else◌, is_some};
 ghost use Rattle.std.specs.List.{list_any};
 ghost use Rattle.il_lexer.specs.declared.types.TokenKind.TheVariants as kind;
-ghost use Rattle.ilasm_grammar.specs.declared.productions.TheConstants.{CLASS};
+ghost use Rattle.ilasm_grammar.specs.declared.productions.TheConstants.{CLASS, EXTENDS, EXTENDS_OPT_SOME};
 ghost use Rattle.source_model.specs.Classes.{core_names, core_scope, is_core, is_root, system_object};
-ghost use Rattle.source_model.specs.Forest.{Forest, preorder};
+ghost use Rattle.source_model.specs.Forest.{Forest, child, has, preorder};
 ghost use Rattle.source_model.specs.Names.{externs};
 ghost use Rattle.source_model.specs.Nodes.{Node, class_token};
 ghost use Rattle.source_model.specs.Source.{Source};
@@ -20,18 +20,18 @@ ghost use Rattle.rule_steps.specs.Surroundings.{IsDerived, IsNode};
 use crate::class_rules::Classes;
 use il_base::{NoMemory, Text};
 use ilasm_grammar::TreeNode;
-use ilasm_grammar::productions::{ASSEMBLY_EXTERN, CLASS, EXTENDS_OPT_SOME};
+use ilasm_grammar::productions::{ASSEMBLY_EXTERN, CLASS, EXTENDS, EXTENDS_OPT_SOME};
 use rule_steps::asking::{Rule, Surrounding, first_at_all};
 use source_flags::declared_flags::is_interface;
 use source_model::forests_join;
 use source_reading::derived::derivations_have_bodies;
 use source_reading::reader::Reader;
-use source_reading::walk::{has, is_of, leaf_at, open};
+use source_reading::walk::{child, has, is_of, leaf_at, open};
 use std::alloc::Global;
 use type_terms::TypeId;
 
 /// The least name of a class that would have `System.Object` as its base, where that stands nowhere.
-pub(crate) fn object_undeclared(
+pub fn object_undeclared(
     alloc: Global,
     reader: &Reader,
     classes: &Classes,
@@ -130,7 +130,7 @@ fn unless_based(
     ensures { (s : Source) (n : Node) → Reads reader.now s → IsNode place.now CLASS below.now n → IsDerived s place.now n →
         IfOk result (λ k. k ≡ least (if is_rootless s n then class_token n.below ∷ [] else [])) }
 {
-    if is_interface(reader, below) || has(below, EXTENDS_OPT_SOME) {
+    if is_interface(reader, below) || has_base(below) {
         return Ok(None);
     }
     let name = leaf_at(below, 1);
@@ -138,6 +138,14 @@ fn unless_based(
         return Ok(None);
     }
     Ok(Some(name))
+}
+
+// Whether a class names a base of its own, from what stands below its production.
+fn has_base(class: &[TreeNode]) -> bool
+    requires { IsForest class.now }
+    ensures { (f : Forest) → preorder f ≡ class.now → result ≡ has EXTENDS (child (EXTENDS_OPT_SOME ∷ []) f) }
+{
+    has(child(class, EXTENDS_OPT_SOME), EXTENDS)
 }
 
 // Whether a class with so many classes around its parts and this name is the root of all classes.

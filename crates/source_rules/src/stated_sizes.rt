@@ -23,7 +23,7 @@ use source_model::forests_join;
 use source_reading::walk::open;
 
 /// Whether a type has the size of what its suffixes stand behind: where these are modifiers. Else it has none.
-pub(crate) fn keeps_size(suffixes: &[TreeNode]) -> bool
+pub fn keeps_size(suffixes: &[TreeNode]) -> bool
     requires { IsForest suffixes.now }
     ensures { (s : Source) (a : Around) (f : Forest) → preorder f ≡ suffixes.now → (t : SigType) →
         data_size s (suffixed s a f t) ≡ (if result then data_size s t else None) }
@@ -44,7 +44,7 @@ pub(crate) fn keeps_size(suffixes: &[TreeNode]) -> bool
 }
 
 /// The bytes of a base that is no value type, where it has a stated size.
-pub(crate) fn primitive_size(production: u16, below: &[TreeNode]) -> Option<u8>
+pub fn primitive_size(production: u16, below: &[TreeNode]) -> Option<u8>
     requires { IsForest below.now }
     ensures { (s : Source) (a : Around) (f : Forest) (args : List SigType) → preorder f ≡ below.now → (production == TYPE_BASE_VALUETYPE) ≡ false →
         data_size s (base_type s a production f args) ≡ result }

@@ -38,13 +38,13 @@ const MOST: u8 = 100;
 /// How deep a type is, or the deepest of several, up to 101; and the least first token of those of them, and of the types in
 /// them, that are deeper than 100.
 #[derive(Debug, Clone, Copy, Drop)]
-pub(crate) struct Depths {
+pub struct Depths {
     pub depth: u8,
     pub broken: Option<u32>,
 }
 
 /// The least first token of a type that is deeper than 100.
-pub(crate) fn type_too_deep(reader: &Reader) -> Option<u32>
+pub fn type_too_deep(reader: &Reader) -> Option<u32>
     requires { IsForest reader.now.nodes.now }
     ensures { (s : Source) → Reads reader.now s → result ≡ least (types_too_deep s) }
 {
@@ -78,9 +78,9 @@ fn depths_in(nodes: &[TreeNode]) -> Depths
     all
 }
 
-// The depth of a type, from what stands below its production, and what is found in it.
+/// The depth of a type, from what stands below its production, and what is found in it.
 #[cycle(depths)]
-fn depths_of(nodes: &[TreeNode]) -> Depths
+pub fn depths_of(nodes: &[TreeNode]) -> Depths
     requires { IsForest nodes.now }
     ensures { (s : Source) (a : Around) (f : Forest) → preorder f ≡ nodes.now → FitsBody s TYPE f → HasBodies s f →
         AreDepths s a f (depth (type_of s a f)) result }
@@ -188,14 +188,14 @@ fn modifier_depth(node: TreeNode, below: &[TreeNode], deepest: u8) -> u8
 }
 
 /// Whether a node is a suffix that is a modifier.
-pub(crate) fn is_modifier(node: TreeNode) -> bool
+pub fn is_modifier(node: TreeNode) -> bool
     ensures { (p count : ℕ) → node ≡ Branch p count → result ≡ is_modifier p }
 {
     is_of(node, TYPE_SUFFIX_MODREQ) || is_of(node, TYPE_SUFFIX_MODOPT)
 }
 
 /// Whether a node is a suffix of a type.
-pub(crate) fn is_suffix(node: TreeNode) -> bool
+pub fn is_suffix(node: TreeNode) -> bool
     ensures { result ≡ is_suffix node }
 {
     is_of(node, TYPE_SUFFIX_BRACKET)

@@ -28,7 +28,7 @@ use source_reading::walk::{has, leaf_at, the};
 use std::alloc::Global;
 
 /// The least label behind `at` that no data of the source has.
-pub(crate) fn label_undeclared(
+pub fn label_undeclared(
     alloc: Global,
     reader: &Reader,
     labels: &Named,
@@ -44,7 +44,7 @@ pub(crate) fn label_undeclared(
 }
 
 /// The least name of a generic parameter that the class or the method around it doesn't have.
-pub(crate) fn typar_undeclared(alloc: Global, reader: &Reader) -> Result<Option<u32>, NoMemory>
+pub fn typar_undeclared(alloc: Global, reader: &Reader) -> Result<Option<u32>, NoMemory>
     requires { IsForest reader.now.nodes.now }
     ensures { (s : Source) → Reads reader.now s → IfOk result (λ k. k ≡ least (typars_undeclared s)) }
 {
@@ -100,8 +100,8 @@ impl Rule for Typars {
     }
 }
 
-// The name behind `!` or `!!` that isn't among these.
-fn index(
+/// The name behind `!` or `!!` that isn't among these.
+pub fn index(
     alloc: Global,
     reader: &Reader,
     names: &Declared,

@@ -19,13 +19,13 @@ use std::alloc::Global;
 
 /// The token of the assembly's name in brackets, where there is one, and those of the names of the path.
 #[derive(Drop)]
-pub(crate) struct WrittenName {
+pub struct WrittenName {
     pub scope: Option<u32>,
     pub path: Items<u32>,
 }
 
 /// The type's name that a production begins with, where it has one of its own.
-pub(crate) fn written_name(
+pub fn written_name(
     alloc: Global,
     production: u16,
     below: &[TreeNode],

@@ -1,4 +1,4 @@
-use Rattle.std.proofs.Common.{◌≡◌, ◌<◌, ◌≤◌, ◌∷◌, ◌++◌, [], ◌∙◌, length, ap, sym, subst, refl, arith, rules}
+use Rattle.std.proofs.Common.{◌≡◌, ◌<◌, ◌∷◌, ◌++◌, [], ◌∙◌, length, ap, sym, subst, arith, rules}
 use Rattle.std.specs.Prelude.{true, false, ◌==◌}
 use Rattle.ilasm_grammar.specs.declared.productions.TheConstants.{CLASS}
 use Rattle.il_lexer.specs.declared.types.TokenKind.TheVariants as kind
@@ -8,7 +8,7 @@ use Rattle.source_reading.specs.Least.{sooner}
 use Rattle.source_reading.specs.Readers.{IsOf}
 use Rattle.source_reading.specs.Walk.{IsForest}
 use Rattle.rule_steps.proofs.AskingLemmas.{below_shorter, next_shorter, rest_shorter}
-use Rattle.source_rules.proofs.ClassWalks.{Adding, Inner, adding_class, adding_end, adding_leaf, adding_other, adding_start, forest_behind}
+use Rattle.source_rules.proofs.ClassWalks.{Adding, adding_class, adding_end, adding_leaf, adding_other, adding_start, forest_behind}
 use Rattle.source_reading.proofs.NameTokens.{class_is_name}
 use Rattle.source_rules.proofs.class_rules.+add_classes.Goals as goal
 

@@ -1,4 +1,4 @@
-use Rattle.std.proofs.Common.{◌≡◌, ◌∷◌, ◌∙◌, [], ap, sym, subst, refl}
+use Rattle.std.proofs.Common.{◌∷◌, ◌∙◌, [], ap, sym, subst, refl}
 use Rattle.assembly_tree.specs.DataSize.{is_id}
 use Rattle.source_model.specs.Names.{module_path}
 use Rattle.source_reading.specs.ClassNumbers.{Knows, class_in, id_of, outer_of}

@@ -1,4 +1,4 @@
-use Rattle.std.proofs.Common.{◌≡◌, ◌∙◌, ◌∷◌, ◌++◌, [], None, Some, ap, sym, subst, refl}
+use Rattle.std.proofs.Common.{◌∙◌, ◌∷◌, ◌++◌, [], None, Some, ap, sym, subst, refl}
 use Rattle.source_rules.specs.DeclaredClasses.{IsEntered}
 use Rattle.source_reading.specs.ClassNumbers.{class_of}
 use Rattle.source_rules.specs.declared.class_rules.Entered.{Entered}

@@ -1,9 +1,8 @@
-use Rattle.std.proofs.Common.{◌≡◌, ◌++◌, ◌∙◌, ap, sym}
+use Rattle.std.proofs.Common.{◌++◌}
 use Rattle.source_model.specs.BodyFaults.{labels_twice}
 use Rattle.source_model.specs.Denotes.{broken_d}
 use Rattle.source_model.specs.DeclaredTwice.{types_twice, members_twice, externs_twice, entries_twice, manifests_twice, data_twice}
-use Rattle.source_model.specs.Faults.{earlier, earliest, rule_at}
-use Rattle.source_rules.specs.Breaches.{any_broken}
+use Rattle.source_model.specs.Faults.{rule_at}
 use Rattle.source_rules.proofs.FirstOfRules.{put_last}
 use Rattle.source_rules.proofs.firsts.first_twice.Goals as goal
 

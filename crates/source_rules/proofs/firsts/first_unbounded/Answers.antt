@@ -1,9 +1,8 @@
-use Rattle.std.proofs.Common.{◌≡◌, ◌++◌, ◌∙◌, ap, sym}
+use Rattle.std.proofs.Common.{◌++◌}
 use Rattle.source_model.specs.BodyFaults.{branches_too_far, clauses_backwards, branches_to_the_end, body_numbers_out_of_range}
 use Rattle.source_model.specs.Denotes.{broken_b}
 use Rattle.source_model.specs.OutOfRange.{numbers_out_of_range, types_too_deep, nestings_too_deep, data_too_short, data_unsized}
-use Rattle.source_model.specs.Faults.{earlier, earliest, rule_at}
-use Rattle.source_rules.specs.Breaches.{any_broken}
+use Rattle.source_model.specs.Faults.{rule_at}
 use Rattle.source_rules.proofs.FirstOfRules.{put_last}
 use Rattle.source_rules.proofs.firsts.first_unbounded.Goals as goal
 

@@ -1,9 +1,8 @@
-use Rattle.std.proofs.Common.{◌≡◌, ◌++◌, ◌∙◌, ap, sym}
+use Rattle.std.proofs.Common.{◌++◌}
 use Rattle.source_model.specs.BodyFaults.{labels_undeclared, variables_undeclared}
 use Rattle.source_model.specs.Denotes.{broken_n}
 use Rattle.source_model.specs.Undeclared.{types_undeclared, scopes_undeclared, objects_undeclared, typars_undeclared, accessors_undeclared, assembly_undeclared, data_undeclared}
-use Rattle.source_model.specs.Faults.{earlier, earliest, rule_at}
-use Rattle.source_rules.specs.Breaches.{any_broken}
+use Rattle.source_model.specs.Faults.{rule_at}
 use Rattle.source_rules.proofs.FirstOfRules.{put_last}
 use Rattle.source_rules.proofs.firsts.first_undeclared.Goals as goal
 

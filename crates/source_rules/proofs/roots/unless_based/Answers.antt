@@ -18,7 +18,7 @@ returns c s n r node derived =
     let at = c.leaf_at-name.ensures n.below node.below-is in
     let named = subst (IsOf s kind.Name) (sym at) (class_is_name s n.production n.below node.production-is derived.fits) in
     without_base s n c.leaf_at-name.result (sym (c.is_interface.ensures s n.below r node.below-is) ∙ c.if-is_interface.false)
-    (sym (c.has.ensures n.below node.below-is) ∙ c.if-has.false)
+    (sym (c.has_base.ensures n.below node.below-is) ∙ c.if-has_base.false)
     (sym (named_at s c.args.place.now.depth (length n.around.path) c.leaf_at-name.result (class_token n.below) node.place.depth at)
     ∙ sym (c.in_ok-is_root.ensures s r named) ∙ c.if-branch.false)
     at

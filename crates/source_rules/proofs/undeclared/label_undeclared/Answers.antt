@@ -1,4 +1,4 @@
-use Rattle.std.proofs.Common.{◌∙◌, ap, sym}
+use Rattle.std.proofs.Common.{◌∙◌, ap}
 use Rattle.std.specs.Prelude.{map}
 use Rattle.ilasm_grammar.specs.declared.productions.TheConstants.{DATA}
 use Rattle.source_model.specs.Forest.{each}

@@ -1,4 +1,4 @@
-use Rattle.std.proofs.Common.{◌≡◌, ◌∷◌, ◌++◌, [], ◌∙◌, ap}
+use Rattle.std.proofs.Common.{◌∷◌, ◌++◌, [], ◌∙◌, ap}
 use Rattle.source_rules.proofs.WrittenLemmas.{path_is}
 use Rattle.source_rules.proofs.written.path_tokens.Goals as goal
 
