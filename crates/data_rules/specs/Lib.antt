@@ -1,0 +1,3 @@
+pub mod DeclaredSizes
+pub mod FieldFaults
+pub mod TypeSizes

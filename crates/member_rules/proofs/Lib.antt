@@ -1,0 +1,13 @@
+pub mod AccessorLemmas
+pub mod AccessorParts
+pub mod AccessorWalks
+pub mod BrokenLemmas
+pub mod KeepLemmas
+pub mod MemberLemmas
+pub mod MemberParts
+pub mod MemberWalks
+pub mod ReadLemmas
+pub mod ReferenceParts
+pub mod TieLemmas
+pub mod TwiceLemmas
+pub mod WithinLemmas

@@ -1,0 +1,18 @@
+use Rattle.std.proofs.Common.{◌≡◌, ◌<◌, ◌^◌, ◌∙◌, ap, length, refl, subst, sym}
+use Rattle.std.proofs.lemmas.Result.{IfOk-weaker}
+use Rattle.source_model.specs.Forest.{preorder}
+use Rattle.source_model.specs.Nodes.{nothing_around}
+use Rattle.source_model.specs.Undeclared.{accessors_undeclared}
+use Rattle.source_reading.specs.Least.{least}
+use Rattle.member_rules.proofs.AccessorWalks.{all_undeclared}
+use Rattle.member_rules.proofs.ReadLemmas.{around_nothing, names_of_nothing, serves_by}
+use Rattle.member_rules.proofs.accessor_rules.accessor_undeclared.Goals as goal
+
+pub returns : goal.returns
+returns g c s r names breaks =
+    let few : length (preorder s.tree) < 2 ^ 32 = subst (λ ns. length ns < 2 ^ 32) (sym r.nodes) c.requires.few in
+    let v = serves_by (g.R.Rule.broken c.args.rule.now) s c.args.externs.now names breaks few in
+    let bodies = (c.derivations_have_bodies.ensures s r.derived).1 in
+    IfOk-weaker c.undeclared_in.result _ (λ k. k ≡ least (accessors_undeclared s)) (λ k h. h ∙ ap least (all_undeclared s))
+    (c.undeclared_in.ensures.found s nothing_around s.tree v r (around_nothing _ refl refl refl) (names_of_nothing s _ c.new-none.ensures c.new-none.ensures refl)
+    (sym c.new-path.ensures) c.new-methods.ensures r.nodes bodies)

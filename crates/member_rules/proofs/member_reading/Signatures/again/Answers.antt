@@ -1,0 +1,11 @@
+use Rattle.std.proofs.Common.{◌∙◌, ap}
+use Rattle.source_reading.specs.Least.{sooner}
+use Rattle.member_rules.specs.MemberKinds.{parts_at}
+use Rattle.member_rules.proofs.TwiceLemmas.{twice_is}
+use Rattle.member_rules.proofs.member_reading.Signatures.again.Goals as goal
+
+pub returns : goal.returns
+returns g c s a f v r p h e b =
+    c.sooner.ensures ∙ ap (sooner c.in_ok-field.field) (c.sooner-later.ensures ∙ ap (sooner c.in_ok-method.method) c.sooner-last.ensures)
+    ∙ twice_is s a (parts_at c.args.level f) c.orders_are_total.ensures.terms c.in_ok-field.field c.in_ok-method.method c.in_ok-property.property c.in_ok-event.event
+    (c.in_ok-field.ensures s a f v r p h e b) (c.in_ok-method.ensures s a f v r p h e b) (c.in_ok-property.ensures s a f v r p h e b) (c.in_ok-event.ensures s a f v r p h e b)

@@ -1,0 +1,12 @@
+use Rattle.std.proofs.Common.{◌<◌, ◌^◌, length, ap, refl, arith}
+use Rattle.source_model.specs.Forest.{preorder}
+use Rattle.member_rules.specs.MemberKinds.{class_around}
+use Rattle.member_rules.proofs.ReadLemmas.{around_class, names_of_class}
+use Rattle.member_rules.proofs.member_reading.Signatures.again_in_class.Goals as goal
+
+pub returns : goal.returns
+returns g c s path f v r d e bodies =
+    let long = ap length e in
+    let few : length (preorder f) < 2 ^ 32 = omega (arith, long, c.requires.few) in
+    c.in_ok-first.ensures s (class_around s path f) f v r (around_class s path f _ d e refl)
+    (names_of_class s path f _ (c.in_ok-typars.ensures s f r e bodies) c.new-none.ensures refl few) e bodies

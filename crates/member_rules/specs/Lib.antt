@@ -1,0 +1,6 @@
+pub mod BrokenSignatures
+pub mod MemberHashes
+pub mod MemberKinds
+pub mod MemberReading
+pub mod OwnMethods
+pub mod SameMembers
