@@ -9,11 +9,17 @@ use Rattle.ilasm_grammar.specs.declared.nonterminals.TheConstants.{SOURCE}
 use Rattle.ilasm_grammar.specs.Grammar.{IsFaultAt, IsSentence}
 use Rattle.ilasm_grammar.specs.Ilasm.{ilasm}
 use Rattle.ilasm_grammar.specs.Parsing.{terminals_of, IsSyntaxFault, IsSyntaxFaultAt, IsTreeOf, position_of, rule_at}
+use Rattle.source_model.specs.Classes.{assembly}
+use Rattle.source_model.specs.Denotes.{Denotes}
+use Rattle.source_model.specs.Laws.{OneMeaning}
+use Rattle.source_model.specs.Forest.{preorder}
+use Rattle.source_model.specs.Source.{Source}
+use Rattle.source_model.specs.declared.fault.NameClass.{NameClass}
 use Rattle.plain_source.specs.declared.reading.SourceFault.{SourceFault}
-use Rattle.plain_source.specs.declared.reading.SourceFault.TheVariants.{Lexical, Syntax, NotRead}
+use Rattle.plain_source.specs.declared.reading.SourceFault.TheVariants.{Lexical, Syntax, Named, NotRead}
 use Rattle.plain_source.specs.Form.{Form, HasForm, HasVersion, HasParts, text_at, with_version, without_version}
 use Rattle.plain_source.specs.Numbers.{IsPart, int_value}
-use Rattle.plain_source.specs.Reading.{IsPlain, IsFaultOf, HasSyntaxFault}
+use Rattle.plain_source.specs.Reading.{BreaksRule, HasSyntaxFault, IsFaultOf, IsFaultlessSource, IsPlain}
 use Rattle.plain_source.specs.Laws.{OneReading}
 
 -- ---- one form
@@ -56,7 +62,7 @@ same_form source tokens a b x y =
 
 -- ---- one fault
 
-module _ (lex : OneOutcome)
+module _ (lex : OneOutcome) (meaning : OneMeaning)
     (whole : (kinds : List ℕ) (at : ℕ) → IsFaultAt ilasm SOURCE kinds at → IsSentence ilasm SOURCE kinds → ⊥)
     (one : (kinds : List ℕ) (j k : ℕ) → IsFaultAt ilasm SOURCE kinds j → IsFaultAt ilasm SOURCE kinds k → j ≡ k) where
   same_tokens : (source : List ℕ) (a b : List Token) → IsAccepted source a → IsAccepted source b → a ≡ b
@@ -79,11 +85,25 @@ module _ (lex : OneOutcome)
         x.fault.rule-is ∙ ap (λ k. rule_at (slice_get x.tokens k)) at ∙ sym f.rule-is,
       )
 
+  not_both : (source : List ℕ) (s : Source) (place : Pos) (rule : ℕ) → IsFaultlessSource source s → HasSyntaxFault source place rule → ⊥
+  not_both source s place rule x f = no_syntax_fault source s.tokens place rule x.accepted (preorder s.tree, x.read.derived) f
+
+  denoted : (source : List ℕ) (s : Source) → IsFaultlessSource source s → Denotes source (assembly s)
+  denoted source s x = record { source = s; read = x.read; faultless = x.faultless; is = refl }
+
+  unbroken : (source : List ℕ) (s : Source) (place : Pos) (class : NameClass) (rule : ℕ) → IsFaultlessSource source s → BreaksRule source place class rule → ⊥
+  unbroken source s place class rule x f = meaning.apart source (assembly s) place class rule (denoted source s x) f.fault
+
+  derives : (source : List ℕ) (p place : Pos) (class : NameClass) (rule r : ℕ) → BreaksRule source place class rule → HasSyntaxFault source p r → ⊥
+  derives source p place class rule r x f =
+      no_syntax_fault source x.fault.source.tokens p r x.accepted (preorder x.fault.source.tree, x.fault.read.derived) f
+
   apart : (source : List ℕ) (form : Form) (fault : SourceFault) → IsPlain source form → IsFaultOf source fault → ⊥
-  apart source form (Lexical line rule) p f = lex.apart source p.tokens f.0 rule p.accepted f.1
-  apart source form (Syntax line rule) p f = no_syntax_fault source p.tokens f.0 rule p.accepted (p.tree, p.derived) f.1
+  apart source form (Lexical line rule) p f = lex.apart source p.meant.tokens f.0 rule p.faultless.accepted f.1
+  apart source form (Syntax line rule) p f = not_both source p.meant f.0 rule p.faultless f.1
+  apart source form (Named line class rule) p f = unbroken source p.meant f.0 class rule p.faultless f.1
   apart source form NotRead p f =
-      let same : p.tokens ≡ f.tokens = same_tokens source p.tokens f.tokens p.accepted f.accepted in
+      let same : p.meant.tokens ≡ f.meant.tokens = same_tokens source p.meant.tokens f.meant.tokens p.faultless.accepted f.faultless.accepted in
       f.other form (subst (λ (ts : List Token). HasForm source ts form) same p.has)
 
   same_fault : (source : List ℕ) (a b : SourceFault) → IsFaultOf source a → IsFaultOf source b → a ≡ b
@@ -92,21 +112,31 @@ module _ (lex : OneOutcome)
       let lines : l ≡ m = x.2 ∙ ap (λ (p : Pos). p.line) same.0 ∙ sym y.2 in
       ap (λ n. Lexical n r) lines ∙ ap (Lexical m) same.1
   same_fault source (Lexical l r) (Syntax m s) x y = absurd (lex.apart source y.1.tokens x.0 r y.1.accepted x.1)
-  same_fault source (Lexical l r) NotRead x y = absurd (lex.apart source y.tokens x.0 r y.accepted x.1)
+  same_fault source (Lexical l r) (Named m c s) x y = absurd (lex.apart source y.1.fault.source.tokens x.0 r y.1.accepted x.1)
+  same_fault source (Lexical l r) NotRead x y = absurd (lex.apart source y.meant.tokens x.0 r y.faultless.accepted x.1)
   same_fault source (Syntax l r) (Lexical m s) x y = absurd (lex.apart source x.1.tokens y.0 s x.1.accepted y.1)
   same_fault source (Syntax l r) (Syntax m s) x y =
       let same = same_syntax_fault source x.0 y.0 r s x.1 y.1 in
       let lines : l ≡ m = x.2 ∙ ap (λ (p : Pos). p.line) same.0 ∙ sym y.2 in
       ap (λ n. Syntax n r) lines ∙ ap (Syntax m) same.1
-  same_fault source (Syntax l r) NotRead x y = absurd (no_syntax_fault source y.tokens x.0 r y.accepted (y.tree, y.derived) x.1)
-  same_fault source NotRead (Lexical m s) x y = absurd (lex.apart source x.tokens y.0 s x.accepted y.1)
-  same_fault source NotRead (Syntax m s) x y = absurd (no_syntax_fault source x.tokens y.0 s x.accepted (x.tree, x.derived) y.1)
+  same_fault source (Syntax l r) (Named m c s) x y = absurd (derives source x.0 y.0 c s r y.1 x.1)
+  same_fault source (Syntax l r) NotRead x y = absurd (not_both source y.meant x.0 r y.faultless x.1)
+  same_fault source (Named l c r) (Lexical m s) x y = absurd (lex.apart source x.1.fault.source.tokens y.0 s x.1.accepted y.1)
+  same_fault source (Named l c r) (Syntax m s) x y = absurd (derives source y.0 x.0 c r s x.1 y.1)
+  same_fault source (Named l c r) (Named m d s) x y =
+      let same = meaning.fault source x.0 y.0 c d r s x.1.fault y.1.fault in
+      let lines : l ≡ m = x.2 ∙ ap (λ (p : Pos). p.line) same.0 ∙ sym y.2 in
+      ap (λ n. Named n c r) lines ∙ ap (λ e. Named m e r) same.1 ∙ ap (Named m d) same.2
+  same_fault source (Named l c r) NotRead x y = absurd (unbroken source y.meant x.0 c r y.faultless x.1)
+  same_fault source NotRead (Lexical m s) x y = absurd (lex.apart source x.meant.tokens y.0 s x.faultless.accepted y.1)
+  same_fault source NotRead (Syntax m s) x y = absurd (not_both source x.meant y.0 s x.faultless y.1)
+  same_fault source NotRead (Named m d s) x y = absurd (unbroken source x.meant y.0 d s x.faultless y.1)
   same_fault source NotRead NotRead x y = refl
 
   same_plain : (source : List ℕ) (a b : Form) → IsPlain source a → IsPlain source b → a ≡ b
   same_plain source a b p q =
-      let same : q.tokens ≡ p.tokens = same_tokens source q.tokens p.tokens q.accepted p.accepted in
-      same_form source p.tokens a b p.has (subst (λ (ts : List Token). HasForm source ts b) same q.has)
+      let same : q.meant.tokens ≡ p.meant.tokens = same_tokens source q.meant.tokens p.meant.tokens q.faultless.accepted p.faultless.accepted in
+      same_form source p.meant.tokens a b p.has (subst (λ (ts : List Token). HasForm source ts b) same q.has)
 
   pub read_in_one_way : OneReading
   read_in_one_way = record { plain = same_plain; apart = apart; fault = same_fault }

@@ -1,3 +1,4 @@
 pub mod Derivations
 pub mod LawLemmas
 pub mod NumberLemmas
+pub mod ReadLemmas

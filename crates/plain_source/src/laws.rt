@@ -5,6 +5,7 @@ ghost use Rattle.plain_source.specs.Laws.{OneReading};
 
 use il_lexer::lexes_in_one_way;
 use ilasm_grammar::one_fault;
+use source_model::one_meaning;
 
 /// A source is read in one way at most: as one manifest, or with one fault. So `read_source` answers the only
 /// manifest or the only fault that there is.
@@ -13,6 +14,7 @@ pub fn one_reading()
 {
     lexes_in_one_way();
     one_fault();
+    one_meaning();
 }
 
 /// The two forms are sources, and this is the one derivation of each: a declaration of an assembly, without an

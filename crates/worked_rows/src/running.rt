@@ -19,14 +19,18 @@ fn words(alloc: Global, line: &str) -> Result<Words, NoMemory> {
 }
 
 /// A shelf that holds `source` as `a.il`.
-fn shelf_with(alloc: Global, source: &[u8]) -> Result<MemShelf, NoMemory> {
+pub(crate) fn shelf_with(alloc: Global, source: &[u8]) -> Result<MemShelf, NoMemory> {
     let mut shelf = MemShelf::new(alloc);
     shelf.put("a.il", source)?;
     Ok(shelf)
 }
 
 /// The status, and what was said on standard error.
-fn outcome(alloc: Global, line: &str, shelf: &mut MemShelf) -> Result<(u8, Text), NoMemory> {
+pub(crate) fn outcome(
+    alloc: Global,
+    line: &str,
+    shelf: &mut MemShelf,
+) -> Result<(u8, Text), NoMemory> {
     let words = words(alloc, line)?;
     let mut console = MemConsole::new(alloc);
     let status = run(alloc, &words, shelf, &mut console);
@@ -38,19 +42,50 @@ fn outcome(alloc: Global, line: &str, shelf: &mut MemShelf) -> Result<(u8, Text)
 }
 
 /// Sources in `a.il`, the status of `ilasm a.il -dll` and what is said.
-static SOURCES: [(&str, u8, &str); 21] = [
+static SOURCES: [(&str, u8, &str); 24] = [
     (".assembly A{.ver 1:0:0:0}", 0, ""),
     ("\u{feff}// a\n.assembly /* b */ A\r\n{ } // c", 0, ""),
-    (".class C { }", 1, P1),
+    (
+        ".class C { }",
+        1,
+        "a.il(1): error N2: extern isn't declared\n",
+    ),
+    (
+        ".assembly A { }\n.class System.Object { }\n.class B extends\nC { }",
+        1,
+        "a.il(4): error N1: type isn't declared here\n",
+    ),
+    (
+        ".class System.Object { }",
+        1,
+        "a.il(1): error N7: no .assembly\n",
+    ),
+    (".assembly A { }\n.class System.Object { }", 1, P1),
     (".assembly a { }", 1, P1),
     (".assembly A.B { }", 1, P1),
     (".assembly 'A' { }", 1, P1),
-    (".assembly A { } .assembly B { }", 1, P1),
-    (".assembly A { .ver 1:0:0:65536 }", 1, P1),
-    (".assembly A { .ver 1:-1:0:0 }", 1, P1),
+    (
+        ".assembly A { } .assembly\nB { }",
+        1,
+        "a.il(2): error D6: a second .assembly or .module\n",
+    ),
+    (
+        ".assembly A { .ver 1:0:0:65536 }",
+        1,
+        "a.il(1): error B1: a number or a count is out of its range\n",
+    ),
+    (
+        ".assembly A { .ver 1:-1:0:0 }",
+        1,
+        "a.il(1): error B1: a number or a count is out of its range\n",
+    ),
     (".assembly A { .ver 1:0:0:0 .ver 1:0:0:0 }", 1, P1),
     (".assembly A { .hash algorithm 0x8004 }", 1, P1),
-    (".assembly extern A { }", 1, P1),
+    (
+        ".assembly extern A { }",
+        1,
+        "a.il(1): error N7: no .assembly\n",
+    ),
     (
         ".assembly A { } }\n  /* x",
         1,

@@ -1,0 +1,2 @@
+pub mod AllDeclared
+pub mod SourceFaults

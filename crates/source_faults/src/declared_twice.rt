@@ -1,0 +1,54 @@
+//! The rules on what a source declares twice (ECMA-335 II.5.4, II.6.2, II.6.3, II.10, II.15.4.1.2, II.16.3, II.22).
+
+ghost use Rattle.std.specs.Prelude.{◌≡◌, ◌<◌, ◌^◌, IfOk, length};
+ghost use Rattle.source_model.specs.Denotes.{broken_d};
+ghost use Rattle.source_model.specs.Faults.{earliest};
+ghost use Rattle.source_model.specs.Source.{Source};
+ghost use Rattle.source_reading.specs.Readers.{Reads};
+ghost use Rattle.source_reading.specs.Walk.{IsForest};
+ghost use Rattle.source_rules.specs.Breaches.{any_broken};
+ghost use Rattle.source_rules.specs.Leasts.{AreTwice};
+ghost use Rattle.source_faults.specs.AllDeclared.{AreDeclarations};
+
+use crate::all_declared::Declarations;
+use body_rules::label_rules::label_twice;
+use il_base::NoMemory;
+use member_rules::broken_signatures::signatures_of;
+use member_rules::member_rules::member_twice;
+use rule_steps::repeats::{entry_twice, manifest_twice};
+use source_reading::name_lists::{assembly_again, label_again};
+use source_reading::reader::Reader;
+use source_rules::firsts::{Twice, first_twice};
+use source_rules::merging::Breach;
+use std::alloc::Global;
+
+/// The first rule of class D that a source breaks.
+pub fn declared_twice(
+    alloc: Global,
+    reader: &Reader,
+    declared: &Declarations,
+) -> Result<Option<Breach>, NoMemory>
+    requires forest { IsForest reader.now.nodes.now }
+    requires few { length reader.now.nodes.now < 2 ^ 32 }
+    ensures { (s : Source) → Reads reader.now s → AreDeclarations s declared.now → IfOk result (λ b. any_broken b ≡ earliest (broken_d s)) }
+{
+    let twice = twice(alloc, reader, declared)?;
+    Ok(first_twice(&twice))
+}
+
+fn twice(alloc: Global, reader: &Reader, declared: &Declarations) -> Result<Twice, NoMemory>
+    requires forest { IsForest reader.now.nodes.now }
+    requires few { length reader.now.nodes.now < 2 ^ 32 }
+    ensures { (s : Source) → Reads reader.now s → AreDeclarations s declared.now → IfOk result (AreTwice s) }
+{
+    let rule = signatures_of(&declared.externs, &declared.own, &declared.classes);
+    Ok(Twice {
+        types: declared.classes.again,
+        members: member_twice(&rule, alloc, reader, &declared.externs)?,
+        externs: assembly_again(&declared.externs),
+        labels: label_twice(alloc, reader)?,
+        entries: entry_twice(reader),
+        manifests: manifest_twice(reader),
+        data_labels: label_again(&declared.labels),
+    })
+}

@@ -1,0 +1,8 @@
+//! The first fault of a source that has a derivation, of all rules on what it declares and names (ECMA-335 II.5 to II.19).
+#![tactic(auto)]
+
+pub mod all_declared;
+pub mod declared_twice;
+pub mod faults;
+pub mod not_declared;
+pub mod out_of_bounds;

@@ -1,0 +1,70 @@
+//! The rules on what a source names and doesn't declare (ECMA-335 II.6.2, II.7.3, II.10.1.7, II.15.4.1, II.16.3, II.17, II.18).
+
+ghost use Rattle.std.specs.Prelude.{◌≡◌, ◌<◌, ◌^◌, IfOk, length};
+ghost use Rattle.source_model.specs.Denotes.{broken_n};
+ghost use Rattle.source_model.specs.Faults.{earliest};
+ghost use Rattle.source_model.specs.Source.{Source};
+ghost use Rattle.source_reading.specs.Readers.{Reads};
+ghost use Rattle.source_reading.specs.Walk.{IsForest};
+ghost use Rattle.source_rules.specs.Breaches.{any_broken};
+ghost use Rattle.source_rules.specs.Leasts.{AreUndeclared};
+ghost use Rattle.source_faults.specs.AllDeclared.{AreDeclarations};
+
+use crate::all_declared::Declarations;
+use body_rules::label_rules::label_undeclared;
+use body_rules::variable_rules::variable_undeclared;
+use il_base::NoMemory;
+use member_rules::accessor_rules::accessor_undeclared;
+use member_rules::broken_signatures::signatures_of;
+use rule_steps::repeats::without_assembly;
+use source_reading::reader::Reader;
+use source_rules::extern_rules::extern_undeclared;
+use source_rules::firsts::{Undeclared, first_undeclared};
+use source_rules::merging::Breach;
+use source_rules::named_types::type_undeclared;
+use source_rules::undeclared::{label_undeclared as data_undeclared, typar_undeclared};
+use std::alloc::Global;
+
+/// The first rule of class N that a source breaks.
+pub fn not_declared(
+    alloc: Global,
+    reader: &Reader,
+    declared: &Declarations,
+) -> Result<Option<Breach>, NoMemory>
+    requires forest { IsForest reader.now.nodes.now }
+    requires few { length reader.now.tokens.now < 2 ^ 32 }
+    requires few_nodes { length reader.now.nodes.now < 2 ^ 32 }
+    ensures { (s : Source) → Reads reader.now s → AreDeclarations s declared.now → IfOk result (λ b. any_broken b ≡ earliest (broken_n s)) }
+{
+    let undeclared = undeclared(alloc, reader, declared)?;
+    Ok(first_undeclared(&undeclared))
+}
+
+fn undeclared(
+    alloc: Global,
+    reader: &Reader,
+    declared: &Declarations,
+) -> Result<Undeclared, NoMemory>
+    requires forest { IsForest reader.now.nodes.now }
+    requires few { length reader.now.tokens.now < 2 ^ 32 }
+    requires few_nodes { length reader.now.nodes.now < 2 ^ 32 }
+    ensures { (s : Source) → Reads reader.now s → AreDeclarations s declared.now → IfOk result (AreUndeclared s) }
+{
+    let Declarations {
+        labels,
+        externs,
+        own,
+        classes,
+    } = declared;
+    let rule = signatures_of(externs, own, classes);
+    Ok(Undeclared {
+        types: type_undeclared(alloc, reader, externs, own, classes)?,
+        externs: extern_undeclared(alloc, reader, externs, own, classes)?,
+        labels: label_undeclared(alloc, reader)?,
+        variables: variable_undeclared(alloc, reader)?,
+        typars: typar_undeclared(alloc, reader)?,
+        accessors: accessor_undeclared(&rule, alloc, reader, externs)?,
+        assembly: without_assembly(reader),
+        data_labels: data_undeclared(alloc, reader, labels)?,
+    })
+}

@@ -1,0 +1,76 @@
+//! The rules on what is out of its bounds in a source (ECMA-335 II.15.4.1, II.19, II.22, II.23, III.1.7.2).
+
+ghost use Rattle.std.specs.Prelude.{◌≡◌, ◌++◌, IfOk};
+ghost use Rattle.source_model.specs.BodyFaults.{body_numbers_out_of_range};
+ghost use Rattle.source_model.specs.Denotes.{broken_b};
+ghost use Rattle.source_model.specs.Faults.{earliest};
+ghost use Rattle.source_model.specs.OutOfRange.{numbers_out_of_range};
+ghost use Rattle.source_model.specs.Source.{Source};
+ghost use Rattle.source_reading.specs.Least.{least};
+ghost use Rattle.source_reading.specs.Readers.{Reads};
+ghost use Rattle.source_reading.specs.Walk.{IsForest};
+ghost use Rattle.source_rules.specs.Breaches.{any_broken};
+ghost use Rattle.source_rules.specs.Leasts.{AreUnbounded};
+ghost use Rattle.source_faults.specs.AllDeclared.{AreDeclarations};
+
+use crate::all_declared::Declarations;
+use body_rules::body_numbers::body_number;
+use body_rules::branch_rules::branch_to_the_end;
+use body_rules::clause_rules::clause_backwards;
+use body_rules::short_branches::branch_too_far;
+use data_rules::mapped_fields::data_faults;
+use il_base::NoMemory;
+use source_reading::least::sooner;
+use source_reading::reader::Reader;
+use source_rules::firsts::{Unbounded, first_unbounded};
+use source_rules::merging::Breach;
+use source_rules::nestings::nesting_too_deep;
+use source_rules::out_of_range::number_out_of_range;
+use source_rules::type_depths::type_too_deep;
+use std::alloc::Global;
+
+/// The first rule of class B that a source breaks.
+pub fn out_of_bounds(
+    alloc: Global,
+    reader: &Reader,
+    declared: &Declarations,
+) -> Result<Option<Breach>, NoMemory>
+    requires { IsForest reader.now.nodes.now }
+    ensures { (s : Source) → Reads reader.now s → AreDeclarations s declared.now → IfOk result (λ b. any_broken b ≡ earliest (broken_b s)) }
+{
+    let unbounded = unbounded(alloc, reader, declared)?;
+    Ok(first_unbounded(&unbounded))
+}
+
+fn unbounded(alloc: Global, reader: &Reader, declared: &Declarations) -> Result<Unbounded, NoMemory>
+    requires { IsForest reader.now.nodes.now }
+    ensures { (s : Source) → Reads reader.now s → AreDeclarations s declared.now → IfOk result (AreUnbounded s) }
+{
+    let Declarations {
+        labels,
+        externs,
+        classes,
+        ..
+    } = declared;
+    let data = data_faults(alloc, reader, externs, classes, labels)?;
+    Ok(Unbounded {
+        numbers: any_number(alloc, reader)?,
+        branches: branch_too_far(alloc, reader)?,
+        clauses: clause_backwards(alloc, reader)?,
+        types: type_too_deep(reader),
+        ends: branch_to_the_end(alloc, reader)?,
+        nestings: nesting_too_deep(alloc, reader)?,
+        short: data.short,
+        without_size: data.without_size,
+    })
+}
+
+// The first number or count that is out of its range, in bodies and outside of them.
+fn any_number(alloc: Global, reader: &Reader) -> Result<Option<u32>, NoMemory>
+    requires { IsForest reader.now.nodes.now }
+    ensures { (s : Source) → Reads reader.now s → IfOk result (λ k. k ≡ least (numbers_out_of_range s ++ body_numbers_out_of_range s)) }
+{
+    let outside = number_out_of_range(alloc, reader)?;
+    let inside = body_number(alloc, reader)?;
+    Ok(sooner(outside, inside))
+}
