@@ -1,0 +1,9 @@
+pub mod ClausesFormed
+pub mod Fitting
+pub mod Formed
+pub mod Methods
+pub mod OperandsFit
+pub mod Reals
+pub mod Short
+pub mod Targets
+pub mod Words

@@ -1,0 +1,4 @@
+pub mod Contents
+pub mod Leads
+pub mod Lengths
+pub mod Sizes

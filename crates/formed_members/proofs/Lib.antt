@@ -1,0 +1,4 @@
+pub mod Nodes
+pub mod References
+pub mod Accessors
+pub mod Entries
