@@ -1,22 +1,20 @@
-//! From a source's tokens and derivation to the assembly that it denotes (ECMA-335 II.5 to II.22). What stands: the lines of
-//! which the last holds, with the version, the key and the flags of an assembly and the numbers that a source sets; strings;
-//! the manifest, and the assemblies that a source names; attributes, and to what they belong; the flags of declarations, as
-//! their words give them; methods that are overridden; numbers in the widths of what holds them; the numbers of labels. Each
-//! is proved for a source none of whose numbers is out of its range. All but the law on such sources is private until the
-//! passes that use it stand.
+//! The assembly that a source denotes (ECMA-335 II.5 to II.19, II.21): its classes, each with its base, its interfaces, its members
+//! and the classes that it nests, and the assembly as a whole.
 #![tactic(auto)]
 
-mod attributes;
-mod bounds;
-mod code_places;
-mod externs;
-mod field_places;
-mod keys;
-pub mod laws;
-mod manifests;
-mod names;
-mod overrides;
-mod runs;
-mod settings;
-mod texts;
-mod wrapping;
+pub mod assemblies;
+pub mod bases;
+pub mod class_heads;
+pub mod class_members;
+pub mod classes;
+pub mod cores;
+pub mod elaborating;
+pub mod faultless_sources;
+pub mod interfaces;
+pub mod known_sizes;
+pub mod member_reader;
+pub mod name_fault;
+pub mod source_members;
+
+pub use elaborating::elaborate;
+pub use name_fault::NameFault;

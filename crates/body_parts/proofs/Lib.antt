@@ -1,0 +1,11 @@
+pub mod BodyLemmas
+pub mod ClauseLemmas
+pub mod FormLemmas
+pub mod InstructionLemmas
+pub mod NamedLemmas
+pub mod NumberLemmas
+pub mod Numbering
+pub mod RangeNames
+pub mod RealParts
+pub mod References
+pub mod VariableParts

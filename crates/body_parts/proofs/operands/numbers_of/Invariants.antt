@@ -1,0 +1,10 @@
+use Rattle.std.proofs.Common.{◌≡◌, map, take}
+use Rattle.source_model.specs.Forest.{Forest}
+use Rattle.source_model.specs.Instructions.{label_number}
+use Rattle.source_model.specs.Source.{Source}
+use Rattle.source_parts.specs.CodePlaces.{IsCode}
+use Rattle.source_reading.specs.Methods.{AreNames}
+use Rattle.body_parts.proofs.operands.numbers_of.Given as goal
+
+abbrev pub invariant-loop-token : goal.invariant-loop-token
+invariant-loop-token l = (s : Source) (f : Forest) → IsCode l.code s f → AreNames s l.tokens → l.numbers ≡ map (label_number s f) (take l.token-index l.tokens)

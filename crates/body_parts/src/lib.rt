@@ -1,0 +1,16 @@
+//! The bodies of a source's methods (ECMA-335 II.15.4.1, II.19, II.25.4, III.1.7): operands and instructions, locals, exception
+//! clauses, and the most values that the stack is to hold.
+#![tactic(auto)]
+
+pub mod bodies;
+pub mod body_places;
+pub mod clause_ranges;
+pub mod clauses;
+pub mod instructions;
+pub mod locals;
+pub mod numbers;
+pub mod operands;
+pub mod reals;
+pub mod strings;
+pub mod variable_numbers;
+pub mod variables;

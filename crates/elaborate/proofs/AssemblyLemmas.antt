@@ -1,0 +1,64 @@
+-- The assembly as a whole, from its parts.
+use Rattle.std.proofs.Common.{◌≡◌, ℕ, ◌<◌, ◌^◌, List, [], ◌∷◌, length, map, refl, ap, sym, subst, ◌∙◌, arith}
+use Rattle.std.specs.List.{AllByRecursion, flat_map}
+use Rattle.std.proofs.lemmas.List.{length-map}
+use Rattle.assembly_tree.specs.declared.assembly.Assembly.{Assembly}
+use Rattle.assembly_tree.specs.declared.assembly.ExternAssembly.{ExternAssembly}
+use Rattle.assembly_tree.specs.declared.assembly.Manifest.{Manifest}
+use Rattle.assembly_tree.specs.declared.typedef.TypeDef.{TypeDef}
+use Rattle.ilasm_grammar.specs.declared.productions.TheConstants.{ASSEMBLY_EXTERN}
+use Rattle.source_model.specs.Classes.{assembly, classes_in}
+use Rattle.source_model.specs.Forest.{Forest, preorder}
+use Rattle.source_model.specs.Items.{declarations}
+use Rattle.source_model.specs.Manifests.{extern_assemblies, extern_assembly, manifest}
+use Rattle.source_model.specs.Names.{extern_key, externs}
+use Rattle.source_model.specs.Nodes.{nothing_around}
+use Rattle.source_model.specs.Source.{Source}
+use Rattle.source_model.specs.Values.{name_text}
+use Rattle.source_flags.specs.Lines.{productions_of}
+use Rattle.source_flags.specs.declared.gathering.Kind.TheVariants.{Declarations}
+use Rattle.source_flags.proofs.Gathered.{IsSought, all_follow, of_parts}
+use Rattle.source_reading.specs.Namings.{AreNames, tokens_named}
+use Rattle.source_reading.specs.Places.{IsAt}
+use Rattle.source_reading.specs.Readers.{Reads}
+use Rattle.source_reading.specs.declared.name_lists.Named.{Named}
+use Rattle.source_reading.specs.declared.name_lists.Naming.TheVariants as naming
+use Rattle.source_reading.specs.declared.place.Place.{Place}
+use Rattle.source_reading.proofs.SizeLemmas.{few_each}
+use Rattle.elaborate.specs.ClassParts.{AreGlobals}
+use Rattle.elaborate.specs.WholeParts.{AllWhole, IsWhole, IsWholePart}
+use Rattle.elaborate.specs.declared.assemblies.Globals.{Globals}
+
+keys_as : (s : Source) (fs : List Forest) → map (name_text s) (flat_map (tokens_named naming.Assembly) fs) ≡ map (extern_key s) fs
+keys_as s [] = refl
+keys_as s (f ∷ fs) = ap (λ ks. extern_key s f ∷ ks) (keys_as s fs)
+
+few_externs : (s : Source) (n : ℕ) → length (preorder s.tree) ≡ n → n < 2 ^ 32 → length (externs s) < 2 ^ 32
+few_externs s n e few = omega (arith, few_each ASSEMBLY_EXTERN s.tree, e, few)
+
+pub few_assemblies : (s : Source) (all : List ExternAssembly) → all ≡ extern_assemblies s → length (externs s) < 2 ^ 32 → length all < 2 ^ 32
+few_assemblies s all e few = omega (arith, ap length e, length-map (externs s) (extern_assembly s), few)
+
+-- a place outside of all classes
+pub at_outside : (x : Place) (named : Named) (s : Source) (n : ℕ) → Reads x.reader s → AreNames s naming.Assembly named → x.keys.now ≡ named.names
+    → x.class.now ≡ [] → x.method.now ≡ [] → length (preorder s.tree) ≡ n → n < 2 ^ 32 → IsAt x s nothing_around
+at_outside x named s n r are keys class method e few = record {
+  reads = r;
+  keys = keys ∙ are.texts ∙ keys_as s (externs s);
+  few = few_externs s n e few;
+  class = class;
+  method = method;
+  few-class = omega arith;
+  few-method = omega arith;
+}
+
+pub declarations_whole : (s : Source) → AllWhole s s.tree → AllByRecursion (IsWholePart s) (declarations s.tree)
+declarations_whole s each =
+    all_follow (IsSought (IsWhole s) (productions_of Declarations)) (IsWholePart s) (declarations s.tree) (λ p g. (g.1, g.2))
+    (of_parts (IsWhole s) (productions_of Declarations) s.tree each)
+
+pub whole : (s : Source) (m : Manifest) (es : List ExternAssembly) (g : Globals) (ts : List TypeDef) → m ≡ manifest s → es ≡ extern_assemblies s → AreGlobals s g
+    → ts ≡ classes_in s nothing_around s.tree
+    → (record { manifest = m; externs = es; fields = g.fields; methods = g.methods; types = ts }) ≡ assembly s
+unfolding assembly
+whole s m es g ts i j k l = λ n. record { manifest = i n; externs = j n; fields = k.fields-are n; methods = k.methods-are n; types = l n }

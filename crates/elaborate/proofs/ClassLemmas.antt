@@ -1,0 +1,128 @@
+-- Classes, from their parts.
+use Rattle.std.proofs.Common.{◌≡◌, ℕ, suc, ◌<◌, ◌≤◌, ◌^◌, List, [], ◌∷◌, ◌++◌, Some, length, map, refl, ap, sym, subst, ◌∙◌, arith}
+use Rattle.std.specs.Prelude.{Bool, true, false, filter, slice_get, if◌then◌else◌}
+use Rattle.std.specs.List.{AllByRecursion}
+use Rattle.std.proofs.lemmas.List.{length-map}
+use Rattle.assembly_tree.specs.declared.typedef.TypeDef.{TypeDef}
+use Rattle.assembly_tree.specs.declared.typedef.TypeDef.TheViews.{roll-TypeDef}
+use Rattle.ilasm_grammar.specs.Ilasm.{ilasm, rule_by}
+use Rattle.ilasm_grammar.specs.declared.productions.TheConstants.{CLASS, METHOD, TYPARS_OPT_SOME, TYPAR}
+use Rattle.ilasm_grammar.specs.declared.terminals.TheConstants as t
+use Rattle.type_terms.specs.declared.name.TypeId.{TypeId}
+use Rattle.source_model.specs.Classes.{class_from}
+use Rattle.source_model.specs.Forest.{Forest, Part, child, preorder}
+use Rattle.source_model.specs.Items.{members}
+use Rattle.source_model.specs.Members.{is_method_part, method, method_forests}
+use Rattle.source_model.specs.Nodes.{Around, typar_names, typars}
+use Rattle.source_model.specs.Source.{Source}
+use Rattle.source_model.specs.Values.{name_text}
+use Rattle.source_model.specs.Forest as tree
+use Rattle.source_reading.specs.Places.{IsAt}
+use Rattle.source_reading.specs.Readers.{Reads}
+use Rattle.source_reading.specs.declared.place.Place.{Place}
+use Rattle.source_reading.proofs.NameTokens.{terminals_of_rule}
+use Rattle.source_reading.proofs.ShapeLemmas.{few_parts}
+use Rattle.source_reading.proofs.SizeLemmas.{child_smaller, few_each}
+use Rattle.source_flags.specs.InRange.{AllInRange, IsInRange}
+use Rattle.source_flags.specs.Lines.{productions_of}
+use Rattle.source_flags.specs.declared.gathering.Kind.TheVariants.{Members}
+use Rattle.source_flags.proofs.Gathered.{IsSought, all_follow, of_parts}
+use Rattle.member_parts.specs.Ranged.{IsRanged}
+use Rattle.member_parts.specs.SignedMethods.{declared, signed}
+use Rattle.elaborate.specs.Bases.{is_outside}
+use Rattle.elaborate.specs.ClassParts.{AreMembers, IsHead, IsKnown, inner}
+use Rattle.elaborate.specs.declared.classes.Known.{Known}
+use Rattle.elaborate.specs.WholeParts.{AllWhole, IsWhole, IsWholePart}
+use Rattle.elaborate.specs.declared.class_heads.Head.{Head}
+use Rattle.elaborate.specs.declared.class_members.Members as own
+
+pub class_is_named : slice_get (terminals_of_rule (ilasm CLASS)) 1 ≡ Some t.NAME
+unfolding ilasm rule_by
+class_is_named = refl
+
+-- ---- its methods
+
+pub signed_methods : (s : Source) (a : Around) (ms : List Forest) → map signed (map (method s a) ms) ≡ map (declared s a) ms
+signed_methods s a [] = refl
+signed_methods s a (m ∷ ms) = ap (λ xs. declared s a m ∷ xs) (signed_methods s a ms)
+
+few_filtered : {X : Type 0} (test : X → Bool) (xs : List X) → length (filter test xs) ≤ length xs
+few_filtered test [] = omega arith
+few_filtered test (x ∷ xs) = go (test x) (few_filtered test xs)
+  where
+    go : (c : Bool) → length (filter test xs) ≤ length xs → length (if c then x ∷ filter test xs else filter test xs) ≤ suc (length xs)
+    go true h = omega (arith, h)
+    go false h = omega (arith, h)
+
+pub few_methods : (f : Forest) (n : ℕ) → length (preorder f) ≡ n → n < 2 ^ 32 → length (method_forests (members f)) < 2 ^ 32
+few_methods f n e few =
+    omega (arith, length-map (filter is_method_part (members f)) (λ (p : Part). tree.the METHOD p.below), few_filtered is_method_part (members f), few_parts (productions_of Members) f, e, few)
+
+pub members_ranged : (s : Source) (f : Forest) → AllInRange s f → AllByRecursion (IsRanged s) (members f)
+members_ranged s f each =
+    all_follow (IsSought (IsInRange s) (productions_of Members)) (IsRanged s) (members f) (λ p g. (g.1, g.2)) (of_parts (IsInRange s) (productions_of Members) f each)
+
+pub all_ranged : (s : Source) (f : Forest) → AllWhole s f → AllInRange s f
+all_ranged s tree.none h = tt
+all_ranged s (tree.leaf k a) h = all_ranged s a h
+all_ranged s (tree.branch p b a) h = (h.0.0, all_ranged s b h.1, all_ranged s a h.2)
+
+pub members_whole : (s : Source) (f : Forest) → AllWhole s f → AllByRecursion (IsWholePart s) (members f)
+members_whole s f each =
+    all_follow (IsSought (IsWhole s) (productions_of Members)) (IsWholePart s) (members f) (λ p g. (g.1, g.2)) (of_parts (IsWhole s) (productions_of Members) f each)
+
+-- ---- its generic parameters
+
+pub few_typars : (s : Source) (f : Forest) (n : ℕ) → length (preorder f) ≡ n → n < 2 ^ 32 → length (typar_names s f) < 2 ^ 32
+few_typars s f n e few =
+    let named : length (typar_names s f) ≡ length (typars f) = length-map (typars f) (λ g. name_text s (tree.leaf_at 0 g)) in
+    omega (arith, named, few_each TYPAR (child (TYPARS_OPT_SOME ∷ []) f), child_smaller (TYPARS_OPT_SOME ∷ []) f, e, few)
+
+-- ---- the whole
+
+pub put : (s : Source) (a : Around) (f : Forest) (h : Head) (m : own.Members) (nested : List TypeDef) → IsHead s a f h → AreMembers s a f m
+    → roll-TypeDef (record {
+      id = h.id;
+      flags = h.flags;
+      layout = h.layout;
+      generics = m.generics;
+      extends = h.extends;
+      implements = h.implements;
+      fields = m.fields;
+      methods = m.methods;
+      properties = m.accessed.properties;
+      events = m.accessed.events;
+      nested = nested;
+      attributes = m.attributes;
+    }) ≡ class_from s a f nested
+put s a f h m nested i k = λ n. roll-TypeDef (record {
+  id = i.id-is n;
+  flags = i.flags-are n;
+  layout = i.layout-is n;
+  generics = k.generics-are n;
+  extends = i.base-is n;
+  implements = i.interfaces-are n;
+  fields = k.fields-are n;
+  methods = k.methods-are n;
+  properties = k.accessed-are.properties-are n;
+  events = k.accessed-are.events-are n;
+  nested = nested;
+  attributes = k.attributes-are n;
+})
+
+pub within_some : (path : List TypeId) (id : TypeId) → false ≡ is_outside (path ++ id ∷ [])
+within_some [] id = refl
+within_some (x ∷ xs) id = refl
+
+-- a place in a class
+pub at_class : (x : Place) (known : Known) (s : Source) (a : Around) (f : Forest) → IsKnown known s → x.reader ≡ known.reader → x.keys.now ≡ known.keys.now
+    → x.class.now ≡ typar_names s f → x.method.now ≡ known.none.now → length (typar_names s f) < 2 ^ 32 → IsAt x s (inner s a f)
+at_class x known s a f k reader keys class method few = record {
+  reads = subst (λ r. Reads r s) (sym reader) k.reads;
+  keys = keys ∙ k.keys-are;
+  few = k.few;
+  class = class;
+  method = method ∙ k.none-is;
+  few-class = few;
+  few-method = omega arith;
+}

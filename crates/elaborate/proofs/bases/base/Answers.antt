@@ -1,0 +1,29 @@
+use Rattle.std.proofs.Common.{◌≡◌, [], ◌∷◌, ap, sym, subst, ◌∙◌}
+use Rattle.std.specs.Prelude.{IfOk}
+use Rattle.ilasm_grammar.specs.declared.productions.TheConstants.{EXTENDS_OPT_SOME}
+use Rattle.source_model.specs.Forest.{child}
+use Rattle.source_flags.specs.InRange.{IsInRange}
+use Rattle.source_flags.proofs.Gathered.{readable}
+use Rattle.source_reading.proofs.ReferenceLemmas.{of_child}
+use Rattle.elaborate.proofs.BaseLemmas.{of_interface, of_object, of_written}
+use Rattle.elaborate.proofs.bases.base.Goals as goal
+
+pub returns-then-is_interface : goal.returns-then-is_interface
+returns-then-is_interface c s a x f e each core root =
+    of_interface s a f (sym (c.is_interface.ensures s f x.reads e) ∙ c.if-is_interface.true)
+
+pub returns-then-has : goal.returns-then-has
+returns-then-has c s a x f e each core root =
+    let written = child (EXTENDS_OPT_SOME ∷ []) f in
+    let below = sym (c.child-written.ensures f e) in
+    of_written s a f c.in_ok-owner.owner (sym (c.is_interface.ensures s f x.reads e) ∙ c.if-is_interface.false) (sym (c.has.ensures written below) ∙ c.if-has.true)
+    (c.in_ok-owner.ensures s a x written below (readable s written (of_child (IsInRange s) (EXTENDS_OPT_SOME ∷ []) f each)))
+
+pub returns : goal.returns
+returns c s a x f e each core root =
+    let written = child (EXTENDS_OPT_SOME ∷ []) f in
+    let below = sym (c.child-written.ensures f e) in
+    subst (λ o. IfOk c.named_object.result (λ owner. owner ≡ o))
+    (of_object s a f c.args.core (sym (c.is_interface.ensures s f x.reads e) ∙ c.if-is_interface.false) (sym (c.has.ensures written below) ∙ c.if-has.false)
+    (sym root ∙ c.if-root.false) core)
+    c.named_object.ensures

@@ -1,5 +1,0 @@
-use Rattle.elaborate.proofs.manifests.manifest.Goals as goal
-
-pub returns : goal.returns
-returns c s x h some =
-    c.put_together.ensures s (c.in_ok-names.ensures s x.reads h some) (c.in_ok-signs.ensures s x.reads h) (c.in_ok-numbers.ensures s x.reads h) (c.in_ok-customs.ensures s x h)

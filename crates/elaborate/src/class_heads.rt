@@ -1,0 +1,73 @@
+//! What a class says before its members: its name, flags, base and interfaces, with its layout (ECMA-335 II.10.1, II.10.7).
+
+ghost use Rattle.std.specs.Prelude.{◌≡◌, ◌∷◌, [], IfOk};
+ghost use Rattle.elaborate.specs.Bases.{is_outside};
+ghost use Rattle.elaborate.specs.ClassParts.{inner, IsHead};
+ghost use Rattle.ilasm_grammar.specs.declared.productions.TheConstants.{CLASS, IMPLEMENTS_OPT_SOME};
+ghost use Rattle.source_flags.specs.InRange.{AllInRange, IsInRange};
+ghost use Rattle.source_model.specs.Classes.{core_scope, rising};
+ghost use Rattle.source_model.specs.Forest.{Forest, child, preorder};
+ghost use Rattle.source_model.specs.Nodes.{Around};
+ghost use Rattle.source_model.specs.Source.{Source};
+ghost use Rattle.source_model.specs.Types.{owners_in};
+ghost use Rattle.source_reading.specs.Places.{IsAt};
+ghost use Rattle.source_reading.specs.Walk.{IsForest};
+
+use crate::bases::{base, is_root};
+use crate::interfaces::rising;
+use assembly_tree::Layout;
+use il_base::NoMemory;
+use ilasm_grammar::TreeNode;
+use ilasm_grammar::productions::IMPLEMENTS_OPT_SOME;
+use member_parts::layouts::layout;
+use source_flags::declared_flags::type_flags;
+use source_reading::place::Place;
+use source_reading::walk::{child, leaf_at};
+use std::alloc::Global;
+use type_terms::{Owner, Owners, Scope, TypeId};
+
+/// What a class says before its members.
+#[derive(Drop)]
+pub struct Head {
+    pub id: TypeId,
+    pub flags: u32,
+    pub layout: Option<Layout>,
+    pub extends: Option<Owner>,
+    pub implements: Owners,
+}
+
+/// The head of a class, which stands outside of all classes or in some, from what stands below its production.
+pub fn read_head(
+    alloc: Global,
+    place: &Place,
+    outside: bool,
+    core: Option<Scope>,
+    nodes: &[TreeNode],
+) -> Result<Head, NoMemory>
+    requires { IsForest nodes.now }
+    ensures { (s : Source) (a : Around) (f : Forest) → IsAt place.now s (inner s a f) → outside ≡ is_outside a.path → core ≡ core_scope s → preorder f ≡ nodes.now →
+        IsInRange s CLASS f → AllInRange s f → IfOk result (λ x. IsHead s (inner s a f) f x) }
+{
+    let id = place.reader.type_id(alloc, leaf_at(nodes, 1))?;
+    let layout = layout(alloc, &place.reader, nodes)?;
+    let root = is_root(outside, &id);
+    let extends = base(alloc, place, nodes, core, root)?;
+    let implements = interfaces(alloc, place, nodes)?;
+    Ok(Head {
+        id,
+        flags: type_flags(&place.reader, nodes),
+        layout,
+        extends,
+        implements,
+    })
+}
+
+// The interfaces of a class, in their order.
+fn interfaces(alloc: Global, place: &Place, nodes: &[TreeNode]) -> Result<Owners, NoMemory>
+    requires { IsForest nodes.now }
+    ensures { (s : Source) (a : Around) → IsAt place.now s a → (f : Forest) → preorder f ≡ nodes.now → AllInRange s f →
+        IfOk result (λ owners. owners ≡ rising (owners_in s a (child (IMPLEMENTS_OPT_SOME ∷ []) f))) }
+{
+    let owners = place.owners_in(alloc, child(nodes, IMPLEMENTS_OPT_SOME))?;
+    rising(alloc, owners)
+}

@@ -1,0 +1,110 @@
+//! The members of a class, with its generic parameters and its attributes (ECMA-335 II.10.2).
+
+ghost use Rattle.std.specs.Prelude.{◌≡◌, ◌<◌, ◌^◌, IfOk, List, length};
+ghost use Rattle.std.specs.List.{AllByRecursion};
+ghost use Rattle.elaborate.specs.ClassParts.{AreAccessed, AreMembers};
+ghost use Rattle.elaborate.specs.WholeParts.{AllWhole};
+ghost use Rattle.source_flags.specs.InRange.{AllInRange};
+ghost use Rattle.source_model.specs.Forest.{Forest, Part, preorder};
+ghost use Rattle.source_model.specs.Items.{members, own_customs};
+ghost use Rattle.source_model.specs.Manifests.{attributes};
+ghost use Rattle.source_model.specs.Members.{methods};
+ghost use Rattle.source_model.specs.Nodes.{Around};
+ghost use Rattle.source_model.specs.Source.{Source};
+ghost use Rattle.source_reading.specs.Pieces.{ArePieces, AreParts};
+ghost use Rattle.source_reading.specs.Places.{IsAt};
+ghost use Rattle.source_reading.specs.Walk.{IsForest};
+
+use crate::member_reader::MemberReader;
+use assembly_tree::{Attributes, Events, Fields, Generics, Method, Methods, Properties};
+use il_base::NoMemory;
+use ilasm_grammar::TreeNode;
+use member_parts::events::events;
+use member_parts::method_tables::MethodTable;
+use member_parts::properties::properties;
+use source_flags::gathering::{Kind, parts_of};
+use source_parts::attributes::attributes;
+use source_parts::runs::own_customs;
+use source_reading::pieces::Piece;
+use source_reading::place::Place;
+use std::alloc::Global;
+
+/// The members of a class that have accessors.
+#[derive(Drop)]
+pub struct Accessed {
+    pub properties: Properties,
+    pub events: Events,
+}
+
+/// The members of a class, its generic parameters and its attributes.
+#[derive(Drop)]
+pub struct Members {
+    pub generics: Generics,
+    pub fields: Fields,
+    pub methods: Methods,
+    pub accessed: Accessed,
+    pub attributes: Attributes,
+}
+
+/// The members of a class, from what stands below its production.
+pub fn read_members<R: MemberReader>(
+    reader: &R,
+    alloc: Global,
+    place: &Place,
+    nodes: &[TreeNode],
+) -> Result<Members, NoMemory>
+    requires ready { R.ready reader.now }
+    requires forest { IsForest nodes.now }
+    requires few { length nodes.now < 2 ^ 32 }
+    ensures { (s : Source) (a : Around) → R.knows reader.now s → IsAt place.now s a → preorder a.class ≡ nodes.now → AllWhole s a.class →
+        IfOk result (λ x. AreMembers s a a.class x) }
+{
+    let found = parts_of(alloc, nodes, Kind::Members)?;
+    let generics = reader.generics(alloc, place, nodes, found.as_slice())?;
+    let fields = reader.fields(alloc, place, nodes, found.as_slice())?;
+    let methods = reader.methods(alloc, place, nodes, found.as_slice())?;
+    let accessed = read_accessed(alloc, place, nodes, found.as_slice(), methods.as_slice())?;
+    let attributes = own_attributes(alloc, place, nodes, found.as_slice())?;
+    Ok(Members {
+        generics,
+        fields,
+        methods,
+        accessed,
+        attributes,
+    })
+}
+
+// The properties and the events among the members of a class, with its methods.
+fn read_accessed(
+    alloc: Global,
+    place: &Place,
+    nodes: &[TreeNode],
+    found: &[Piece],
+    declared: &[Method],
+) -> Result<Accessed, NoMemory>
+    requires parts { AreParts nodes.now found.now }
+    requires few { length nodes.now < 2 ^ 32 }
+    ensures { (s : Source) (a : Around) → IsAt place.now s a → (f : Forest) → preorder f ≡ nodes.now → AllInRange s f → ArePieces nodes.now found.now (members f) →
+        declared.now ≡ methods s a (members f) → IfOk result (λ x. AreAccessed s a f x) }
+{
+    let table = MethodTable::new(alloc, declared)?;
+    let properties = properties(alloc, place, nodes, found, &table)?;
+    let events = events(alloc, place, nodes, found, &table)?;
+    Ok(Accessed { properties, events })
+}
+
+// The attributes of a class itself.
+fn own_attributes(
+    alloc: Global,
+    place: &Place,
+    nodes: &[TreeNode],
+    found: &[Piece],
+) -> Result<Attributes, NoMemory>
+    requires parts { AreParts nodes.now found.now }
+    requires few { length nodes.now < 2 ^ 32 }
+    ensures { (s : Source) (a : Around) → IsAt place.now s a → (f : Forest) → AllInRange s f → ArePieces nodes.now found.now (members f) →
+        IfOk result (λ all. all ≡ attributes s a (own_customs (members f))) }
+{
+    let own = own_customs(alloc, found)?;
+    attributes(alloc, place, nodes, own.as_slice())
+}

@@ -1,0 +1,79 @@
+//! The assembly that a source denotes, or the first rule that it breaks (ECMA-335 II.5 to II.19, II.21).
+
+ghost use Rattle.std.specs.Prelude.{◌≡◌, ◌⊎◌, ℕ, ◌<◌, ◌≤◌, ◌^◌, Err, IfErr, IfOk, IsTrue, Ok, length};
+ghost use Rattle.assembly_tree.specs.WellFormed.{is_well_formed};
+ghost use Rattle.assembly_tree.specs.declared.assembly.Assembly.{Assembly};
+ghost use Rattle.elaborate.specs.Elaborated.{IsCause};
+ghost use Rattle.elaborate.specs.SourceMembers.{ReadsSome};
+ghost use Rattle.elaborate.specs.declared.name_fault.NameFault.TheVariants.{Bad, NoMemory};
+ghost use Rattle.il_base.specs.declared.pos.Pos.{Pos};
+ghost use Rattle.il_lexer.specs.Lexing.{Lexes};
+ghost use Rattle.ilasm_grammar.specs.Parsing.{IsTreeOf};
+ghost use Rattle.source_model.specs.Denotes.{Denotes, HasNameFault};
+ghost use Rattle.source_model.specs.declared.fault.NameClass.{NameClass};
+
+use crate::faultless_sources::read_faultless;
+use crate::name_fault::NameFault;
+use assembly_tree::Assembly;
+use formed_assemblies::laws::what_is_denoted_is_formed;
+use il_lexer::types::Tokens;
+use ilasm_grammar::{Tree, one_derivation};
+use method_parts::laws::faultless_sources_are_whole;
+use source_faults::faults::first_fault;
+use source_model::{derivations_are_forests, one_meaning};
+use source_reading::reader::Reader;
+use std::alloc::Global;
+
+/// The assembly that a source of at most 2^27 bytes denotes, which is well formed, from its at most 2^24 tokens and their
+/// derivation; or exactly the first rule of class D, N or B that it breaks, and where (ECMA-335 II.5 to II.19, II.21).
+pub fn elaborate(
+    alloc: Global,
+    source: &[u8],
+    tokens: &Tokens,
+    tree: &Tree,
+) -> Result<Assembly, NameFault>
+    requires short { length source.now ≤ 2 ^ 27 }
+    requires few { length tokens.now ≤ 2 ^ 24 }
+    requires lexes { Lexes source.now tokens.now }
+    requires derives { IsTreeOf tokens.now tree.now }
+    ensures assembly { IfOk result (Denotes source.now) }
+    ensures formed { IfOk result (λ a. IsTrue (is_well_formed a)) }
+    ensures cause { IfErr result (IsCause source.now) }
+
+    // It answers the assembly or the fault wherever there is one, and memory.
+    ensures denoted { (a : Assembly) → Denotes source.now a → (result ≡ Ok a) ⊎ (result ≡ Err NoMemory) }
+    ensures faulty { (pos : Pos) (class : NameClass) (rule : ℕ) → HasNameFault source.now pos class rule →
+        (result ≡ Err (Bad pos class rule)) ⊎ (result ≡ Err NoMemory) }
+{
+    derivations_are_forests();
+    one_derivation();
+    one_meaning();
+    what_is_denoted_is_formed();
+    let reader = Reader {
+        source,
+        tokens: tokens.as_slice(),
+        nodes: tree.as_slice(),
+    };
+    read_source(alloc, &reader)
+}
+
+// The assembly that a source denotes, or the first rule that it breaks.
+fn read_source(alloc: Global, reader: &Reader) -> Result<Assembly, NameFault>
+    requires reads { ReadsSome reader.now }
+    requires short { length reader.now.source.now ≤ 2 ^ 27 }
+    requires few { length reader.now.tokens.now ≤ 2 ^ 24 }
+    requires few_nodes { length reader.now.nodes.now < 2 ^ 32 }
+    ensures assembly { IfOk result (Denotes reader.now.source.now) }
+    ensures cause { IfErr result (IsCause reader.now.source.now) }
+{
+    faultless_sources_are_whole();
+    if let Some(fault) = first_fault(alloc, reader)? {
+        return Err(NameFault::Bad {
+            pos: fault.pos,
+            class: fault.class,
+            rule: fault.rule,
+        });
+    }
+    let found = read_faultless(alloc, reader)?;
+    Ok(found)
+}

@@ -1,0 +1,60 @@
+//! The sizes of a source's classes in data, by their paths (ECMA-335 II.10.7, II.16.3, II.22.8).
+
+ghost use Rattle.std.specs.Prelude.{◌≡◌, IfOk, map, min};
+ghost use Rattle.elaborate.specs.KnownSizes.{in_word};
+ghost use Rattle.member_parts.specs.ClassSizes.{AreSizes};
+ghost use Rattle.source_flags.specs.InRange.{AllInRange};
+ghost use Rattle.source_model.specs.Source.{Source};
+ghost use Rattle.source_reading.specs.Readers.{Reads};
+ghost use Rattle.source_reading.specs.Walk.{IsForest};
+
+use data_rules::declared_sizes::collect_sizes;
+use il_base::{Items, NoMemory};
+use member_parts::class_sizes::ClassSizes;
+use source_reading::reader::Reader;
+use source_rules::class_rules::collect_classes;
+use std::alloc::Global;
+
+/// The sizes of the classes of a source.
+pub fn read_sizes(alloc: Global, reader: &Reader) -> Result<ClassSizes, NoMemory>
+    requires { IsForest reader.now.nodes.now }
+    ensures { (s : Source) → Reads reader.now s → AllInRange s s.tree → IfOk result (λ sizes. AreSizes s sizes) }
+{
+    let classes = collect_classes(alloc, reader)?;
+    let counted = collect_sizes(alloc, reader, &classes)?;
+    let sizes = in_words(alloc, counted.as_slice())?;
+    Ok(ClassSizes {
+        paths: classes.paths,
+        sizes,
+    })
+}
+
+fn in_words(alloc: Global, counted: &[Option<Option<u64>>]) -> Result<Items<Option<u32>>, NoMemory>
+    ensures { IfOk result (λ sizes. sizes ≡ map in_word counted.now) }
+{
+    let mut sizes = Items::with_capacity(alloc, counted.len())?;
+    for size in counted {
+        sizes.push(in_word(*size))?;
+    }
+    Ok(sizes)
+}
+
+fn in_word(size: Option<Option<u64>>) -> Option<u32>
+    ensures { result ≡ in_word size }
+{
+    match size {
+        Some(Some(n)) => Some(low_word(n)),
+        Some(None) | None => None,
+    }
+}
+
+// A number, or 2^32 - 1 where it is beyond that.
+fn low_word(n: u64) -> u32
+    ensures { result ≡ min n 0xFFFFFFFF }
+{
+    if n < 0xFFFF_FFFF {
+        n as u32
+    } else {
+        0xFFFF_FFFF
+    }
+}

@@ -1,0 +1,72 @@
+//! The members of a source's classes, read with the data and the sizes of classes that the source declares (ECMA-335 II.10.2).
+
+ghost use Rattle.elaborate.specs.SourceMembers.{AreDeclared};
+ghost use Rattle.source_reading.specs.Pieces.{AreParts};
+
+use crate::member_reader::MemberReader;
+use assembly_tree::{Fields, Generics, Methods};
+use il_base::NoMemory;
+use ilasm_grammar::TreeNode;
+use member_parts::class_sizes::ClassSizes;
+use member_parts::fields::{FieldContext, fields};
+use member_parts::generics::generics;
+use member_parts::labelled_data::LabelledData;
+use method_parts::method_lists::methods;
+use source_reading::pieces::Piece;
+use source_reading::place::Place;
+use source_reading::reader::Reader;
+use std::alloc::Global;
+
+/// A source with its data and the sizes of its classes.
+#[derive(Drop)]
+pub struct SourceMembers<'a> {
+    pub reader: Reader<'a>,
+    pub labelled: &'a LabelledData,
+    pub sizes: &'a ClassSizes,
+}
+
+impl MemberReader for SourceMembers<'_> {
+    ghost knows = { λ x s. AreDeclared x.reader x.labelled.now x.sizes.now s };
+
+    ghost ready = { λ x. AreParts x.reader.nodes.now x.labelled.now.found };
+
+    fn fields(
+        &self,
+        alloc: Global,
+        place: &Place,
+        nodes: &[TreeNode],
+        found: &[Piece],
+    ) -> Result<Fields, NoMemory> {
+        let context = FieldContext {
+            place: Place {
+                reader: self.reader,
+                keys: place.keys,
+                class: place.class,
+                method: place.method,
+            },
+            labelled: self.labelled,
+            sizes: self.sizes,
+        };
+        fields(alloc, &context, nodes, found)
+    }
+
+    fn methods(
+        &self,
+        alloc: Global,
+        place: &Place,
+        nodes: &[TreeNode],
+        found: &[Piece],
+    ) -> Result<Methods, NoMemory> {
+        methods(alloc, place, nodes, found)
+    }
+
+    fn generics(
+        &self,
+        alloc: Global,
+        place: &Place,
+        nodes: &[TreeNode],
+        found: &[Piece],
+    ) -> Result<Generics, NoMemory> {
+        generics(alloc, place, place.class, nodes, found)
+    }
+}

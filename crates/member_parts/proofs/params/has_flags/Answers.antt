@@ -1,0 +1,10 @@
+use Rattle.std.proofs.Common.{◌≡◌, ap, length, sym, ◌∙◌}
+use Rattle.std.specs.Prelude.{Bool, [], ◌==◌, ◌∷◌, not}
+use Rattle.ilasm_grammar.specs.declared.productions.TheConstants.{PARAM_ATTR_STAR_MORE}
+use Rattle.source_model.specs.Forest.{child, preorder}
+use Rattle.member_parts.proofs.ParamFlags.{has_flag}
+use Rattle.member_parts.proofs.params.has_flags.Goals as goal
+
+pub returns : goal.returns
+returns c s f e ranged =
+    ap not c.is_empty.ensures ∙ ap (λ ns. not (length ns == 0)) (c.child.ensures f e) ∙ sym (has_flag s f ranged)

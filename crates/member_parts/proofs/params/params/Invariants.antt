@@ -1,0 +1,20 @@
+use Rattle.std.proofs.Common.{◌≡◌, ◌≤◌, ◌++◌, List, [], take}
+use Rattle.std.specs.Prelude.{filter}
+use Rattle.std.specs.List.{enumerate_from, flat_map}
+use Rattle.source_model.specs.Forest.{Forest, none, preorder}
+use Rattle.source_model.specs.Items.{items_and_ends, runs}
+use Rattle.source_model.specs.Nodes.{Around}
+use Rattle.source_model.specs.Parameters.{parameters, rows_of, speaks_of_parameter}
+use Rattle.source_model.specs.Source.{Source}
+use Rattle.source_flags.specs.InRange.{AllInRange}
+use Rattle.source_reading.specs.Pieces.{ArePieces}
+use Rattle.source_reading.specs.Places.{IsAt}
+use Rattle.member_parts.proofs.ParamRows.{RowsRead}
+use Rattle.member_parts.proofs.params.params.Given as goal
+
+abbrev pub invariant-loop-parameter : goal.invariant-loop-parameter
+invariant-loop-parameter l = record {
+  within : l.number ≤ l.parameter-index;
+  so_far : (s : Source) (a : Around) → IsAt l.place s a → (f : Forest) → preorder f ≡ l.nodes → AllInRange s f → ArePieces l.nodes l.found (items_and_ends f)
+      → RowsRead s a f l.number l.parameter-index l.all;
+}

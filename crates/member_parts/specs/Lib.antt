@@ -1,0 +1,16 @@
+pub mod ClassSizes
+pub mod Constants
+pub mod DataItems
+pub mod FieldContexts
+pub mod Generics
+pub mod GivenAttributes
+pub mod ItemCustoms
+pub mod ItemSteps
+pub mod LabelledData
+pub mod Layouts
+pub mod MethodHashes
+pub mod NumberedLines
+pub mod ParamLines
+pub mod Parameters
+pub mod Ranged
+pub mod SignedMethods

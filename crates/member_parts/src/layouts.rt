@@ -1,0 +1,96 @@
+//! The layouts of classes (ECMA-335 II.10.7, II.22.8).
+
+ghost use Rattle.std.specs.Prelude.{◌≡◌, ◌<◌, ◌^◌, ◌⊎◌, IfOk, IfSome, List};
+ghost use Rattle.std.specs.List.{AllByRecursion};
+ghost use Rattle.ilasm_grammar.specs.declared.productions.TheConstants.{MEMBER_PACK, MEMBER_SIZE};
+ghost use Rattle.member_parts.specs.Layouts.{last_member, layout_of, number_or};
+ghost use Rattle.member_parts.specs.Ranged.{IsRanged};
+ghost use Rattle.source_flags.specs.InRange.{AllInRange};
+ghost use Rattle.source_model.specs.Data.{layout};
+ghost use Rattle.source_model.specs.Forest.{Forest, Part, preorder};
+ghost use Rattle.source_model.specs.Source.{Source};
+ghost use Rattle.source_reading.specs.Pieces.{ArePieces, AreParts};
+ghost use Rattle.source_reading.specs.Readers.{Reads};
+ghost use Rattle.source_reading.specs.Walk.{IsForest};
+
+use assembly_tree::Layout;
+use il_base::NoMemory;
+use ilasm_grammar::TreeNode;
+use ilasm_grammar::productions::{MEMBER_PACK, MEMBER_SIZE};
+use source_flags::gathering::{Kind, parts_of};
+use source_flags::naturals::{natural_32, short_of};
+use source_reading::pieces::{Piece, nodes_of};
+use source_reading::reader::Reader;
+use source_reading::walk::leaf_at;
+use std::alloc::Global;
+
+/// The layout of a class, where a line gives it one, from what stands below its production.
+pub fn layout(
+    alloc: Global,
+    reader: &Reader,
+    nodes: &[TreeNode],
+) -> Result<Option<Layout>, NoMemory>
+    requires { IsForest nodes.now }
+    ensures { (s : Source) (f : Forest) → Reads reader.now s → preorder f ≡ nodes.now → AllInRange s f → IfOk result (λ l. l ≡ layout s f) }
+{
+    let members = parts_of(alloc, nodes, Kind::Members)?;
+    let pack = last_number(reader, nodes, members.as_slice(), MEMBER_PACK);
+    let size = last_number(reader, nodes, members.as_slice(), MEMBER_SIZE);
+    Ok(layout_of(pack, size))
+}
+
+// The layout that a packing size and a class size give; one of the two that is missing is 0.
+fn layout_of(pack: Option<u32>, size: Option<u32>) -> Option<Layout>
+    ensures { IfSome pack (λ n. n < 2 ^ 16) → result ≡ layout_of pack size }
+{
+    match (pack, size) {
+        (None, None) => None,
+        (Some(pack), None) => Some(Layout {
+            pack: short_of(pack),
+            size: 0,
+        }),
+        (None, Some(size)) => Some(Layout { pack: 0, size }),
+        (Some(pack), Some(size)) => Some(Layout {
+            pack: short_of(pack),
+            size,
+        }),
+    }
+}
+
+// The number of the last member of a production, where there is one.
+fn last_number(
+    reader: &Reader,
+    nodes: &[TreeNode],
+    members: &[Piece],
+    production: u16,
+) -> Option<u32>
+    requires { AreParts nodes.now members.now }
+    ensures { (s : Source) (ps : List Part) → Reads reader.now s → ArePieces nodes.now members.now ps → AllByRecursion (IsRanged s) ps →
+        (production ≡ MEMBER_PACK) ⊎ (production ≡ MEMBER_SIZE) → result ≡ last_member s production ps }
+{
+    let mut last = None;
+    for member in members {
+        let below = nodes_of(nodes, *member);
+        last = number_or(reader, production, member.production, below, last);
+    }
+    last
+}
+
+// The number of a member, where it is of a production; else the one before.
+fn number_or(
+    reader: &Reader,
+    production: u16,
+    made: u16,
+    below: &[TreeNode],
+    before: Option<u32>,
+) -> Option<u32>
+    requires { IsForest below.now }
+    ensures { (s : Source) (p : Part) → Reads reader.now s → made ≡ p.production → preorder p.below ≡ below.now → IsRanged s p →
+        (production ≡ MEMBER_PACK) ⊎ (production ≡ MEMBER_SIZE) → result ≡ number_or s production before p }
+{
+    if made == production {
+        Some(natural_32(reader, leaf_at(below, 1)))
+    } else {
+        before
+    }
+}

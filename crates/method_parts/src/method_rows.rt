@@ -1,0 +1,71 @@
+//! The generic parameters, parameters, overrides and attributes of a method (ECMA-335 II.10.3.2, II.15.4.1, II.21).
+
+ghost use Rattle.std.specs.Prelude.{◌≡◌, ◌<◌, ◌^◌, IfOk, length};
+ghost use Rattle.method_parts.specs.MethodParts.{AreRows};
+ghost use Rattle.source_flags.specs.InRange.{AllInRange};
+ghost use Rattle.source_model.specs.Forest.{Forest, preorder};
+ghost use Rattle.source_model.specs.Items.{items_and_ends, own_customs};
+ghost use Rattle.source_model.specs.Manifests.{attributes};
+ghost use Rattle.source_model.specs.Nodes.{Around};
+ghost use Rattle.source_model.specs.Source.{Source};
+ghost use Rattle.source_reading.specs.Pieces.{ArePieces, AreParts};
+ghost use Rattle.source_reading.specs.Places.{IsAt};
+ghost use Rattle.source_reading.specs.Walk.{IsForest};
+
+use assembly_tree::{Attributes, Generics, Params};
+use il_base::NoMemory;
+use ilasm_grammar::TreeNode;
+use member_parts::generics::generics;
+use member_parts::item_walks::items_and_ends;
+use member_parts::params::params;
+use source_parts::attributes::attributes;
+use source_parts::overrides::overrides;
+use source_parts::runs::own_customs;
+use source_reading::pieces::Piece;
+use source_reading::place::Place;
+use std::alloc::Global;
+use type_terms::MethodRefs;
+
+/// What belongs to a method beside its head and its body.
+#[derive(Drop)]
+pub struct Rows {
+    pub generics: Generics,
+    pub params: Params,
+    pub overrides: MethodRefs,
+    pub attributes: Attributes,
+}
+
+/// What belongs to the method that a place is in, from what stands below its production.
+pub fn read_rows(alloc: Global, place: &Place, nodes: &[TreeNode]) -> Result<Rows, NoMemory>
+    requires forest { IsForest nodes.now }
+    requires few { length nodes.now < 2 ^ 32 }
+    ensures { (s : Source) (a : Around) → IsAt place.now s a → (f : Forest) → a.method ≡ f → preorder f ≡ nodes.now → AllInRange s f → IfOk result (λ x. AreRows s a f x) }
+{
+    let found = items_and_ends(alloc, nodes)?;
+    let generics = generics(alloc, place, place.method, nodes, found.as_slice())?;
+    let params = params(alloc, place, nodes, found.as_slice())?;
+    let overrides = overrides(alloc, place, nodes)?;
+    let attributes = own_attributes(alloc, place, nodes, found.as_slice())?;
+    Ok(Rows {
+        generics,
+        params,
+        overrides,
+        attributes,
+    })
+}
+
+// The attributes of a method itself.
+fn own_attributes(
+    alloc: Global,
+    place: &Place,
+    nodes: &[TreeNode],
+    found: &[Piece],
+) -> Result<Attributes, NoMemory>
+    requires parts { AreParts nodes.now found.now }
+    requires few { length nodes.now < 2 ^ 32 }
+    ensures { (s : Source) (a : Around) → IsAt place.now s a → (f : Forest) → AllInRange s f → ArePieces nodes.now found.now (items_and_ends f) →
+        IfOk result (λ all. all ≡ attributes s a (own_customs (items_and_ends f))) }
+{
+    let own = own_customs(alloc, found)?;
+    attributes(alloc, place, nodes, own.as_slice())
+}

@@ -1,0 +1,16 @@
+pub mod CodeLemmas
+pub mod ConstantLemmas
+pub mod CustomLemmas
+pub mod CustomParts
+pub mod ExternLemmas
+pub mod KeyLemmas
+pub mod ManifestLemmas
+pub mod OverrideLemmas
+pub mod PlaceLemmas
+pub mod RangeOfAll
+pub mod RunLemmas
+pub mod SettingLemmas
+pub mod SoundParts
+pub mod TextLemmas
+pub mod Tokens
+pub mod WrappedLemmas

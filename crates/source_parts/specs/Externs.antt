@@ -1,0 +1,13 @@
+-- What identifies an assembly beside its name and version (ECMA-335 II.6.3).
+use Rattle.std.specs.Prelude.{◌≡◌}
+use Rattle.source_model.specs.Forest.{Forest}
+use Rattle.source_model.specs.Manifests.{assembly_flags, culture, key}
+use Rattle.source_model.specs.Source.{Source}
+use Rattle.source_parts.specs.Settings.{hash_said}
+use Rattle.source_parts.specs.declared.externs.Identity.{Identity}
+
+pub record IsIdentityOf (s : Source) (f : Forest) (i : Identity) : Type 0 where
+  pub flags-are : i.flags ≡ assembly_flags s f
+  pub key-is : i.key ≡ key s f
+  pub culture-is : i.culture ≡ culture s f
+  pub hash-is : i.hash ≡ hash_said s f

@@ -1,0 +1,103 @@
+//! The assemblies that a source names (ECMA-335 II.6.3, II.22.5).
+
+ghost use Rattle.std.specs.Prelude.{◌≡◌, IfOk};
+ghost use Rattle.source_parts.specs.Externs.{IsIdentityOf};
+ghost use Rattle.source_flags.specs.InRange.{AllInRange, IsInRange};
+ghost use Rattle.ilasm_grammar.specs.declared.productions.TheConstants.{ASSEMBLY_EXTERN};
+ghost use Rattle.source_model.specs.Forest.{Forest, preorder};
+ghost use Rattle.source_model.specs.Manifests.{culture, extern_assemblies, extern_assembly};
+ghost use Rattle.source_model.specs.Source.{Source};
+ghost use Rattle.source_reading.specs.Readers.{Reads};
+ghost use Rattle.source_reading.specs.Walk.{IsForest};
+
+use crate::keys::{flags_with_key, hash, key, version};
+use crate::texts::text_in;
+use assembly_tree::{ExternAssembly, Externs};
+use il_base::{Bytes, Items, NoMemory, Text};
+use ilasm_grammar::TreeNode;
+use ilasm_grammar::productions::{ASSEMBLY_EXTERN, TEXT};
+use source_flags::gathering::{Kind, parts_of};
+use source_flags::lines::last_line;
+use source_reading::pieces::nodes_of;
+use source_reading::reader::Reader;
+use source_reading::walk::{leaf_at, the};
+use std::alloc::Global;
+
+/// The assemblies that a source names, in order.
+pub fn extern_assemblies(alloc: Global, reader: &Reader) -> Result<Externs, NoMemory>
+    requires { IsForest reader.now.nodes.now }
+    ensures { (s : Source) → Reads reader.now s → AllInRange s s.tree → IfOk result (λ all. all ≡ extern_assemblies s) }
+{
+    let found = parts_of(alloc, reader.nodes, Kind::One(ASSEMBLY_EXTERN))?;
+    let mut all = Items::new(alloc);
+    for piece in found.as_slice() {
+        let one = extern_assembly(alloc, reader, nodes_of(reader.nodes, *piece))?;
+        all.push(one)?;
+    }
+    Ok(all)
+}
+
+// What identifies an assembly beside its name and version.
+#[derive(Drop)]
+struct Identity {
+    flags: u32,
+    key: Bytes,
+    culture: Text,
+    hash: Bytes,
+}
+
+// One of them, from what stands below its production.
+fn extern_assembly(
+    alloc: Global,
+    reader: &Reader,
+    nodes: &[TreeNode],
+) -> Result<ExternAssembly, NoMemory>
+    requires { IsForest nodes.now }
+    ensures { (s : Source) (f : Forest) → Reads reader.now s → preorder f ≡ nodes.now → IsInRange s ASSEMBLY_EXTERN f → AllInRange s f →
+        IfOk result (λ one. one ≡ extern_assembly s f) }
+{
+    let name = reader.name_text(alloc, leaf_at(nodes, 1))?;
+    let version = version(alloc, reader, nodes)?;
+    let Identity {
+        flags,
+        key,
+        culture,
+        hash,
+    } = read_identity(alloc, reader, nodes)?;
+    Ok(ExternAssembly {
+        name,
+        version,
+        flags,
+        key,
+        culture,
+        hash,
+    })
+}
+
+fn read_identity(alloc: Global, reader: &Reader, nodes: &[TreeNode]) -> Result<Identity, NoMemory>
+    requires { IsForest nodes.now }
+    ensures { (s : Source) (f : Forest) → Reads reader.now s → preorder f ≡ nodes.now → AllInRange s f → IfOk result (λ i. IsIdentityOf s f i) }
+{
+    let flags = flags_with_key(alloc, reader, nodes)?;
+    let key = key(alloc, reader, nodes)?;
+    let culture = culture(alloc, reader, nodes)?;
+    let hash = hash(alloc, reader, nodes)?;
+    Ok(Identity {
+        flags,
+        key,
+        culture,
+        hash,
+    })
+}
+
+/// The culture of an assembly; empty where none is said.
+pub fn culture(alloc: Global, reader: &Reader, nodes: &[TreeNode]) -> Result<Text, NoMemory>
+    requires { IsForest nodes.now }
+    ensures { (s : Source) (f : Forest) → Reads reader.now s → preorder f ≡ nodes.now → AllInRange s f → IfOk result (λ said. said ≡ culture s f) }
+{
+    let said = last_line(alloc, nodes, Kind::Cultures)?;
+    match said {
+        Some(line) => text_in(alloc, reader, the(line.below, TEXT)),
+        None => Text::new(alloc, ""),
+    }
+}
