@@ -32,7 +32,6 @@ pub fn read_assembly<R: MemberReader>(
     alloc: Global,
     reader: &Reader,
 ) -> Result<Assembly, NoMemory>
-    requires ready { R.ready members.now }
     requires forest { IsForest reader.now.nodes.now }
     requires few { length reader.now.nodes.now < 2 ^ 32 }
     ensures { (s : Source) → R.knows members.now s → Reads reader.now s → AllWhole s s.tree → has ASSEMBLY_ASSEMBLY_ATTR_STAR s.tree ≡ true →
@@ -55,7 +54,6 @@ fn assembly_at<R: MemberReader>(
     alloc: Global,
     place: &Place,
 ) -> Result<Assembly, NoMemory>
-    requires ready { R.ready members.now }
     requires forest { IsForest place.now.reader.nodes.now }
     requires few { length place.now.reader.nodes.now < 2 ^ 32 }
     ensures { (s : Source) → R.knows members.now s → IsAt place.now s nothing_around → AllWhole s s.tree → has ASSEMBLY_ASSEMBLY_ATTR_STAR s.tree ≡ true →
@@ -93,7 +91,6 @@ fn read_globals<R: MemberReader>(
     alloc: Global,
     place: &Place,
 ) -> Result<Globals, NoMemory>
-    requires ready { R.ready members.now }
     requires forest { IsForest place.now.reader.nodes.now }
     requires few { length place.now.reader.nodes.now < 2 ^ 32 }
     ensures { (s : Source) → R.knows members.now s → IsAt place.now s nothing_around → AllWhole s s.tree → IfOk result (λ x. AreGlobals s x) }

@@ -53,7 +53,6 @@ pub fn read_members<R: MemberReader>(
     place: &Place,
     nodes: &[TreeNode],
 ) -> Result<Members, NoMemory>
-    requires ready { R.ready reader.now }
     requires forest { IsForest nodes.now }
     requires few { length nodes.now < 2 ^ 32 }
     ensures { (s : Source) (a : Around) → R.knows reader.now s → IsAt place.now s a → preorder a.class ≡ nodes.now → AllWhole s a.class →

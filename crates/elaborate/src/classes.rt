@@ -45,7 +45,6 @@ pub fn classes_in<R: MemberReader>(
     outside: bool,
     nodes: &[TreeNode],
 ) -> Result<TypeDefs, NoMemory>
-    requires ready { R.ready members.now }
     requires forest { IsForest nodes.now }
     requires few { length nodes.now < 2 ^ 32 }
     ensures { (s : Source) (a : Around) (f : Forest) → R.knows members.now s → IsKnown known.now s → outside ≡ is_outside a.path → preorder f ≡ nodes.now →
@@ -87,7 +86,6 @@ fn class<R: MemberReader>(
     nodes: &[TreeNode],
     nested: TypeDefs,
 ) -> Result<TypeDef, NoMemory>
-    requires ready { R.ready members.now }
     requires forest { IsForest nodes.now }
     requires few { length nodes.now < 2 ^ 32 }
     ensures { (s : Source) (a : Around) (f : Forest) → R.knows members.now s → IsKnown known.now s → outside ≡ is_outside a.path → preorder f ≡ nodes.now →

@@ -26,6 +26,10 @@ use std::alloc::Global;
 
 /// The assembly that a source of at most 2^27 bytes denotes, which is well formed, from its at most 2^24 tokens and their
 /// derivation; or exactly the first rule of class D, N or B that it breaks, and where (ECMA-335 II.5 to II.19, II.21).
+///
+/// # Errors
+///
+/// `Bad` where the source breaks a rule, with the first one and the place of the token at fault; `NoMemory` where there was no memory.
 pub fn elaborate(
     alloc: Global,
     source: &[u8],

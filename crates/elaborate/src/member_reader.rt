@@ -27,9 +27,6 @@ pub trait MemberReader {
     /// It knows what it needs of a source.
     ghost knows: { Self → Source → Type 0 };
 
-    /// Its own parts fit together, whatever the source.
-    ghost ready: { Self → Type 0 };
-
     /// The fields among these members or declarations, in order.
     fn fields(
         &self,
@@ -38,7 +35,6 @@ pub trait MemberReader {
         nodes: &[TreeNode],
         found: &[Piece],
     ) -> Result<Fields, NoMemory>
-        requires ready { ready self.now }
         requires parts { AreParts nodes.now found.now }
         requires few { length nodes.now < 2 ^ 32 }
         ensures { (s : Source) (a : Around) → knows self.now s → IsAt place.now s a → (ps : List Part) → ArePieces nodes.now found.now ps →

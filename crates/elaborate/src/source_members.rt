@@ -1,7 +1,6 @@
 //! The members of a source's classes, read with the data and the sizes of classes that the source declares (ECMA-335 II.10.2).
 
 ghost use Rattle.elaborate.specs.SourceMembers.{AreDeclared};
-ghost use Rattle.source_reading.specs.Pieces.{AreParts};
 
 use crate::member_reader::MemberReader;
 use assembly_tree::{Fields, Generics, Methods};
@@ -27,8 +26,6 @@ pub struct SourceMembers<'a> {
 
 impl MemberReader for SourceMembers<'_> {
     ghost knows = { λ x s. AreDeclared x.reader x.labelled.now x.sizes.now s };
-
-    ghost ready = { λ x. AreParts x.reader.nodes.now x.labelled.now.found };
 
     fn fields(
         &self,

@@ -1,74 +1,58 @@
 -- Data by its labels.
-use Rattle.std.proofs.Common.{◌≡◌, ℕ, zero, suc, ◌+◌, ◌≤◌, length, arith, List, [], ◌∷◌, ◌++◌, Option, None, Some, cond, map, take, refl, ap, sym, subst, ◌∙◌, append-nil}
+use Rattle.std.proofs.Common.{◌≡◌, ℕ, suc, List, [], ◌∷◌, ◌++◌, Option, None, Some, cond, map, refl, ap, sym, ◌∙◌}
 use Rattle.std.specs.Prelude.{Bool, true, false, bytes_eq, filter, find, if◌then◌else◌, option_map, position, slice_get}
-use Rattle.std.specs.List.{AllByRecursion}
-use Rattle.std.proofs.lemmas.List.{map-append}
+use Rattle.std.specs.List.{flat_map}
+use Rattle.std.proofs.lemmas.Option.{slice_get-map}
 use Rattle.std.proofs.lemmas.Slice.Eq.{bytes_eq-Decides}
-use Rattle.ilasm_grammar.specs.declared.productions.TheConstants.{DATA, DATA_LABEL}
-use Rattle.ilasm_grammar.specs.declared.tree.TreeNode.{TreeNode}
-use Rattle.source_model.specs.Data.{bytes_at, data_named, label_token, labelled}
-use Rattle.source_model.specs.Forest.{Forest, Part, below_each, has, parts, preorder}
+use Rattle.ilasm_grammar.specs.declared.productions.TheConstants.{DATA_LABEL}
+use Rattle.source_model.specs.Data.{bytes_at, data_bytes, data_named, label_token, labelled}
+use Rattle.source_model.specs.Forest.{Forest, Part, below_each, has}
 use Rattle.source_model.specs.Source.{Source}
 use Rattle.source_model.specs.Values.{name_text}
-use Rattle.source_reading.specs.Pieces.{ArePieces, nodes_of, piece_of, written}
-use Rattle.source_reading.specs.declared.pieces.Piece.{Piece}
 use Rattle.source_reading.proofs.LabelLemmas.{position_first}
-use Rattle.source_reading.proofs.PieceLemmas.{take_next}
-use Rattle.member_parts.specs.LabelledData.{bytes_of}
+use Rattle.member_parts.specs.Runs.{bytes_of_each, bytes_of_runs}
+use Rattle.member_parts.specs.declared.runs.Run.{Run}
 
--- ---- those that pass a test
+-- ---- the bytes of those with labels
 
-pub filter_push : {X : Type 0} (test : X → Bool) (xs : List X) (x : X) → filter test (xs ++ x ∷ []) ≡ filter test xs ++ cond (test x) (x ∷ []) []
-filter_push test [] x = refl
-filter_push test (y ∷ ys) x = go (test y) (filter_push test ys x)
+abbrev pub labelled_bytes : Source → Part → List (List ℕ)
+labelled_bytes s p = if has DATA_LABEL p.below then data_bytes s p.below ∷ [] else []
+
+pub chosen_bytes : (s : Source) (ps : List Part) → flat_map (labelled_bytes s) ps ≡ map (data_bytes s) (filter (has DATA_LABEL) (below_each ps))
+chosen_bytes s [] = refl
+chosen_bytes s (p ∷ ps) = go (has DATA_LABEL p.below) (chosen_bytes s ps)
   where
-    go : (c : Bool) → filter test (ys ++ x ∷ []) ≡ filter test ys ++ cond (test x) (x ∷ []) []
-        → cond c (y ∷ filter test (ys ++ x ∷ [])) (filter test (ys ++ x ∷ [])) ≡ cond c (y ∷ filter test ys) (filter test ys) ++ cond (test x) (x ∷ []) []
-    go true e = ap (λ zs. y ∷ zs) e
+    go : (c : Bool) → flat_map (labelled_bytes s) ps ≡ map (data_bytes s) (filter (has DATA_LABEL) (below_each ps))
+        → cond c (data_bytes s p.below ∷ []) [] ++ flat_map (labelled_bytes s) ps
+        ≡ map (data_bytes s) (cond c (p.below ∷ filter (has DATA_LABEL) (below_each ps)) (filter (has DATA_LABEL) (below_each ps)))
+    go true e = ap (λ l. data_bytes s p.below ∷ l) e
     go false e = e
 
-pub pieces_push : (nodes : List TreeNode) (found : List Piece) (ps : List Part) (x : Piece) (p : Part) → ArePieces nodes found ps → piece_of nodes x ≡ written p
-    → ArePieces nodes (found ++ x ∷ []) (ps ++ p ∷ [])
-pieces_push nodes found ps x p e same =
-    map-append (piece_of nodes) found (x ∷ []) ∙ ap (λ ws. ws ++ piece_of nodes x ∷ []) e ∙ ap (λ w. map written ps ++ w ∷ []) same
-    ∙ sym (map-append written ps (p ∷ []))
+-- ---- by their numbers
 
-pub piece_written : (nodes : List TreeNode) (x : Piece) (p : Part) → x.production ≡ p.production → preorder p.below ≡ nodes_of nodes x → piece_of nodes x ≡ written p
-piece_written nodes x p made below = ap (λ q. (q, nodes_of nodes x)) made ∙ ap (λ ns. (p.production, ns)) (sym below)
+abbrev bytes_or_none : Option (List ℕ) → List ℕ
+bytes_or_none None = []
+bytes_or_none (Some bytes) = bytes
 
--- one more was looked at
-pub chosen_next : (nodes : List TreeNode) (test : Part → Bool) (ps : List Part) (i : ℕ) (p : Part) (x : Piece) (found more : List Piece) → slice_get ps i ≡ Some p
-    → piece_of nodes x ≡ written p → more ≡ found ++ (if test p then x ∷ [] else []) → ArePieces nodes found (filter test (take i ps))
-    → ArePieces nodes more (filter test (take (i + 1) ps))
-chosen_next nodes test ps i p x found more at same adds e =
-    subst (λ xs. ArePieces nodes xs (filter test (take (i + 1) ps))) (sym adds)
-    (subst (ArePieces nodes (found ++ (if test p then x ∷ [] else []))) (sym (ap (filter test) (take_next ps i p at) ∙ filter_push test (take i ps) p)) (go (test p)))
-  where
-    go : (c : Bool) → ArePieces nodes (found ++ (if c then x ∷ [] else [])) (filter test (take i ps) ++ cond c (p ∷ []) [])
-    go true = pieces_push nodes found (filter test (take i ps)) x p e same
-    go false =
-        subst (λ xs. ArePieces nodes xs (filter test (take i ps) ++ [])) (sym (append-nil found))
-        (subst (ArePieces nodes found) (sym (append-nil (filter test (take i ps)))) e)
+of_forest : (s : Source) (o : Option Forest) → bytes_or_none (option_map (data_bytes s) o) ≡ bytes_at s o
+of_forest s None = refl
+of_forest s (Some f) = refl
 
-pub filter_all : {X : Type 0} (P : X → Type 0) (test : X → Bool) (xs : List X) → AllByRecursion P xs → AllByRecursion P (filter test xs)
-filter_all P test [] h = tt
-filter_all P test (x ∷ xs) h = go (test x) (filter_all P test xs h.1)
-  where
-    go : (c : Bool) → AllByRecursion P (filter test xs) → AllByRecursion P (cond c (x ∷ filter test xs) (filter test xs))
-    go true rest = (h.0, rest)
-    go false rest = rest
+numbered : (s : Source) (contents : List (List Run)) (fs : List Forest) (k : ℕ) → bytes_of_each contents ≡ map (data_bytes s) fs
+    → bytes_or_none (option_map bytes_of_runs (slice_get contents k)) ≡ bytes_at s (slice_get fs k)
+numbered s contents fs k e =
+    ap bytes_or_none (sym (slice_get-map bytes_of_runs contents k) ∙ ap (λ l. slice_get l k) e ∙ slice_get-map (data_bytes s) fs k)
+    ∙ of_forest s (slice_get fs k)
 
--- ---- data with labels
+pub some_numbered : (s : Source) (contents : List (List Run)) (fs : List Forest) (k : ℕ) (runs : List Run) → bytes_of_each contents ≡ map (data_bytes s) fs
+    → Some runs ≡ slice_get contents k → bytes_of_runs runs ≡ bytes_at s (slice_get fs k)
+some_numbered s contents fs k runs e found = ap (λ o. bytes_or_none (option_map bytes_of_runs o)) found ∙ numbered s contents fs k e
 
-labelled_parts : (ps : List Part) → filter (has DATA_LABEL) (below_each ps) ≡ below_each (filter (λ p. has DATA_LABEL p.below) ps)
-labelled_parts [] = refl
-labelled_parts (p ∷ ps) = go (has DATA_LABEL p.below) (labelled_parts ps)
-  where
-    go : (c : Bool) → filter (has DATA_LABEL) (below_each ps) ≡ below_each (filter (λ q. has DATA_LABEL q.below) ps)
-        → cond c (p.below ∷ filter (has DATA_LABEL) (below_each ps)) (filter (has DATA_LABEL) (below_each ps))
-        ≡ below_each (cond c (p ∷ filter (λ q. has DATA_LABEL q.below) ps) (filter (λ q. has DATA_LABEL q.below) ps))
-    go true e = ap (λ fs. p.below ∷ fs) e
-    go false e = e
+pub none_numbered : (s : Source) (contents : List (List Run)) (fs : List Forest) (k : ℕ) → bytes_of_each contents ≡ map (data_bytes s) fs
+    → None ≡ slice_get contents k → [] ≡ bytes_at s (slice_get fs k)
+none_numbered s contents fs k e found = ap (λ o. bytes_or_none (option_map bytes_of_runs o)) found ∙ numbered s contents fs k e
+
+-- ---- by their labels
 
 swapped : (a b : List ℕ) → bytes_eq a b ≡ bytes_eq b a
 swapped a b = go (bytes_eq a b) (bytes_eq b a) refl refl
@@ -79,60 +63,38 @@ swapped a b = go (bytes_eq a b) (bytes_eq b a) refl refl
     go true false e h = let is : a ≡ b = (bytes_eq-Decides a b).0 e in let also = (bytes_eq-Decides b a).1 (sym is) in absurd cc
     go false true e h = let is : b ≡ a = (bytes_eq-Decides b a).0 h in let also = (bytes_eq-Decides a b).1 (sym is) in absurd cc
 
--- the part at a place among these
-abbrev part_at : List Part → Option ℕ → Option Part
-part_at ps None = None
-part_at ps (Some i) = slice_get ps i
-
-abbrev pub below_of : Option Part → Option Forest
-below_of o = option_map (λ (p : Part). p.below) o
+-- the forest at a place among these
+abbrev forest_at : List Forest → Option ℕ → Option Forest
+forest_at fs None = None
+forest_at fs (Some i) = slice_get fs i
 
 module _ (s : Source) (text : List ℕ) where
-  abbrev labels_of : List Part → List (List ℕ)
-  labels_of ps = map (name_text s) (map label_token (below_each ps))
+  abbrev labels_of : List Forest → List (List ℕ)
+  labels_of fs = map (name_text s) (map label_token fs)
 
-  found_named : (ps : List Part) → find (λ f. bytes_eq (name_text s (label_token f)) text) (below_each ps) ≡ below_of (part_at ps (position (bytes_eq text) (labels_of ps)))
+  found_named : (fs : List Forest) → find (λ f. bytes_eq (name_text s (label_token f)) text) fs ≡ forest_at fs (position (bytes_eq text) (labels_of fs))
   found_named [] = refl
-  found_named (p ∷ ps) =
-      ap (λ c. cond c (Some p.below) (find (λ g. bytes_eq (name_text s (label_token g)) text) (below_each ps))) (swapped (name_text s (label_token p.below)) text)
-      ∙ go (bytes_eq text (name_text s (label_token p.below))) (found_named ps)
-      ∙ sym (ap (λ o. below_of (part_at (p ∷ ps) o)) (position_first (bytes_eq text) (name_text s (label_token p.below)) (labels_of ps)))
+  found_named (f ∷ fs) =
+      ap (λ c. cond c (Some f) (find (λ g. bytes_eq (name_text s (label_token g)) text) fs)) (swapped (name_text s (label_token f)) text)
+      ∙ go (bytes_eq text (name_text s (label_token f))) (found_named fs)
+      ∙ sym (ap (forest_at (f ∷ fs)) (position_first (bytes_eq text) (name_text s (label_token f)) (labels_of fs)))
     where
-      next : (o : Option ℕ) → below_of (part_at ps o) ≡ below_of (part_at (p ∷ ps) (option_map suc o))
+      next : (o : Option ℕ) → forest_at fs o ≡ forest_at (f ∷ fs) (option_map suc o)
       next None = refl
       next (Some i) = refl
 
-      go : (c : Bool) → find (λ g. bytes_eq (name_text s (label_token g)) text) (below_each ps) ≡ below_of (part_at ps (position (bytes_eq text) (labels_of ps)))
-          → cond c (Some p.below) (find (λ g. bytes_eq (name_text s (label_token g)) text) (below_each ps))
-          ≡ below_of (part_at (p ∷ ps) (cond c (Some 0) (option_map suc (position (bytes_eq text) (labels_of ps)))))
+      go : (c : Bool) → find (λ g. bytes_eq (name_text s (label_token g)) text) fs ≡ forest_at fs (position (bytes_eq text) (labels_of fs))
+          → cond c (Some f) (find (λ g. bytes_eq (name_text s (label_token g)) text) fs)
+          ≡ forest_at (f ∷ fs) (cond c (Some 0) (option_map suc (position (bytes_eq text) (labels_of fs))))
       go true rest = refl
-      go false rest = rest ∙ next (position (bytes_eq text) (labels_of ps))
-
-bytes_below : (s : Source) (o : Option Part) → bytes_of s o ≡ bytes_at s (below_of o)
-bytes_below s None = refl
-bytes_below s (Some p) = refl
-
-abbrev pub data_parts : Source → List Part
-data_parts s = filter (λ p. has DATA_LABEL p.below) (parts (DATA ∷ []) s.tree)
+      go false rest = rest ∙ next (position (bytes_eq text) (labels_of fs))
 
 module _ (s : Source) (text : List ℕ) (names : List (List ℕ)) (all : names ≡ map (name_text s) (map label_token (labelled s))) where
-  are : names ≡ labels_of s text (data_parts s)
-  are = all ∙ ap (λ fs. map (name_text s) (map label_token fs)) (labelled_parts (parts (DATA ∷ []) s.tree))
+  named : data_named s text ≡ forest_at (labelled s) (position (bytes_eq text) names)
+  named = found_named s text (labelled s) ∙ ap (λ ns. forest_at (labelled s) (position (bytes_eq text) ns)) (sym all)
 
-  named : data_named s text ≡ below_of (part_at (data_parts s) (position (bytes_eq text) names))
-  named =
-      ap (find (λ f. bytes_eq (name_text s (label_token f)) text)) (labelled_parts (parts (DATA ∷ []) s.tree))
-      ∙ found_named s text (data_parts s)
-      ∙ ap (λ ns. below_of (part_at (data_parts s) (position (bytes_eq text) ns))) (sym are)
-
-  pub bytes_found : (k : ℕ) → Some k ≡ position (bytes_eq text) names → bytes_of s (slice_get (data_parts s) k) ≡ bytes_at s (data_named s text)
-  bytes_found k at =
-      bytes_below s (slice_get (data_parts s) k) ∙ ap (λ o. bytes_at s (below_of (part_at (data_parts s) o))) at ∙ ap (bytes_at s) (sym named)
+  pub bytes_found : (k : ℕ) → Some k ≡ position (bytes_eq text) names → bytes_at s (slice_get (labelled s) k) ≡ bytes_at s (data_named s text)
+  bytes_found k place = ap (λ o. bytes_at s (forest_at (labelled s) o)) place ∙ ap (bytes_at s) (sym named)
 
   pub bytes_absent : None ≡ position (bytes_eq text) names → [] ≡ bytes_at s (data_named s text)
-  bytes_absent at = ap (λ o. bytes_at s (below_of (part_at (data_parts s) o))) at ∙ ap (bytes_at s) (sym named)
-
-pub none_past : {X : Type 0} (xs : List X) (k : ℕ) → length xs ≤ k → slice_get xs k ≡ None
-none_past [] k over = refl
-none_past (x ∷ xs) zero over = absurd (omega (arith, over))
-none_past (x ∷ xs) (suc k) over = none_past xs k (omega (arith, over))
+  bytes_absent place = ap (λ o. bytes_at s (forest_at (labelled s) o)) place ∙ ap (bytes_at s) (sym named)

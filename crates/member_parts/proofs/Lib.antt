@@ -16,6 +16,7 @@ pub mod ParamFlags
 pub mod ParamLemmas
 pub mod ParamRows
 pub mod PropertyLemmas
+pub mod RunLemmas
 pub mod SameSignatures
 pub mod TieLemmas
 pub mod UnitLemmas

@@ -13,4 +13,5 @@ pub mod NumberedLines
 pub mod ParamLines
 pub mod Parameters
 pub mod Ranged
+pub mod Runs
 pub mod SignedMethods

@@ -3,15 +3,17 @@
 ghost use Rattle.std.specs.Prelude.{◌≡◌, ◌++◌, ◌/◌, ℤ, IfOk};
 ghost use Rattle.ilasm_grammar.specs.declared.productions.TheConstants.{DATA_ITEM_DATA_NUM};
 ghost use Rattle.member_parts.specs.DataItems.{IsItem, IsWidth};
+ghost use Rattle.member_parts.specs.Runs.{bytes_of_runs, run_bytes};
 ghost use Rattle.source_flags.specs.InRange.{AllInRange, IsInRange};
 ghost use Rattle.source_model.specs.Constants.{bits_of, wrapped};
-ghost use Rattle.source_model.specs.Data.{data_bytes, item_bits, item_bytes, item_count, item_value, little_bytes, repeated};
+ghost use Rattle.source_model.specs.Data.{data_bytes, item_bits, item_bytes, item_count, item_value, little_bytes};
 ghost use Rattle.source_model.specs.Forest.{Forest, Part, preorder};
 ghost use Rattle.source_model.specs.Source.{Source};
 ghost use Rattle.source_reading.specs.Readers.{Reads};
 ghost use Rattle.source_reading.specs.Walk.{IsForest};
 
-use il_base::{Bytes, NoMemory};
+use crate::runs::{Run, Runs};
+use il_base::{Bytes, Items, NoMemory};
 use ilasm_grammar::TreeNode;
 use ilasm_grammar::productions::{
     BRACKETED_INT, DATA_ITEM_BYTES, DATA_NUM_FLOAT32, DATA_NUM_INT_TYPE, PARENTHESIZED_INT,
@@ -25,28 +27,28 @@ use source_reading::walk::{has, leaf_at, the};
 use std::alloc::Global;
 use type_terms::Prim;
 
-/// The bytes that a declaration of data gives: those of its items, joined.
-pub fn data_bytes(alloc: Global, reader: &Reader, nodes: &[TreeNode]) -> Result<Bytes, NoMemory>
+/// The bytes that a declaration of data gives, as runs: one for each of its items that has any.
+pub fn data_runs(alloc: Global, reader: &Reader, nodes: &[TreeNode]) -> Result<Runs, NoMemory>
     requires { IsForest nodes.now }
-    ensures { (s : Source) (f : Forest) → Reads reader.now s → preorder f ≡ nodes.now → AllInRange s f → IfOk result (λ bytes. bytes ≡ data_bytes s f) }
+    ensures { (s : Source) (f : Forest) → Reads reader.now s → preorder f ≡ nodes.now → AllInRange s f → IfOk result (λ runs. bytes_of_runs runs ≡ data_bytes s f) }
 {
     let found = parts_of(alloc, nodes, Kind::DataItems)?;
-    let mut bytes = Bytes::new(alloc);
+    let mut runs = Items::new(alloc);
     for piece in found.as_slice() {
         push_item(
-            &mut bytes,
+            &mut runs,
             alloc,
             reader,
             piece.production,
             nodes_of(nodes, *piece),
         )?;
     }
-    Ok(bytes)
+    Ok(runs)
 }
 
-// Adds the bytes of an item.
+// Adds the run of an item, where it has any bytes.
 fn push_item(
-    bytes: &mut Bytes,
+    runs: &mut Runs,
     alloc: Global,
     reader: &Reader,
     production: u16,
@@ -54,14 +56,35 @@ fn push_item(
 ) -> Result<(), NoMemory>
     requires { IsForest below.now }
     ensures { (s : Source) (p : Part) → Reads reader.now s → production ≡ p.production → preorder p.below ≡ below.now → IsItem s p →
-        IfOk result (λ _. bytes.new ≡ bytes.old ++ item_bytes s p) }
+        IfOk result (λ _. bytes_of_runs runs.new ≡ bytes_of_runs runs.old ++ item_bytes s p) }
+{
+    let run = item_run(alloc, reader, production, below)?;
+    if run.is_empty() {
+        return Ok(());
+    }
+    runs.push(run)
+}
+
+// The run of an item.
+fn item_run(
+    alloc: Global,
+    reader: &Reader,
+    production: u16,
+    below: &[TreeNode],
+) -> Result<Run, NoMemory>
+    requires { IsForest below.now }
+    ensures { (s : Source) (p : Part) → Reads reader.now s → production ≡ p.production → preorder p.below ≡ below.now → IsItem s p →
+        IfOk result (λ run. run_bytes run ≡ item_bytes s p) }
 {
     if production == DATA_ITEM_BYTES {
-        let more = reader.array_bytes(alloc, leaf_at(below, 0))?;
-        return bytes.append(more);
+        let once = reader.array_bytes(alloc, leaf_at(below, 0))?;
+        return Ok(Run { once, count: 1 });
     }
-    let one = number_bytes(alloc, reader, below)?;
-    push_repeated(bytes, one.as_slice(), item_count(reader, below))
+    let once = number_bytes(alloc, reader, below)?;
+    Ok(Run {
+        once,
+        count: item_count(reader, below),
+    })
 }
 
 // The bytes of the number of an item, once.
@@ -87,18 +110,6 @@ fn little_bytes(alloc: Global, count: u32, value: u64) -> Result<Bytes, NoMemory
         left -= 1;
     }
     Ok(bytes)
-}
-
-// Adds some bytes so many times.
-fn push_repeated(bytes: &mut Bytes, one: &[u8], count: u32) -> Result<(), NoMemory>
-    ensures { IfOk result (λ _. bytes.new ≡ bytes.old ++ repeated count one.now) }
-{
-    let mut left = count;
-    while left > 0 {
-        bytes.extend(one)?;
-        left -= 1;
-    }
-    Ok(())
 }
 
 // The width of the number of an item, in bits.

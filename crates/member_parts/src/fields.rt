@@ -50,7 +50,6 @@ pub fn fields(
 ) -> Result<Fields, NoMemory>
     requires parts { AreParts nodes.now found.now }
     requires few { length nodes.now < 2 ^ 32 }
-    requires labelled { AreParts context.now.place.reader.nodes.now context.now.labelled.now.found }
     ensures { (s : Source) (a : Around) → IsContext context.now s a → (ps : List Part) → ArePieces nodes.now found.now ps → AllByRecursion (IsRanged s) ps →
         IfOk result (λ all. all ≡ fields s a ps) }
 {
@@ -75,7 +74,6 @@ fn push_field(
     requires head { IsForest (nodes_of nodes.now head) }
     requires parts { AreParts nodes.now more.now }
     requires few { length nodes.now < 2 ^ 32 }
-    requires labelled { AreParts context.now.place.reader.nodes.now context.now.labelled.now.found }
     ensures { (s : Source) (a : Around) → IsContext context.now s a → (p : Part) (ps : List Part) → piece_of nodes.now head ≡ written p → ArePieces nodes.now more.now ps →
         IsRanged s p → AllByRecursion (IsRanged s) ps → IfOk result (λ _. all.new ≡ all.old ++ (if is_field p.production then field s a (run_at p ps) ∷ [] else [])) }
 {
@@ -105,7 +103,6 @@ fn field(
     requires head { IsForest (nodes_of nodes.now head) }
     requires parts { AreParts nodes.now more.now }
     requires few { length nodes.now < 2 ^ 32 }
-    requires labelled { AreParts context.now.place.reader.nodes.now context.now.labelled.now.found }
     ensures { (s : Source) (a : Around) → IsContext context.now s a → (p : Part) (ps : List Part) → piece_of nodes.now head ≡ written p → ArePieces nodes.now more.now ps →
         is_field p.production ≡ true → IsRanged s p → AllByRecursion (IsRanged s) ps → IfOk result (λ x. x ≡ field s a (run_at p ps)) }
 {
@@ -120,8 +117,7 @@ fn field_from(
     below: &[TreeNode],
     customs: Attributes,
 ) -> Result<Field, NoMemory>
-    requires forest { IsForest below.now }
-    requires labelled { AreParts context.now.place.reader.nodes.now context.now.labelled.now.found }
+    requires { IsForest below.now }
     ensures { (s : Source) (a : Around) → IsContext context.now s a → (f : Forest) (ps : List Part) → preorder f ≡ below.now → IsInRange s FIELD f → AllInRange s f →
         customs ≡ attributes s a ps → IfOk result (λ x. x ≡ field_from s a f ps) }
 {

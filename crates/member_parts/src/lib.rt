@@ -24,6 +24,7 @@ pub mod numbered_lines;
 pub mod param_lines;
 pub mod params;
 pub mod properties;
+pub mod runs;
 pub mod same_signatures;
 pub mod type_sizes;
 pub mod units;

@@ -15,7 +15,6 @@ fields-requires g c =
     let f = c.requires.forest in
     let ps = declarations f.0 in
     record {
-      ready = c.requires.ready;
       parts = (ps, subst (λ xs. ArePieces c.args.place.now.reader.nodes.now xs ps) (sym c.as_slice.ensures) (c.in_ok-found.ensures f.0 f.1));
       few = c.requires.few;
     }

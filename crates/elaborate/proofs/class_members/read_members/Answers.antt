@@ -17,7 +17,6 @@ pub fields-requires : goal.fields-requires
 fields-requires g c =
     let f = c.requires.forest in
     record {
-      ready = c.requires.ready;
       parts = (members f.0, subst (λ xs. ArePieces c.args.nodes.now xs (members f.0)) (sym c.as_slice-2.ensures) (c.in_ok-found.ensures f.0 f.1));
       few = c.requires.few;
     }

@@ -13,8 +13,8 @@ attributes-requires-clause-parts c =
     let ps = c.requires.parts.0 in
     (take_while is_custom ps, subst (λ xs. ArePieces c.args.nodes.now xs (take_while is_custom ps)) (sym c.run_of.ensures) (run_pieces c.args.nodes.now c.args.more.now ps c.requires.parts.1))
 
-pub field_from-requires-clause-forest : goal.field_from-requires-clause-forest
-field_from-requires-clause-forest c =
+pub field_from-requires : goal.field_from-requires
+field_from-requires c =
     let f = c.requires.head in
     (the FIELD f.0, sym (c.the.ensures f.0 (f.1 ∙ sym c.nodes_of.ensures)))
 

@@ -1,4 +1,4 @@
-use Rattle.std.proofs.Common.{◌≡◌, ℕ, List, ◌+◌, ◌≤◌, ◌<◌, [], ◌∷◌, ◌++◌, length, map, take, ap, sym, subst, ◌∙◌, arith}
+use Rattle.std.proofs.Common.{ℕ, List, ◌≤◌, ◌<◌, [], ◌∷◌, ◌++◌, length, map, ap, sym, subst, ◌∙◌, arith}
 use Rattle.std.specs.Prelude.{filter}
 use Rattle.std.specs.List.{enumerate_from}
 use Rattle.std.proofs.lemmas.List.{take_all}
@@ -15,7 +15,6 @@ use Rattle.source_reading.proofs.PieceLemmas.{as_many, map_next, part_read}
 use Rattle.source_reading.proofs.ReferenceLemmas.{of_child}
 use Rattle.source_parts.proofs.KeyLemmas.{only}
 use Rattle.member_parts.specs.Generics.{generic_with}
-use Rattle.member_parts.specs.GivenAttributes.{AreGiven}
 use Rattle.member_parts.specs.ParamLines.{given}
 use Rattle.member_parts.proofs.GenericLemmas.{Remaining, all_remain, last_is, less_remain, many_names, many_typars, numbered_at, typar_parts}
 use Rattle.member_parts.proofs.generics.generics.Goals as goal

@@ -1,6 +1,6 @@
-use Rattle.std.proofs.Common.{◌≡◌, ◌<◌, ◌+◌, [], ◌∷◌, ◌++◌, Some, None, length, ap, sym, subst, ◌∙◌, arith}
+use Rattle.std.proofs.Common.{◌≡◌, ◌+◌, [], ◌∷◌, ◌++◌, Some, ap, sym, subst, ◌∙◌, arith}
 use Rattle.member_parts.specs.ItemSteps.{step_of}
-use Rattle.member_parts.specs.declared.item_walks.Step.TheVariants.{Block, Close, Item, Pass}
+use Rattle.member_parts.specs.declared.item_walks.Step.TheVariants.{Close}
 use Rattle.member_parts.proofs.ItemWalks.{Walked, begin, grows, next_block, next_close, next_item, next_pass, walk_end}
 use Rattle.member_parts.proofs.item_walks.items_and_ends.Goals as goal
 

@@ -1,4 +1,4 @@
-use Rattle.std.proofs.Common.{◌≡◌, ◌<◌, ◌^◌, length, ap, sym, subst, ◌∙◌}
+use Rattle.std.proofs.Common.{◌<◌, ◌^◌, length, ap, sym, subst, ◌∙◌}
 use Rattle.source_reading.specs.Pieces.{AreParts}
 use Rattle.member_parts.specs.GivenAttributes.{none_given}
 use Rattle.member_parts.proofs.FieldLemmas.{parts_begin}

@@ -1,4 +1,4 @@
-use Rattle.std.proofs.Common.{◌≡◌, ◌<◌, ◌^◌, List, length}
+use Rattle.std.proofs.Common.{◌<◌, ◌^◌, List, length}
 use Rattle.std.specs.List.{AllByRecursion}
 use Rattle.source_model.specs.Forest.{Part}
 use Rattle.source_model.specs.Nodes.{Around}

@@ -1,6 +1,6 @@
-use Rattle.std.proofs.Common.{◌≡◌, ◌<◌, ◌^◌, ◌+◌, length, ap, sym, subst, ◌∙◌, refl, arith}
+use Rattle.std.proofs.Common.{◌+◌, sym, subst, refl, arith}
 use Rattle.source_reading.specs.Pieces.{AreParts}
-use Rattle.member_parts.specs.NumberedLines.{AllLines, no_lines}
+use Rattle.member_parts.specs.NumberedLines.{AllLines}
 use Rattle.member_parts.proofs.FieldLemmas.{parts_begin}
 use Rattle.member_parts.proofs.NumberedLemmas.{NumbersLeft, none_lines, numbers_begin, numbers_end, numbers_start}
 use Rattle.member_parts.proofs.numbered_lines.numbered_lines.Goals as goal

@@ -1,7 +1,7 @@
 use Rattle.std.proofs.Common.{ap, sym, subst, ◌∙◌}
 use Rattle.il_lexer.specs.declared.types.TokenKind.TheVariants.{Name}
 use Rattle.ilasm_grammar.specs.declared.productions.TheConstants.{TYPAR_KEY_NAME}
-use Rattle.source_model.specs.Forest.{leaf_at, the}
+use Rattle.source_model.specs.Forest.{the}
 use Rattle.source_model.specs.Values.{name_text}
 use Rattle.source_reading.specs.Readers.{IsOf}
 use Rattle.member_parts.proofs.ParamLemmas.{by_name, key_name}

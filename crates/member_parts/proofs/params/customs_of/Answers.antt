@@ -1,4 +1,4 @@
-use Rattle.std.proofs.Common.{◌≡◌, List, ap, sym, subst, ◌∙◌}
+use Rattle.std.proofs.Common.{ap, sym, subst, ◌∙◌}
 use Rattle.std.specs.Prelude.{take_while}
 use Rattle.std.proofs.lemmas.Result.{IfOk-weaker}
 use Rattle.source_model.specs.Items.{is_custom}

@@ -1,7 +1,5 @@
-use Rattle.std.proofs.Common.{◌≡◌, ap, length, sym, ◌∙◌}
-use Rattle.std.specs.Prelude.{Bool, [], ◌==◌, ◌∷◌, not}
-use Rattle.ilasm_grammar.specs.declared.productions.TheConstants.{PARAM_ATTR_STAR_MORE}
-use Rattle.source_model.specs.Forest.{child, preorder}
+use Rattle.std.proofs.Common.{ap, length, sym, ◌∙◌}
+use Rattle.std.specs.Prelude.{◌==◌, not}
 use Rattle.member_parts.proofs.ParamFlags.{has_flag}
 use Rattle.member_parts.proofs.params.has_flags.Goals as goal
 

@@ -1,4 +1,4 @@
-use Rattle.std.proofs.Common.{ap, sym, ◌∙◌}
+use Rattle.std.proofs.Common.{ap, ◌∙◌}
 use Rattle.std.specs.Prelude.{not}
 use Rattle.member_parts.proofs.ParamRows.{is_any_line, same_test}
 use Rattle.member_parts.proofs.params.has_row.Goals as goal

@@ -1,8 +1,8 @@
-use Rattle.std.proofs.Common.{◌≡◌, ◌≤◌, ◌++◌, [], None, ap, arith, length, subst, sym, ◌∙◌}
+use Rattle.std.proofs.Common.{◌≤◌, None, ap, arith, length, ◌∙◌}
 use Rattle.std.specs.Prelude.{fold}
 use Rattle.std.proofs.lemmas.List.{take_all}
-use Rattle.source_model.specs.Parameters.{line_constant, with_line_flags}
-use Rattle.member_parts.proofs.ParamRows.{all_customs, as_many_runs, fold_next, line_read, run_read, with_customs}
+use Rattle.source_model.specs.Parameters.{line_constant}
+use Rattle.member_parts.proofs.ParamRows.{as_many_runs, fold_next, line_read, run_read}
 use Rattle.member_parts.proofs.params.last_constant.Goals as goal
 
 pub line_constant-requires : goal.line_constant-requires

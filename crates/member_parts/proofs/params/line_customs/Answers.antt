@@ -1,7 +1,6 @@
-use Rattle.std.proofs.Common.{◌≡◌, ◌≤◌, ◌++◌, [], None, ap, arith, length, subst, sym, ◌∙◌}
+use Rattle.std.proofs.Common.{◌≤◌, ◌++◌, [], ap, arith, length, ◌∙◌}
 use Rattle.std.specs.Prelude.{fold}
 use Rattle.std.proofs.lemmas.List.{take_all}
-use Rattle.source_model.specs.Parameters.{line_constant, with_line_flags}
 use Rattle.member_parts.proofs.ParamRows.{all_customs, as_many_runs, fold_next, line_read, run_read, with_customs}
 use Rattle.member_parts.proofs.params.line_customs.Goals as goal
 

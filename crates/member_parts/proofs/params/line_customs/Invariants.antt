@@ -1,11 +1,9 @@
-use Rattle.std.proofs.Common.{◌≡◌, List, [], None, take}
+use Rattle.std.proofs.Common.{◌≡◌, List, [], take}
 use Rattle.std.specs.Prelude.{fold}
 use Rattle.source_model.specs.Items.{Run}
 use Rattle.source_model.specs.Nodes.{Around}
-use Rattle.source_model.specs.Parameters.{line_constant, with_line_flags}
 use Rattle.source_model.specs.Source.{Source}
 use Rattle.source_reading.specs.Places.{IsAt}
-use Rattle.source_reading.specs.Readers.{Reads}
 use Rattle.member_parts.specs.NumberedLines.{AreRuns}
 use Rattle.member_parts.proofs.ParamRows.{with_customs}
 use Rattle.member_parts.proofs.params.line_customs.Given as goal

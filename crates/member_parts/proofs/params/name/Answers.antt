@@ -1,6 +1,6 @@
 use Rattle.std.proofs.Common.{ap, sym, subst, ◌∙◌}
 use Rattle.std.specs.Prelude.{Bool, [], ◌∷◌, if◌then◌else◌}
-use Rattle.std.proofs.lemmas.Result.{IfOk-equal, IfOk-weaker}
+use Rattle.std.proofs.lemmas.Result.{IfOk-weaker}
 use Rattle.il_lexer.specs.declared.types.TokenKind.TheVariants.{Name}
 use Rattle.ilasm_grammar.specs.declared.productions.TheConstants.{NAME_OPT_SOME}
 use Rattle.source_model.specs.Forest.{child, leaf_at}

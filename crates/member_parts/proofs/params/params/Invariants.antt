@@ -1,10 +1,7 @@
-use Rattle.std.proofs.Common.{◌≡◌, ◌≤◌, ◌++◌, List, [], take}
-use Rattle.std.specs.Prelude.{filter}
-use Rattle.std.specs.List.{enumerate_from, flat_map}
-use Rattle.source_model.specs.Forest.{Forest, none, preorder}
-use Rattle.source_model.specs.Items.{items_and_ends, runs}
+use Rattle.std.proofs.Common.{◌≡◌, ◌≤◌}
+use Rattle.source_model.specs.Forest.{Forest, preorder}
+use Rattle.source_model.specs.Items.{items_and_ends}
 use Rattle.source_model.specs.Nodes.{Around}
-use Rattle.source_model.specs.Parameters.{parameters, rows_of, speaks_of_parameter}
 use Rattle.source_model.specs.Source.{Source}
 use Rattle.source_flags.specs.InRange.{AllInRange}
 use Rattle.source_reading.specs.Pieces.{ArePieces}

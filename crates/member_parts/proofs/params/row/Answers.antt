@@ -1,4 +1,4 @@
-use Rattle.std.proofs.Common.{ap, sym, subst, ◌∙◌}
+use Rattle.std.proofs.Common.{ap, ◌∙◌}
 use Rattle.std.specs.Prelude.{fold}
 use Rattle.source_model.specs.Parameters.{with_line_flags}
 use Rattle.member_parts.proofs.ParamRows.{same_row}

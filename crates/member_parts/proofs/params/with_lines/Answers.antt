@@ -1,8 +1,8 @@
-use Rattle.std.proofs.Common.{◌≡◌, ◌≤◌, ◌++◌, [], None, ap, arith, length, subst, sym, ◌∙◌}
+use Rattle.std.proofs.Common.{◌≤◌, ap, arith, length, ◌∙◌}
 use Rattle.std.specs.Prelude.{fold}
 use Rattle.std.proofs.lemmas.List.{take_all}
-use Rattle.source_model.specs.Parameters.{line_constant, with_line_flags}
-use Rattle.member_parts.proofs.ParamRows.{all_customs, as_many_runs, fold_next, line_read, run_read, with_customs}
+use Rattle.source_model.specs.Parameters.{with_line_flags}
+use Rattle.member_parts.proofs.ParamRows.{as_many_runs, fold_next, line_read, run_read}
 use Rattle.member_parts.proofs.params.with_lines.Goals as goal
 
 pub with_line_flags-flags-requires : goal.with_line_flags-flags-requires

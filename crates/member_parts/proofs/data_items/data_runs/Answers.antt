@@ -7,7 +7,8 @@ use Rattle.source_flags.specs.InRange.{IsInRange}
 use Rattle.source_flags.specs.Lines.{productions_of}
 use Rattle.source_flags.specs.declared.gathering.Kind.TheVariants.{DataItems}
 use Rattle.source_flags.proofs.Gathered.{IsSought, all_at, of_parts}
-use Rattle.member_parts.proofs.data_items.data_bytes.Goals as goal
+use Rattle.member_parts.specs.Runs.{bytes_of_runs}
+use Rattle.member_parts.proofs.data_items.data_runs.Goals as goal
 
 pub push_item-requires : goal.push_item-requires
 push_item-requires c =
@@ -28,7 +29,7 @@ loop-piece-preserved c s f r e h =
     let m = part_read c.args.nodes.now found ps i _ are c.loop-piece-test.true in
     let own = all_at (IsSought (IsInRange s) (productions_of DataItems)) ps i m.of (of_parts (IsInRange s) (productions_of DataItems) f h) m.at in
     c.in_ok-push_item.ensures s m.of r m.production (m.below ∙ sym c.nodes_of.ensures) (own.0, own.1)
-    ∙ flat_next (item_bytes s) ps i m.of [] c.loop-piece.bytes m.at (c.loop-piece.invariant s f r e h)
+    ∙ flat_next (item_bytes s) ps i m.of [] (bytes_of_runs c.loop-piece.runs) m.at (c.loop-piece.invariant s f r e h)
 
 pub returns : goal.returns
 returns c s f r e h =

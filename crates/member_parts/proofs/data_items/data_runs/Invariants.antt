@@ -5,7 +5,8 @@ use Rattle.source_model.specs.Data.{data_items, item_bytes}
 use Rattle.source_model.specs.Forest.{Forest, preorder}
 use Rattle.source_model.specs.Source.{Source}
 use Rattle.source_reading.specs.Readers.{Reads}
-use Rattle.member_parts.proofs.data_items.data_bytes.Given as goal
+use Rattle.member_parts.specs.Runs.{bytes_of_runs}
+use Rattle.member_parts.proofs.data_items.data_runs.Given as goal
 
 abbrev pub invariant-loop-piece : goal.invariant-loop-piece
-invariant-loop-piece l = (s : Source) (f : Forest) → Reads l.reader s → preorder f ≡ l.nodes → AllInRange s f → l.bytes ≡ flat_map (item_bytes s) (take l.piece-index (data_items f))
+invariant-loop-piece l = (s : Source) (f : Forest) → Reads l.reader s → preorder f ≡ l.nodes → AllInRange s f → bytes_of_runs l.runs ≡ flat_map (item_bytes s) (take l.piece-index (data_items f))
