@@ -14,15 +14,18 @@ use Rattle.image_references.specs.Blobs.{HoldsBlob, KeepsBlobs}
 use Rattle.image_references.specs.Found.{token_in}
 use Rattle.image_references.specs.Indexes.{IsToken}
 use Rattle.image_references.specs.KnownTokens.{names_apart, types_apart, layer_token}
-use Rattle.image_references.specs.NameTokens.{HasNameToken, AreNames, Learns}
+use Rattle.image_references.specs.NameTokens.{HasNameToken, LiesOn, AddsName, AreNames, Learns}
 use Rattle.image_references.specs.Noted.{longest, IsNamed, IsSpecified}
-use Rattle.image_references.specs.References.{tokens_of, size, HasSignature, IsSpecToken, one_cell, Grows, Goes, AreKnown}
-use Rattle.image_references.specs.Rows.{IsRowAt, Lacks}
+use Rattle.image_references.specs.References.{tokens_of, size, HasSignature, IsSpecToken, one_cell, IsNameRow, IsSpecRow, Grows, Goes, AreKnown}
+use Rattle.image_references.specs.Rows.{IsRowAt, EachRow, Lacks}
 use Rattle.image_references.specs.Texts.{KeepsTexts}
 use Rattle.image_references.specs.TypePaths.{GoesOn, path_size}
+use Rattle.image_references.specs.Writable.{CanBeNamed}
 use Rattle.image_references.specs.declared.references.References.{References}
 use Rattle.image_references.specs.declared.row_set.Cells.{Cells}
-use Rattle.image_references.proofs.GrowthLemmas.{grows_refl, grows_trans, still, still_known, learns_one, token_kept, all_and, tokens_kept, signature_kept}
+use Rattle.image_references.proofs.EachRowLemmas.{each_more, one_of}
+use Rattle.image_references.proofs.WidenedLemmas.{wide_name}
+use Rattle.image_references.proofs.GrowthLemmas.{widened, grows_refl, grows_trans, still, still_known, learns_one, token_kept, all_and, tokens_kept, signature_kept}
 use Rattle.image_references.proofs.NameLemmas.{found_last, holds_of_found}
 use Rattle.image_references.proofs.PathLemmas.{goes_on}
 use Rattle.image_references.proofs.SizeLemmas.{names_grown, blobs_grown, specs_grown, name_weight_is, declared_kind, spec_kind}
@@ -60,7 +63,7 @@ pub blob_goes : (a : References) (blobs : Heap) (n : ℕ) → AreKnown a → Kee
     → Goes a (with_blobs a blobs) n
 blob_goes a blobs n known k le = record {
   grows = blobs_grow a blobs k;
-  known = still_known a (with_blobs a blobs) (blobs_grow a blobs k) known refl;
+  known = still_known a (with_blobs a blobs) (blobs_grow a blobs k) known refl refl;
   size = blobs_grown a (with_blobs a blobs) n le refl refl refl;
 }
 
@@ -101,14 +104,22 @@ names_grow a strings rows names k on l = let g = grows_refl a in record {
 name_token_of : (r : References) (name : TypeName) (token : ℕ) → token_in names_apart r.known.names name ≡ Some token → tokens_of r (owners.Name name) ≡ Some token
 name_token_of r name token at = ap (λ l. layer_token r.known.names r.known.specs l) (owners.outs-Name name) ∙ at
 
+names_come : (a b : References) (name : TypeName) (rows : List Cells) → CanBeNamed b name → EachRow (IsNameRow b) a.referred.names
+    → AddsName b.heaps.strings name a.referred.names rows → rows ≡ b.referred.names → EachRow (IsNameRow b) rows
+names_come a b name rows can old adds same k c at = elim (adds k c at) [
+  | inl before ↦ old k c before
+  | inr lies ↦ record { name = name; can = can; lies = subst (λ xs. LiesOn b.heaps.strings xs name c) same lies }
+]
+
 pub named : {E : Type 0} (a : References) (strings : Heap) (rows : List Cells) (names : List (TypeName × ℕ)) (name : TypeName) (r : Result ℕ E)
     → AreKnown a → size a + name_weight name ≤ 2 ^ 26
     → IfOk r (HasNameToken strings a.declared.types rows name) → IfOk r (λ token. token_in names_apart names name ≡ Some token)
     → AreNames strings a.declared.types rows names → Learns a.known.names names → KeepsTexts a.heaps.strings strings → GoesOn a.referred.names rows
     → length strings.bytes ≤ length a.heaps.strings.bytes + path_size name.path → length rows ≤ length a.referred.names + length name.path
+    → CanBeNamed a name → AddsName strings name a.referred.names rows
     → IfOk r (IsNamed a (with_names a strings rows names) name)
-named a strings rows names name (Err e) known room h at all l k on more few = tt
-named a strings rows names name (Ok token) known room h at all l k on more few =
+named a strings rows names name (Err e) known room h at all l k on more few can adds = tt
+named a strings rows names name (Ok token) known room h at all l k on more few can adds =
     let b : References = with_names a strings rows names in
     let g : Grows a b = names_grow a strings rows names k on l in
     let s = still a b g known in
@@ -116,7 +127,7 @@ named a strings rows names name (Ok token) known room h at all l k on more few =
     let weighs = name_weight_is name in
     record {
       grows = g;
-      known = record { few = s.few; names = all; specs = s.specs; methods = s.methods; fields = s.fields; locals = s.locals; texts = s.texts };
+      known = record { few = s.few; names = all; specs = s.specs; methods = s.methods; fields = s.fields; locals = s.locals; texts = s.texts; rows = record { names = names_come a b name rows (wide_name a b (widened a b g) name can) s.rows.names adds refl; specs = s.rows.specs; members = s.rows.members; instances = s.rows.instances; locals = s.rows.locals } };
       room = omega arith;
       token_is = name_token_of b name token at;
       declared = declared_kind strings a.declared.types rows name token h;
@@ -179,6 +190,14 @@ spec_added a rows specs t blob row token known lacks signature at kept is learnt
         fields = s.fields;
         locals = s.locals;
         texts = s.texts;
+        rows = record {
+          names = s.rows.names;
+          specs = each_more (IsSpecRow b) a.referred.specs rows (one_cell blob) (one_of a.referred.specs rows (one_cell blob) kept) s.rows.specs
+              (record { of = t; blob = blob; are = refl; signature = signature_kept SpellsType a b t blob g signature });
+          members = s.rows.members;
+          instances = s.rows.instances;
+          locals = s.rows.locals;
+        };
       };
       room = specs_grown a b (one_more a.referred.specs rows (one_cell blob) kept) refl refl refl refl refl;
       token_is = spec_token_of b t token (ap (λ es. token_in types_apart es t) learnt ∙ found_last types_apart a.known.specs t token lacks);

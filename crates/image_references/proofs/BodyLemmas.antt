@@ -2,7 +2,7 @@
 use Rattle.std.proofs.Common.{◌≡◌, ap, refl, sym, ◌∙◌, subst, ℕ, ◌+◌, ◌*◌, ◌<◌, ◌≤◌, Bool, false, true≢false, List, [], ◌∷◌, length, arith}
 use Rattle.std.specs.Prelude.{sum_by, IsTrue}
 use Rattle.std.specs.List.{AllByRecursion}
-use Rattle.assembly_tree.specs.Weight.{type_weight, owner_weight, instruction_weight, operand_weight, clause_weight, handled_weight, body_weight}
+use Rattle.assembly_tree.specs.Weight.{type_weight, owner_weight, handled_weight}
 use Rattle.assembly_tree.specs.declared.body.Body.{Body}
 use Rattle.assembly_tree.specs.declared.body.Clause.{Clause}
 use Rattle.assembly_tree.specs.declared.body.ClauseKind.{ClauseKind}
@@ -18,6 +18,7 @@ use Rattle.type_terms.specs.declared.term.SigType.{SigType}
 use Rattle.image_references.specs.BodyTokens.{HasOperandToken, HasHandledToken, HasInstructionToken, HasClauseToken, HaveLocalsToken, HasBodyTokens, HasSome, HasOwner, Notes}
 use Rattle.image_references.specs.KnownTokens.{methods_apart, fields_apart, locals_apart, texts_apart}
 use Rattle.image_references.specs.Members.{Leaves, HasLocals}
+use Rattle.image_references.specs.NamesWeight.{named_weight, instruction_names, clause_names, names_weight}
 use Rattle.image_references.specs.Noted.{IsOwned}
 use Rattle.image_references.specs.References.{size, Grows, AreKnown}
 use Rattle.image_references.specs.Units.{bytes_of_units}
@@ -106,24 +107,24 @@ locals_have a b g ts h some = let t = h some in (t.0, token_kept locals_apart a.
 
 -- ---- weights
 
-pub instruction_fits : (i : Ins) → operand_weight i.operand ≤ instruction_weight i
-unfolding instruction_weight
+pub instruction_fits : (i : Ins) → named_weight i.operand ≤ instruction_names i
+unfolding instruction_names
 instruction_fits i = omega arith
 
-pub clause_fits : (c : Clause) → handled_weight c.kind ≤ clause_weight c
-unfolding clause_weight
+pub clause_fits : (c : Clause) → handled_weight c.kind ≤ clause_names c
+unfolding clause_names
 clause_fits c = omega arith
 
-pub body_weighs : (b : Body) → body_weight b ≡ 64 * length b.locals + sum_by type_weight b.locals + sum_by instruction_weight b.code + sum_by clause_weight b.clauses
-unfolding body_weight
+pub body_weighs : (b : Body) → names_weight b ≡ 64 * length b.locals + sum_by type_weight b.locals + sum_by instruction_names b.code + sum_by clause_names b.clauses
+unfolding names_weight
 body_weighs b = refl
 
 -- ---- a whole body
 
 pub body_noted : (a b c d : References) (x : Body) (code : List Ins) (clauses : List Clause) → code ≡ x.code → clauses ≡ x.clauses
     → Notes (λ r. HaveLocalsToken r x.locals) a b (64 * length x.locals + sum_by type_weight x.locals)
-    → Notes (λ r. AllByRecursion (HasInstructionToken r) code) b c (sum_by instruction_weight code)
-    → Notes (λ r. AllByRecursion (HasClauseToken r) clauses) c d (sum_by clause_weight clauses) → Notes (λ r. HasBodyTokens r x) a d (body_weight x)
+    → Notes (λ r. AllByRecursion (HasInstructionToken r) code) b c (sum_by instruction_names code)
+    → Notes (λ r. AllByRecursion (HasClauseToken r) clauses) c d (sum_by clause_names clauses) → Notes (λ r. HasBodyTokens r x) a d (names_weight x)
 body_noted a b c d x code clauses same_code same_clauses l i h = record {
   grows = grows_trans a b d l.grows (grows_trans b c d i.grows h.grows);
   known = h.known;
@@ -132,8 +133,8 @@ body_noted a b c d x code clauses same_code same_clauses l i h = record {
       let then = i.room in
       let last = h.room in
       let weighs = body_weighs x in
-      let p = ap (sum_by instruction_weight) same_code in
-      let q = ap (sum_by clause_weight) same_clauses in
+      let p = ap (sum_by instruction_names) same_code in
+      let q = ap (sum_by clause_names) same_clauses in
       omega arith;
   has = record {
     locals = locals_have b d (grows_trans b c d i.grows h.grows) x.locals l.has;

@@ -1,7 +1,9 @@
 -- Methods with their arguments, and the tokens that locals and texts are given.
-use Rattle.std.proofs.Common.{◌≡◌, ◌⊎◌, ap, refl, sym, subst, ℕ, ◌+◌, ◌*◌, ◌≤◌, ◌^◌, ◌<◌, List, [], ◌∷◌, ◌++◌, length, Option, Some, None, Result, Ok, Err, arith}
+use Rattle.std.proofs.Common.{◌≡◌, ◌⊎◌, ap, refl, sym, subst, ℕ, zero, suc, ◌-◌, ◌+◌, ◌*◌, ◌≤◌, ◌^◌, ◌<◌, List, [], ◌∷◌, ◌++◌, length, Option, Some, None, Result, Ok, Err, arith}
 use Rattle.std.specs.Prelude.{IfOk, OnOk, sum_by}
+use Rattle.std.proofs.lemmas.List.{length-append, length-drop}
 use Rattle.assembly_tree.specs.Weight.{type_weight, owner_weight, signature_weight, method_ref_weight, optional}
+use Rattle.heaps.specs.Content.{HasUnits}
 use Rattle.heaps.specs.Heap.{Heap}
 use Rattle.metadata_tables.specs.declared.coded.Coded.TheVariants.{MethodDefOrRef}
 use Rattle.sig_codec.specs.Signature.{SpellsLocals, SpellsInstantiation}
@@ -10,19 +12,23 @@ use Rattle.type_terms.specs.declared.term.SigType.{SigType}
 use Rattle.image_references.specs.Found.{token_in}
 use Rattle.image_references.specs.Indexes.{IsToken, index_of_token}
 use Rattle.image_references.specs.KnownTokens.{locals_apart, texts_apart}
-use Rattle.image_references.specs.Members.{Leaves, HasLocals, HasLoaded, IsInstanceOf, instance_weight}
+use Rattle.image_references.specs.Members.{Leaves, HasLocals, HasLoaded, HasArguments, IsInstanceOf, instance_weight}
 use Rattle.image_references.specs.NameTokens.{Learns}
 use Rattle.image_references.specs.Noted.{IsSigned}
-use Rattle.image_references.specs.References.{size, HasSignature, HasGenericToken, IsMethodToken, plain, instance, IsLocalsToken, IsTextToken, one_cell, Grows, AreKnown}
+use Rattle.image_references.specs.References.{size, HasSignature, HasGenericToken, IsMethodToken, plain, instance, IsLocalsToken, IsTextToken, one_cell, IsLocalsRow, IsInstanceRow, Grows, AreKnown}
 use Rattle.image_references.specs.Rows.{IsRowAt, Lacks}
 use Rattle.image_references.specs.TypePaths.{GoesOn}
-use Rattle.image_references.specs.Units.{HoldsUnits, KeepsUnits, bytes_of_units}
+use Rattle.image_references.specs.Units.{HoldsUnits, KeepsUnits, bytes_of_units, IsLoadable}
 use Rattle.image_references.specs.Writable.{AreArgumentsWritable}
 use Rattle.image_references.specs.declared.references.References.{References}
 use Rattle.image_references.specs.declared.row_set.Cells.{Cells}
 use Rattle.image_references.proofs.AddedLemmas.{one_more}
-use Rattle.image_references.proofs.GrowthLemmas.{grows_refl, grows_trans, still, still_known, signature_kept, generic_kept}
+use Rattle.image_references.proofs.EachRowLemmas.{each_more, one_of}
+use Rattle.image_references.proofs.MemberLemmas.{unchanged_rows}
+use Rattle.image_references.proofs.WidenedLemmas.{wide_known}
+use Rattle.image_references.proofs.GrowthLemmas.{widened, grows_refl, grows_trans, still, signature_kept, generic_kept}
 use Rattle.image_references.proofs.LeavesLemmas.{instances_grown, locals_grown, all_given, learns_either}
+use Rattle.image_references.proofs.LoadedLemmas.{two_each}
 use Rattle.image_references.proofs.PathLemmas.{goes_on}
 use Rattle.image_references.proofs.WritableLemmas.{still_writable_each}
 
@@ -58,13 +64,23 @@ instances_grow a rows on = let g = grows_refl a in record {
 pub instance_added : (a : References) (rows : List Cells) (cells : Cells) (generic blob row token : ℕ) → AreKnown a
     → cells ≡ record { first = index_of_token MethodDefOrRef generic; second = blob; third = 0 } → IsRowAt rows cells row
     → (rows ≡ a.referred.instances) ⊎ ((rows ≡ a.referred.instances ++ cells ∷ []) × Lacks a.referred.instances cells) → IsToken token 0x2B row
+    → (m : MethodRef) → HasGenericToken a m generic → HasArguments a blob
     → Leaves (IsInstanceOf generic blob) a (with_instances a rows) 8 token
-instance_added a rows cells generic blob row token known same at kept is =
+instance_added a rows cells generic blob row token known same at kept is m generic_is signed =
     let b : References = with_instances a rows in
     let g : Grows a b = instances_grow a rows (goes_on a.referred.instances rows cells kept) in
+    let s = still a b g known in
     record {
       grows = g;
-      known = still_known a b g known refl;
+      known = wide_known a b (widened a b g) known refl (record {
+        names = s.rows.names;
+        specs = s.rows.specs;
+        members = s.rows.members;
+        instances = each_more (IsInstanceRow b) a.referred.instances rows cells (one_of a.referred.instances rows cells kept) s.rows.instances
+            (subst (IsInstanceRow b) (sym same)
+            (record { method = m; generic = generic; arguments = signed.0; generic_is = generic_kept a b m generic g generic_is; first_is = refl; signature = signature_kept SpellsInstantiation a b signed.0 blob g signed.1 }));
+        locals = s.rows.locals;
+      });
       room = instances_grown a b (one_more a.referred.instances rows cells kept) refl refl refl refl refl;
       is = record { row = row; at = subst (λ (x : Cells). IsRowAt rows x row) same at; is = is };
     }
@@ -151,6 +167,14 @@ locals_given a rows locals ts blob row token (Ok n) known signed at kept is foun
         fields = s.fields;
         locals = all_given (λ e. IsLocalsToken b e.0 e.1) a.known.locals locals (ts, token) s.locals one given;
         texts = s.texts;
+        rows = record {
+          names = s.rows.names;
+          specs = s.rows.specs;
+          members = s.rows.members;
+          instances = s.rows.instances;
+          locals = each_more (IsLocalsRow b) a.referred.locals rows (one_cell blob) (one_of a.referred.locals rows (one_cell blob) kept) s.rows.locals
+              (record { locals = ts; blob = blob; are = refl; signature = signature_kept SpellsLocals a b ts blob g signed });
+        };
       };
       room = locals_grown a b (one_more a.referred.locals rows (one_cell blob) kept) refl refl refl refl refl;
       is = found;
@@ -209,11 +233,29 @@ loaded_given a user texts units index token (Ok n) known same k holds is found g
         fields = s.fields;
         locals = s.locals;
         texts = all_given (λ e. IsTextToken b e.0 e.1) a.known.texts texts (units, token) s.texts one given;
+        rows = unchanged_rows a b s.rows refl;
       };
       room = same_user a user texts same;
       is = found;
     }
 
-pub room_for_units : (r : References) (n : ℕ) → size r + 2 * n ≤ 2 ^ 26 → length r.heaps.user.bytes + 2 * n + 8 < 2 ^ 29
+-- what stands in a heap is no longer than it
+in_heap : (heap : List ℕ) (index : ℕ) (units : List ℕ) → HasUnits heap index units → length units ≤ length heap
+in_heap heap zero units (last, empty, even) =
+    let long = length-append units (last ∷ []) in
+    let none = ap (length {A = ℕ}) empty in
+    omega arith
+in_heap heap (suc k) units (last, (spelling, rest, is, packed), even) =
+    let left = ap (length {A = ℕ}) is in
+    let short = length-drop (suc k) heap in
+    let front = length-append spelling ((units ++ last ∷ []) ++ rest) in
+    let entry = length-append (units ++ last ∷ []) rest in
+    let long = length-append units (last ∷ []) in
+    omega arith
+
+pub room_for_units : (r : References) (units : List ℕ) → IsLoadable r.heaps.user units → size r ≤ 2 ^ 26 → length r.heaps.user.bytes + 2 * length units + 8 < 2 ^ 29
 unfolding size
-room_for_units r n h = omega arith
+room_for_units r units (index, holds, low) room =
+    let inside = in_heap r.heaps.user.bytes index (bytes_of_units units) holds.there in
+    let two = two_each units in
+    omega arith

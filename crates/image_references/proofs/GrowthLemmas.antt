@@ -26,7 +26,7 @@ use Rattle.image_references.specs.declared.references.References.{References}
 use Rattle.image_references.specs.declared.row_set.Cells.{Cells}
 use Rattle.image_references.proofs.NameLemmas.{all_more}
 use Rattle.image_references.proofs.PathLemmas.{keeps_trans, goes_on_trans}
-use Rattle.image_references.proofs.WidenedLemmas.{AreStill, wide_tokens, wide_signature, wide_generic, wide_method, wide_still, wide_known}
+use Rattle.image_references.proofs.WidenedLemmas.{AreStill, wide_tokens, wide_signature, wide_generic, wide_method, wide_still, same_rows, wide_known}
 pub use Rattle.image_references.proofs.WidenedLemmas.{token_kept}
 
 learns_nothing : {T : Type 0} (es : List (T × ℕ)) → Learns es es
@@ -89,6 +89,7 @@ widened a b g = record {
   blobs = g.blobs;
   user = g.user;
   types = ap (λ d. d.types) g.declared;
+  externs = ap (λ d. d.externs) g.declared;
   fields = widened_rows a.declared.fields b.declared.fields (ap (λ d. d.fields) g.declared);
   methods = widened_rows a.declared.methods b.declared.methods (ap (λ d. d.methods) g.declared);
   names = g.names;
@@ -110,6 +111,7 @@ widens_trans a b c p q = record {
   blobs = record { blobs = λ i t h. q.blobs.blobs i t (p.blobs.blobs i t h); used = λ i h. q.blobs.used i (p.blobs.used i h) };
   user = record { units = λ i t h. q.user.units i t (p.user.units i t h); used = λ i h. q.user.used i (p.user.used i h) };
   types = q.types ∙ p.types;
+  externs = q.externs ∙ p.externs;
   fields = goes_on_trans a.declared.fields b.declared.fields c.declared.fields p.fields q.fields;
   methods = goes_on_trans a.declared.methods b.declared.methods c.declared.methods p.methods q.methods;
   names = goes_on_trans a.referred.names b.referred.names c.referred.names p.names q.names;
@@ -141,8 +143,8 @@ method_kept a b m token g h = wide_method a b m token (widened a b g) h
 pub still : (a b : References) → Grows a b → AreKnown a → AreStill b a
 still a b g k = wide_still a b (widened a b g) k
 
-pub still_known : (a b : References) → Grows a b → AreKnown a → b.known ≡ a.known → AreKnown b
-still_known a b g k same = wide_known a b (widened a b g) k same
+pub still_known : (a b : References) → Grows a b → AreKnown a → b.known ≡ a.known → b.referred ≡ a.referred → AreKnown b
+still_known a b g k same rows = wide_known a b (widened a b g) k same (same_rows a b (widened a b g) k.rows rows)
 
 -- all of a list and one more
 pub all_and : {X : Type 0} (P : X → Type 0) (old new : List X) (x : X) → AllByRecursion P old → P x → new ≡ old ++ x ∷ [] → AllByRecursion P new

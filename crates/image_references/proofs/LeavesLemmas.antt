@@ -163,7 +163,7 @@ pub text_leaves : {E : Type 0} (a : References) (strings : Heap) (text : List â„
 text_leaves a strings text (Err e) known h k le = tt
 text_leaves a strings text (Ok index) known h k le = record {
   grows = strings_grow a strings k;
-  known = still_known a (with_strings a strings) (strings_grow a strings k) known refl;
+  known = still_known a (with_strings a strings) (strings_grow a strings k) known refl refl;
   room = strings_grown a (with_strings a strings) (length text + 1) (omega arith) refl refl refl;
   is = h;
 }

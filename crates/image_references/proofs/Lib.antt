@@ -3,6 +3,7 @@ pub mod BodyLemmas
 pub mod ChainLemmas
 pub mod DepthLemmas
 pub mod DistinctLemmas
+pub mod EachRowLemmas
 pub mod FoundLemmas
 pub mod GivenLemmas
 pub mod GrowthLemmas

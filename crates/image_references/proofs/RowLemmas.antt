@@ -70,7 +70,7 @@ last_row (y ∷ xs) x = last_row xs x
 
 -- ---- distinct rows
 
-snoc_cases : (xs : List Cells) (x y : Cells) (k : ℕ) → slice_get (xs ++ x ∷ []) k ≡ Some y
+pub snoc_cases : (xs : List Cells) (x y : Cells) (k : ℕ) → slice_get (xs ++ x ∷ []) k ≡ Some y
     → (slice_get xs k ≡ Some y) ⊎ ((k ≡ length xs) × (y ≡ x))
 snoc_cases [] x y zero h = inr (refl, cc)
 snoc_cases [] x y (suc k) h = absurd cc

@@ -7,6 +7,10 @@ use Rattle.std.proofs.lemmas.List.{append-nil, append_assoc}
 use Rattle.sig_codec.specs.Spelling.{Notation}
 use Rattle.sig_codec.specs.Signature.{SpellsMethod, SpellsField, SpellsLocals, SpellsInstantiation}
 use Rattle.sig_codec.specs.Spelling.{SpellsType}
+use Rattle.heaps.specs.Heap.{Heap}
+use Rattle.type_terms.specs.declared.name.Scope.{Scope}
+use Rattle.type_terms.specs.declared.name.Scope.TheVariants.{Here, Extern}
+use Rattle.type_terms.specs.declared.name.TypeId.{TypeId}
 use Rattle.type_terms.specs.declared.name.TypeName.{TypeName}
 use Rattle.type_terms.specs.declared.reference.FieldRef.{FieldRef}
 use Rattle.type_terms.specs.declared.reference.MethodRef.{MethodRef}
@@ -16,16 +20,19 @@ use Rattle.type_terms.specs.declared.term.SigType.{SigType}
 use Rattle.image_references.specs.Blobs.{HoldsBlob, KeepsBlobs}
 use Rattle.image_references.specs.Found.{same_term, token_in}
 use Rattle.image_references.specs.KnownTokens.{layer_token, owner_token, names_apart, types_apart}
-use Rattle.image_references.specs.NameTokens.{AreNames, Learns}
-use Rattle.image_references.specs.References.{tokens_of, HasSignature, IsSpecToken, IsMemberRow, HasMemberToken, HasGenericToken, of_declared, of_referred, IsMethodToken, plain, instance, IsFieldToken, IsLocalsToken, IsTextToken, AreKnown, Widens}
-use Rattle.image_references.specs.Rows.{IsRowAt}
+use Rattle.image_references.specs.NameTokens.{NameableIn, IsScopeAmong, AreNames, Learns}
+use Rattle.image_references.specs.References.{tokens_of, HasSignature, IsSpecToken, IsMemberRow, HasMemberToken, HasGenericToken, of_declared, of_referred, IsMethodToken, plain, instance, IsFieldToken, IsLocalsToken, IsTextToken, IsNameRow, IsSpecRow, IsLocalsRow, IsMemberSignature, IsReferredMember, IsInstanceRow, AreReferred, AreKnown, Widens}
+use Rattle.image_references.specs.Rows.{IsRowAt, EachRow}
 use Rattle.image_references.specs.Texts.{HoldsText, KeepsTexts}
-use Rattle.image_references.specs.TypePaths.{GoesOn}
+use Rattle.image_references.specs.TypePaths.{GoesOn, in_declared}
 use Rattle.image_references.specs.Units.{HoldsUnits, KeepsUnits}
+use Rattle.image_references.specs.Writable.{CanBeNamed}
+use Rattle.image_references.specs.declared.references.Referred.{Referred}
 use Rattle.image_references.specs.declared.references.References.{References}
 use Rattle.image_references.specs.declared.row_set.Cells.{Cells}
 use Rattle.image_references.proofs.NameLemmas.{all_weaker, names_kept}
-use Rattle.image_references.proofs.PathLemmas.{row_kept, text_kept}
+use Rattle.image_references.proofs.EachRowLemmas.{each_weaker, name_lies_kept}
+use Rattle.image_references.proofs.PathLemmas.{row_kept, text_kept, follows_kept}
 
 -- ---- tokens
 
@@ -49,6 +56,21 @@ layer_kept n0 n1 s0 s1 (Spec of) t p q at = token_kept types_apart s0 s1 of t q 
 
 pub wide_tokens : (a b : References) → Widens a b → (o : Owner) (t : ℕ) → tokens_of a o ≡ Some t → tokens_of b o ≡ Some t
 wide_tokens a b g o t at = layer_kept a.known.names b.known.names a.known.specs b.known.specs (out-Owner o) t g.known_names g.known_specs at
+
+-- ---- names that can be written
+
+nameable_kept : (old new : Heap) (rows more : List Cells) (path : List TypeId) (scope : Scope) → KeepsTexts old new → more ≡ rows
+    → NameableIn old rows path scope → NameableIn new more path scope
+nameable_kept old new rows more path Here k same h =
+    (h.0, follows_kept old new rows more in_declared 0 h.0 path k (record { more = []; is = same ∙ sym (append-nil rows) }) h.1)
+nameable_kept old new rows more path (Extern number) k same h = h
+
+pub wide_name : (a b : References) → Widens a b → (name : TypeName) → CanBeNamed a name → CanBeNamed b name
+wide_name a b g name h = record {
+  plain = h.plain;
+  nameable = nameable_kept a.heaps.strings b.heaps.strings a.declared.types b.declared.types name.path name.scope g.strings g.types h.nameable;
+  scope = subst (λ n. IsScopeAmong n name.scope) (sym g.externs) h.scope;
+}
 
 -- ---- what a token stands for
 
@@ -117,6 +139,75 @@ units_kept a b units token g h = record {
   is = h.is;
 }
 
+-- ---- the rows of references
+
+name_row_kept : (a b : References) (c : Cells) → Widens a b → IsNameRow a c → IsNameRow b c
+name_row_kept a b c g h = record {
+  name = h.name;
+  can = wide_name a b g h.name h.can;
+  lies = name_lies_kept a.heaps.strings b.heaps.strings a.referred.names b.referred.names h.name c g.strings g.names h.lies;
+}
+
+spec_row_kept : (a b : References) (c : Cells) → Widens a b → IsSpecRow a c → IsSpecRow b c
+spec_row_kept a b c g h = record { of = h.of; blob = h.blob; are = h.are; signature = wide_signature SpellsType a b h.of h.blob g h.signature }
+
+locals_row_kept : (a b : References) (c : Cells) → Widens a b → IsLocalsRow a c → IsLocalsRow b c
+locals_row_kept a b c g h = record { locals = h.locals; blob = h.blob; are = h.are; signature = wide_signature SpellsLocals a b h.locals h.blob g h.signature }
+
+member_signature_kept : (a b : References) (blob : ℕ) → Widens a b → IsMemberSignature a blob → IsMemberSignature b blob
+member_signature_kept a b blob g (inl h) = inl (h.0, wide_signature SpellsMethod a b h.0 blob g h.1)
+member_signature_kept a b blob g (inr h) = inr (h.0, wide_signature SpellsField a b h.0 blob g h.1)
+
+referred_kept : (a b : References) (c : Cells) → Widens a b → IsReferredMember a c → IsReferredMember b c
+referred_kept a b c g h = record {
+  owner = h.owner;
+  token = h.token;
+  name = h.name;
+  owner_is = wide_tokens a b g h.owner h.token h.owner_is;
+  parent_is = h.parent_is;
+  name_is = text_kept a.heaps.strings b.heaps.strings h.name c.second g.strings h.name_is;
+  signature = member_signature_kept a b c.third g h.signature;
+}
+
+instance_kept : (a b : References) (c : Cells) → Widens a b → IsInstanceRow a c → IsInstanceRow b c
+instance_kept a b c g h = record {
+  method = h.method;
+  generic = h.generic;
+  arguments = h.arguments;
+  generic_is = wide_generic a b h.method h.generic g h.generic_is;
+  first_is = h.first_is;
+  signature = wide_signature SpellsInstantiation a b h.arguments c.second g h.signature;
+}
+
+-- what a later state has for the rows that there were
+pub record RowsStill (b a : References) : Type 0 where
+  pub names : EachRow (IsNameRow b) a.referred.names
+  pub specs : EachRow (IsSpecRow b) a.referred.specs
+  pub members : EachRow (IsReferredMember b) a.referred.members
+  pub instances : EachRow (IsInstanceRow b) a.referred.instances
+  pub locals : EachRow (IsLocalsRow b) a.referred.locals
+
+pub rows_still : (a b : References) → Widens a b → AreReferred a → RowsStill b a
+rows_still a b g h = record {
+  names = each_weaker (IsNameRow a) (IsNameRow b) a.referred.names (λ c x. name_row_kept a b c g x) h.names;
+  specs = each_weaker (IsSpecRow a) (IsSpecRow b) a.referred.specs (λ c x. spec_row_kept a b c g x) h.specs;
+  members = each_weaker (IsReferredMember a) (IsReferredMember b) a.referred.members (λ c x. referred_kept a b c g x) h.members;
+  instances = each_weaker (IsInstanceRow a) (IsInstanceRow b) a.referred.instances (λ c x. instance_kept a b c g x) h.instances;
+  locals = each_weaker (IsLocalsRow a) (IsLocalsRow b) a.referred.locals (λ c x. locals_row_kept a b c g x) h.locals;
+}
+
+-- no rows have come
+pub same_rows : (a b : References) → Widens a b → AreReferred a → b.referred ≡ a.referred → AreReferred b
+same_rows a b g h e =
+    let s = rows_still a b g h in
+    record {
+      names = subst (λ (r : Referred). EachRow (IsNameRow b) r.names) (sym e) s.names;
+      specs = subst (λ (r : Referred). EachRow (IsSpecRow b) r.specs) (sym e) s.specs;
+      members = subst (λ (r : Referred). EachRow (IsReferredMember b) r.members) (sym e) s.members;
+      instances = subst (λ (r : Referred). EachRow (IsInstanceRow b) r.instances) (sym e) s.instances;
+      locals = subst (λ (r : Referred). EachRow (IsLocalsRow b) r.locals) (sym e) s.locals;
+    }
+
 -- ---- all that has been given
 
 -- what a later state has for what was known before
@@ -128,6 +219,7 @@ pub record AreStill (b a : References) : Type 0 where
   pub fields : AllByRecursion (λ e. IsFieldToken b e.0 e.1) a.known.fields
   pub locals : AllByRecursion (λ e. IsLocalsToken b e.0 e.1) a.known.locals
   pub texts : AllByRecursion (λ e. IsTextToken b e.0 e.1) a.known.texts
+  pub rows : RowsStill b a
 
 pub wide_still : (a b : References) → Widens a b → AreKnown a → AreStill b a
 wide_still a b g k =
@@ -141,11 +233,12 @@ wide_still a b g k =
       fields = all_weaker (λ e. IsFieldToken a e.0 e.1) (λ e. IsFieldToken b e.0 e.1) a.known.fields (λ e h. field_kept a b e.0 e.1 g h) k.fields;
       locals = all_weaker (λ e. IsLocalsToken a e.0 e.1) (λ e. IsLocalsToken b e.0 e.1) a.known.locals (λ e h. locals_kept a b e.0 e.1 g h) k.locals;
       texts = all_weaker (λ e. IsTextToken a e.0 e.1) (λ e. IsTextToken b e.0 e.1) a.known.texts (λ e h. units_kept a b e.0 e.1 g h) k.texts;
+      rows = rows_still a b g k.rows;
     }
 
 -- nothing more is known
-pub wide_known : (a b : References) → Widens a b → AreKnown a → b.known ≡ a.known → AreKnown b
-wide_known a b g k same =
+pub wide_known : (a b : References) → Widens a b → AreKnown a → b.known ≡ a.known → AreReferred b → AreKnown b
+wide_known a b g k same rows =
     let s = wide_still a b g k in
     record {
       few = s.few;
@@ -155,4 +248,5 @@ wide_known a b g k same =
       fields = subst (λ es. AllByRecursion (λ e. IsFieldToken b e.0 e.1) es) (sym (ap (λ x. x.fields) same)) s.fields;
       locals = subst (λ es. AllByRecursion (λ e. IsLocalsToken b e.0 e.1) es) (sym (ap (λ x. x.locals) same)) s.locals;
       texts = subst (λ es. AllByRecursion (λ e. IsTextToken b e.0 e.1) es) (sym (ap (λ x. x.texts) same)) s.texts;
+      rows = rows;
     }

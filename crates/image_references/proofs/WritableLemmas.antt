@@ -23,32 +23,20 @@ use Rattle.image_references.specs.declared.row_set.Cells.{Cells}
 use Rattle.heaps.specs.Heap.{Heap}
 use Rattle.image_references.specs.Texts.{KeepsTexts}
 use Rattle.image_references.proofs.GrowthLemmas.{widened, tokens_kept}
-use Rattle.image_references.proofs.PathLemmas.{follows_kept}
+use Rattle.image_references.proofs.WidenedLemmas.{wide_name}
 
 -- ---- as more comes
 
-nameable_kept : (old new : Heap) (rows more : List Cells) (path : List TypeId) (scope : Scope) → KeepsTexts old new → more ≡ rows
-    → NameableIn old rows path scope → NameableIn new more path scope
-nameable_kept old new rows more path Here k same h =
-    (h.0, follows_kept old new rows more in_declared 0 h.0 path k (record { more = []; is = same ∙ sym (append-nil rows) }) h.1)
-nameable_kept old new rows more path (Extern number) k same h = h
-
 module _ (a b : References) (g : Widens a b) where
-  pub wide_name : (name : TypeName) → CanBeNamed a name → CanBeNamed b name
-  wide_name name h = record {
-    plain = h.plain;
-    nameable = nameable_kept a.heaps.strings b.heaps.strings a.declared.types b.declared.types name.path name.scope g.strings g.types h.nameable;
-  }
-
   mutual
     type_can : {t : SigType} → IsWritable a t → IsWritable b t
     type_can (w.made h) = w.made (layer_can h)
 
     layer_can : {l : Layer} → IsLayerWritable a l → IsLayerWritable b l
     layer_can w.prim = w.prim
-    layer_can (w.class {name = n} h) = w.class (wide_name n h)
-    layer_can (w.value {name = n} h) = w.value (wide_name n h)
-    layer_can (w.inst {name = n} h s c k) = w.inst (wide_name n h) s c (types_can k)
+    layer_can (w.class {name = n} h) = w.class (wide_name a b g n h)
+    layer_can (w.value {name = n} h) = w.value (wide_name a b g n h)
+    layer_can (w.inst {name = n} h s c k) = w.inst (wide_name a b g n h) s c (types_can k)
     layer_can (w.var lt) = w.var lt
     layer_can (w.mvar lt) = w.mvar lt
     layer_can (w.sz_array h) = w.sz_array (type_can h)
@@ -62,7 +50,7 @@ module _ (a b : References) (g : Widens a b) where
     owner_can (w.made_owner h) = w.made_owner (owner_layer_can h)
 
     owner_layer_can : {l : layer.Owner-F Owner SigType} → IsOwnerLayerWritable a l → IsOwnerLayerWritable b l
-    owner_layer_can (w.name {n = n} h) = w.name (wide_name n h)
+    owner_layer_can (w.name {n = n} h) = w.name (wide_name a b g n h)
     owner_layer_can (w.spec h) = w.spec (type_can h)
 
     types_can : {ts : List SigType} → AreWritable a ts → AreWritable b ts

@@ -8,6 +8,7 @@ pub mod KnownTokens
 pub mod Loaded
 pub mod Members
 pub mod NameTokens
+pub mod NamesWeight
 pub mod Noted
 pub mod References
 pub mod Rows

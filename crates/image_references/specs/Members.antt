@@ -3,6 +3,7 @@
 use Rattle.std.specs.Prelude.{◌≡◌, ℕ, ◌+◌, sum_by, ◌/◌, ◌%◌, ◌^◌, ◌≤◌, List, Option, Some, None}
 use Rattle.assembly_tree.specs.Weight.{type_weight}
 use Rattle.metadata_tables.specs.declared.coded.Coded.TheVariants.{MemberRefParent, MethodDefOrRef}
+use Rattle.sig_codec.specs.Signature.{SpellsInstantiation}
 use Rattle.type_terms.specs.declared.reference.FieldRef.{FieldRef}
 use Rattle.type_terms.specs.declared.reference.MethodRef.{MethodRef}
 use Rattle.type_terms.specs.declared.term.Owner.{Owner}
@@ -10,7 +11,7 @@ use Rattle.type_terms.specs.declared.term.SigType.{SigType}
 use Rattle.image_references.specs.Found.{token_in}
 use Rattle.image_references.specs.Indexes.{IsToken, index_of_token}
 use Rattle.image_references.specs.KnownTokens.{methods_apart, fields_apart, locals_apart, texts_apart}
-use Rattle.image_references.specs.References.{tokens_of, size, Grows, AreKnown}
+use Rattle.image_references.specs.References.{tokens_of, size, HasSignature, Grows, AreKnown}
 use Rattle.image_references.specs.Rows.{IsRowAt}
 use Rattle.image_references.specs.Texts.{HoldsText}
 use Rattle.image_references.specs.declared.references.References.{References}
@@ -23,10 +24,14 @@ abbrev pub IsDeclaredRow : List Cells → (owner name signature row : ℕ) → T
 IsDeclaredRow declared owner name signature row =
     (owner / 2 ^ 24 ≡ 0x02) × IsRowAt declared (record { first = owner % 2 ^ 24; second = name; third = signature }) row
 
--- the row of MemberRef of a member: its cells are the parent, the name and the signature
+-- the cells of a row of MemberRef: the parent, the name and the signature
+abbrev pub member_cells : (owner name signature : ℕ) → Cells
+member_cells owner name signature = record { first = index_of_token MemberRefParent owner; second = name; third = signature }
+
+-- the row of MemberRef of a member
 abbrev pub IsReferredRow : List Cells → (owner name signature row : ℕ) → Type 0
 IsReferredRow members owner name signature row =
-    IsRowAt members (record { first = index_of_token MemberRefParent owner; second = name; third = signature }) row
+    IsRowAt members (member_cells owner name signature) row
 
 -- the token of one of the two
 pub data IsRowToken (table : ℕ) (declared members : List Cells) (owner name signature : ℕ) : ℕ → Type 0 where
@@ -74,6 +79,10 @@ pub record IsPlaced (old new : References) (o : Owner) (name : List ℕ) (weight
 abbrev pub instance_weight : Option (List SigType) → ℕ
 instance_weight None = 0
 instance_weight (Some args) = sum_by type_weight args + 17
+
+-- a blob spells the arguments of a method
+abbrev pub HasArguments : References → ℕ → Type 0
+HasArguments r blob = (args : List SigType) × HasSignature SpellsInstantiation r args blob
 
 -- a row of MethodSpec with a method and the signature of its arguments
 pub record IsInstanceOf (generic signature : ℕ) (r : References) (token : ℕ) : Type 0 where

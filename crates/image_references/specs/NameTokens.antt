@@ -1,5 +1,5 @@
 -- The tokens of the names of types (ECMA-335 II.22.37, II.22.38, III.1.9).
-use Rattle.std.specs.Prelude.{◌≡◌, ℕ, ◌+◌, ◌^◌, ◌<◌, List, ◌++◌}
+use Rattle.std.specs.Prelude.{◌≡◌, ℕ, ◌+◌, ◌^◌, ◌<◌, ◌⊎◌, ⊤, List, ◌++◌, Some, slice_get}
 use Rattle.std.specs.List.{AllByRecursion}
 use Rattle.heaps.specs.Heap.{Heap}
 use Rattle.metadata_tables.specs.declared.coded.Coded.TheVariants.{ResolutionScope}
@@ -8,7 +8,7 @@ use Rattle.type_terms.specs.declared.name.Scope.TheVariants.{Here, Extern}
 use Rattle.type_terms.specs.declared.name.TypeId.{TypeId}
 use Rattle.type_terms.specs.declared.name.TypeName.{TypeName}
 use Rattle.image_references.specs.Indexes.{IsToken, index_of}
-use Rattle.image_references.specs.TypePaths.{Follows, in_reference, in_declared}
+use Rattle.image_references.specs.TypePaths.{Follows, LiesOnPath, in_reference, in_declared}
 use Rattle.image_references.specs.declared.row_set.Cells.{Cells}
 
 -- the scope of the top-level types of an extern, by its number
@@ -29,6 +29,22 @@ NameableIn strings declared path (Extern number) = number + 1 < 2 ^ 24
 
 abbrev pub IsNameable : Heap → List Cells → TypeName → Type 0
 IsNameable strings declared name = NameableIn strings declared name.path name.scope
+
+-- the extern of a name is one of so many
+abbrev pub IsScopeAmong : ℕ → Scope → Type 0
+IsScopeAmong externs Here = ⊤
+IsScopeAmong externs (Extern number) = number < externs
+
+-- a row of TypeRef is that of a type on the path of a name
+pub record LiesOn (strings : Heap) (rows : List Cells) (name : TypeName) (cells : Cells) : Type 0 where
+  pub number : ℕ
+  pub scope : name.scope ≡ Extern number
+  pub path : LiesOnPath strings rows (in_extern number) name.path cells
+
+-- each row that has been added is that of a type on the path of a name
+abbrev pub AddsName : Heap → TypeName → List Cells → List Cells → Type 0
+AddsName strings name old new =
+    (k : ℕ) (cells : Cells) → slice_get new k ≡ Some cells → (slice_get old k ≡ Some cells) ⊎ LiesOn strings new name cells
 
 -- each name that is known has its token
 pub record AreNames (strings : Heap) (declared referred : List Cells) (known : List (TypeName × ℕ)) : Type 0 where

@@ -1,6 +1,6 @@
 -- What has been given tokens while an image is being made: heaps, rows, and the tokens of what a tree names (ECMA-335 II.22,
 -- II.24, III.1.9).
-use Rattle.std.specs.Prelude.{◌≡◌, ℕ, ◌+◌, ◌*◌, ◌/◌, ◌%◌, ◌^◌, ◌<◌, ◌≤◌, List, Option, Some, None, length}
+use Rattle.std.specs.Prelude.{◌≡◌, ℕ, ◌+◌, ◌*◌, ◌/◌, ◌%◌, ◌^◌, ◌<◌, ◌≤◌, ◌⊎◌, List, Option, Some, None, length}
 use Rattle.std.specs.List.{AllByRecursion}
 use Rattle.metadata_tables.specs.declared.coded.Coded.TheVariants.{MemberRefParent, MethodDefOrRef}
 use Rattle.sig_codec.specs.Spelling.{Notation, writing, SpellsType}
@@ -8,16 +8,18 @@ use Rattle.sig_codec.specs.Signature.{SpellsMethod, SpellsField, SpellsLocals, S
 use Rattle.type_terms.specs.declared.name.TypeName.{TypeName}
 use Rattle.type_terms.specs.declared.reference.FieldRef.{FieldRef}
 use Rattle.type_terms.specs.declared.reference.MethodRef.{MethodRef}
+use Rattle.type_terms.specs.declared.reference.MethodSig.{MethodSig}
 use Rattle.type_terms.specs.declared.term.Owner.{Owner}
 use Rattle.type_terms.specs.declared.term.SigType.{SigType}
 use Rattle.image_references.specs.Blobs.{HoldsBlob, KeepsBlobs}
 use Rattle.image_references.specs.Indexes.{IsToken, index_of_token}
 use Rattle.image_references.specs.KnownTokens.{owner_token}
-use Rattle.image_references.specs.NameTokens.{AreNames, Learns}
-use Rattle.image_references.specs.Rows.{IsRowAt}
+use Rattle.image_references.specs.NameTokens.{AreNames, LiesOn, Learns}
+use Rattle.image_references.specs.Rows.{IsRowAt, EachRow}
 use Rattle.image_references.specs.Texts.{HoldsText, KeepsTexts}
 use Rattle.image_references.specs.TypePaths.{GoesOn}
 use Rattle.image_references.specs.Units.{HoldsUnits, KeepsUnits, bytes_of_units}
+use Rattle.image_references.specs.Writable.{CanBeNamed}
 use Rattle.image_references.specs.declared.references.References.{References}
 use Rattle.image_references.specs.declared.row_set.Cells.{Cells}
 
@@ -96,7 +98,60 @@ pub record IsTextToken (r : References) (units : List ℕ) (token : ℕ) : Type 
   pub holds : HoldsUnits r.heaps.user (bytes_of_units units) index
   pub is : IsToken token 0x70 index
 
--- each token that has been given stands for its part of the tree
+-- ---- what the rows of references are
+
+-- a row of TypeRef is that of a type on the path of a name that can be written (II.22.38)
+pub record IsNameRow (r : References) (cells : Cells) : Type 0 where
+  pub name : TypeName
+  pub can : CanBeNamed r name
+  pub lies : LiesOn r.heaps.strings r.referred.names name cells
+
+-- a row of TypeSpec is that of a type (II.22.39)
+pub record IsSpecRow (r : References) (cells : Cells) : Type 0 where
+  pub of : SigType
+  pub blob : ℕ
+  pub are : cells ≡ one_cell blob
+  pub signature : HasSignature SpellsType r of blob
+
+-- a row of StandAloneSig is that of locals (II.22.36)
+pub record IsLocalsRow (r : References) (cells : Cells) : Type 0 where
+  pub locals : List SigType
+  pub blob : ℕ
+  pub are : cells ≡ one_cell blob
+  pub signature : HasSignature SpellsLocals r locals blob
+
+-- the signature of a member: that of a method, or that of a field
+abbrev pub IsMemberSignature : References → ℕ → Type 0
+IsMemberSignature r blob = ((s : MethodSig) × HasSignature SpellsMethod r s blob) ⊎ ((t : SigType) × HasSignature SpellsField r t blob)
+
+-- a row of MemberRef has the token of an owner, a name and a signature (II.22.25)
+pub record IsReferredMember (r : References) (cells : Cells) : Type 0 where
+  pub owner : Owner
+  pub token : ℕ
+  pub name : List ℕ
+  pub owner_is : tokens_of r owner ≡ Some token
+  pub parent_is : cells.first ≡ index_of_token MemberRefParent token
+  pub name_is : HoldsText r.heaps.strings name cells.second
+  pub signature : IsMemberSignature r cells.third
+
+-- a row of MethodSpec is that of a method with its arguments (II.22.29)
+pub record IsInstanceRow (r : References) (cells : Cells) : Type 0 where
+  pub method : MethodRef
+  pub generic : ℕ
+  pub arguments : List SigType
+  pub generic_is : HasGenericToken r method generic
+  pub first_is : cells.first ≡ index_of_token MethodDefOrRef generic
+  pub signature : HasSignature SpellsInstantiation r arguments cells.second
+
+-- each row of the tables of references leads to what is there
+pub record AreReferred (r : References) : Type 0 where
+  pub names : EachRow (IsNameRow r) r.referred.names
+  pub specs : EachRow (IsSpecRow r) r.referred.specs
+  pub members : EachRow (IsReferredMember r) r.referred.members
+  pub instances : EachRow (IsInstanceRow r) r.referred.instances
+  pub locals : EachRow (IsLocalsRow r) r.referred.locals
+
+-- Each token that has been given stands for its part of the tree, and each row leads to what is there.
 pub record AreKnown (r : References) : Type 0 where
   pub few : length r.declared.types < 2 ^ 24
   pub names : AreNames r.heaps.strings r.declared.types r.referred.names r.known.names
@@ -105,6 +160,7 @@ pub record AreKnown (r : References) : Type 0 where
   pub fields : AllByRecursion (λ e. IsFieldToken r e.0 e.1) r.known.fields
   pub locals : AllByRecursion (λ e. IsLocalsToken r e.0 e.1) r.known.locals
   pub texts : AllByRecursion (λ e. IsTextToken r e.0 e.1) r.known.texts
+  pub rows : AreReferred r
 
 -- ---- from one state to a later one
 
@@ -132,6 +188,7 @@ pub record Widens (old new : References) : Type 0 where
   pub blobs : KeepsBlobs old.heaps.blobs new.heaps.blobs
   pub user : KeepsUnits old.heaps.user new.heaps.user
   pub types : new.declared.types ≡ old.declared.types
+  pub externs : new.declared.externs ≡ old.declared.externs
   pub fields : GoesOn old.declared.fields new.declared.fields
   pub methods : GoesOn old.declared.methods new.declared.methods
   pub names : GoesOn old.referred.names new.referred.names

@@ -1,5 +1,5 @@
 -- Rows that are found again by their cells.
-use Rattle.std.specs.Prelude.{◌≡◌, ℕ, ◌-◌, ◌<◌, ◌&&◌, Bool, nat_eq, List, Option, Some, slice_get}
+use Rattle.std.specs.Prelude.{◌≡◌, ℕ, ◌-◌, ◌<◌, ◌&&◌, ◌⊎◌, Bool, nat_eq, List, [], ◌∷◌, ◌++◌, Option, Some, slice_get}
 use Rattle.image_references.specs.declared.row_set.Cells.{Cells}
 
 -- the row with this number, counted from 1, has these cells
@@ -14,6 +14,14 @@ Lacks rows cells = (k : ℕ) → slice_get rows k ≡ Some cells → ⊥
 -- no two rows have the same cells
 abbrev pub AreDistinct : List Cells → Type 0
 AreDistinct rows = (j k : ℕ) (cells : Cells) → slice_get rows j ≡ Some cells → slice_get rows k ≡ Some cells → j ≡ k
+
+-- something holds of each row
+abbrev pub EachRow : (Cells → Type 0) → List Cells → Type 0
+EachRow Holds rows = (k : ℕ) (cells : Cells) → slice_get rows k ≡ Some cells → Holds cells
+
+-- these cells have been added at the end, or none
+abbrev pub AddsOneAtMost : Cells → List Cells → List Cells → Type 0
+AddsOneAtMost cells old new = (new ≡ old) ⊎ (new ≡ old ++ cells ∷ [])
 
 -- ---- rows in a list, where some may have the same cells
 

@@ -18,15 +18,16 @@ use Rattle.type_terms.specs.declared.term.Primitive.{Primitive}
 use Rattle.type_terms.specs.declared.term.Owner.{Owner, out-Owner}
 use Rattle.type_terms.specs.declared.term.Owner.TheOpen as layer
 use Rattle.type_terms.specs.declared.term.SigType.{SigType, out-SigType}
-use Rattle.image_references.specs.NameTokens.{IsNameable}
+use Rattle.image_references.specs.NameTokens.{IsNameable, IsScopeAmong}
 use Rattle.image_references.specs.Texts.{IsPlainId, HasNoZero}
 use Rattle.image_references.specs.Units.{IsLoadable}
 use Rattle.image_references.specs.declared.references.References.{References}
 
--- a name without zero bytes, declared or in an extern
+-- a name without zero bytes, declared or in an extern that is there
 pub record CanBeNamed (r : References) (name : TypeName) : Type 0 where
   pub plain : AllByRecursion IsPlainId name.path
   pub nameable : IsNameable r.heaps.strings r.declared.types name
+  pub scope : IsScopeAmong r.declared.externs name.scope
 
 mutual
   -- a type that can be written

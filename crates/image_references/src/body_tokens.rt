@@ -2,9 +2,10 @@
 //! (ECMA-335 II.25.4, III.1.9).
 ghost use Rattle.std.specs.Prelude.{◌≡◌, ◌+◌, ◌*◌, ◌^◌, ◌≤◌, length, sum_by, OnOk};
 ghost use Rattle.std.specs.List.{AllByRecursion};
-ghost use Rattle.assembly_tree.specs.Weight.{type_weight, operand_weight, instruction_weight, handled_weight, clause_weight, body_weight};
+ghost use Rattle.assembly_tree.specs.Weight.{type_weight, handled_weight};
 ghost use Rattle.sig_codec.specs.Spellable.{CanBePacked};
 ghost use Rattle.image_references.specs.BodyTokens.{HasOperandToken, HasInstructionToken, HasHandledToken, HasClauseToken, HaveLocalsToken, HasBodyTokens, Notes};
+ghost use Rattle.image_references.specs.NamesWeight.{named_weight, instruction_names, clause_names, names_weight};
 ghost use Rattle.image_references.specs.References.{size, AreKnown};
 ghost use Rattle.image_references.specs.Writable.{AreWritable, IsOperandWritable, IsInstructionWritable, IsHandledWritable, IsClauseWritable, IsBodyWritable};
 
@@ -27,8 +28,8 @@ pub fn note_body<'a>(
 ) -> Result<(), NoMemory>
     requires known { AreKnown refs.old }
     requires writable { IsBodyWritable refs.old body.now }
-    requires room { size refs.old + body_weight body.now ≤ 2 ^ 26 }
-    ensures { OnOk result (Notes (λ r. HasBodyTokens r body.now) refs.old refs.new (body_weight body.now)) }
+    requires room { size refs.old + names_weight body.now ≤ 2 ^ 26 }
+    ensures { OnOk result (Notes (λ r. HasBodyTokens r body.now) refs.old refs.new (names_weight body.now)) }
 {
     note_locals(alloc, refs, &body.locals)?;
     note_code(alloc, refs, body.code.as_slice())?;
@@ -58,8 +59,8 @@ fn note_locals<'a>(
 fn note_code<'a>(alloc: Global, refs: &mut References<'a>, code: &'a [Ins]) -> Result<(), NoMemory>
     requires known { AreKnown refs.old }
     requires writable { AllByRecursion (IsInstructionWritable refs.old) code.now }
-    requires room { size refs.old + sum_by instruction_weight code.now ≤ 2 ^ 26 }
-    ensures { OnOk result (Notes (λ r. AllByRecursion (HasInstructionToken r) code.now) refs.old refs.new (sum_by instruction_weight code.now)) }
+    requires room { size refs.old + sum_by instruction_names code.now ≤ 2 ^ 26 }
+    ensures { OnOk result (Notes (λ r. AllByRecursion (HasInstructionToken r) code.now) refs.old refs.new (sum_by instruction_names code.now)) }
 {
     for ins in code {
         note_operand(alloc, refs, &ins.operand)?;
@@ -75,8 +76,8 @@ fn note_operand<'a>(
 ) -> Result<(), NoMemory>
     requires known { AreKnown refs.old }
     requires writable { IsOperandWritable refs.old operand.now }
-    requires room { size refs.old + operand_weight operand.now ≤ 2 ^ 26 }
-    ensures { OnOk result (Notes (λ r. HasOperandToken r operand.now) refs.old refs.new (operand_weight operand.now)) }
+    requires room { size refs.old + named_weight operand.now ≤ 2 ^ 26 }
+    ensures { OnOk result (Notes (λ r. HasOperandToken r operand.now) refs.old refs.new (named_weight operand.now)) }
 {
     match operand {
         Operand::Method(method) => {
@@ -112,8 +113,8 @@ fn note_clauses<'a>(
 ) -> Result<(), NoMemory>
     requires known { AreKnown refs.old }
     requires writable { AllByRecursion (IsClauseWritable refs.old) clauses.now }
-    requires room { size refs.old + sum_by clause_weight clauses.now ≤ 2 ^ 26 }
-    ensures { OnOk result (Notes (λ r. AllByRecursion (HasClauseToken r) clauses.now) refs.old refs.new (sum_by clause_weight clauses.now)) }
+    requires room { size refs.old + sum_by clause_names clauses.now ≤ 2 ^ 26 }
+    ensures { OnOk result (Notes (λ r. AllByRecursion (HasClauseToken r) clauses.now) refs.old refs.new (sum_by clause_names clauses.now)) }
 {
     for clause in clauses {
         note_handled(alloc, refs, &clause.kind)?;

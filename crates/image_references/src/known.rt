@@ -1,4 +1,6 @@
 //! The tokens of what a tree names.
+ghost use Rattle.std.specs.Prelude.{◌≡◌, []};
+
 use crate::equality::{are_types, is_field, is_method, is_name, is_text, is_type};
 use crate::found::{Found, Term};
 use crate::hashing::{START, mix_field, mix_method, mix_name, mix_type, mix_types, mix_units};
@@ -20,7 +22,9 @@ pub struct Known<'a> {
 
 impl<'a> Known<'a> {
     /// No tokens. Takes no memory.
-    pub fn new(alloc: Global) -> Known<'a> {
+    pub fn new(alloc: Global) -> Known<'a>
+        ensures { result ≡ record { names = []; specs = []; methods = []; fields = []; locals = []; texts = [] } }
+    {
         Known {
             names: Found::new(alloc),
             specs: Found::new(alloc),

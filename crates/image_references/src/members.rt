@@ -3,8 +3,9 @@
 ghost use Rattle.std.specs.Prelude.{◌≡◌, ◌+◌, ◌-◌, ◌^◌, ◌<◌, ◌≤◌, length, Some, IfSome, IfOk};
 ghost use Rattle.assembly_tree.specs.Weight.{owner_weight, field_ref_weight};
 ghost use Rattle.sig_codec.specs.Signature.{SpellsField};
-ghost use Rattle.image_references.specs.Members.{IsDeclaredRow, IsReferredRow, IsRowToken, Leaves, IsTextAt, HasField, IsPlaced};
+ghost use Rattle.image_references.specs.Members.{member_cells, IsDeclaredRow, IsReferredRow, IsRowToken, Leaves, IsTextAt, HasField, IsPlaced};
 ghost use Rattle.image_references.specs.References.{tokens_of, size, AreKnown, HasSignature};
+ghost use Rattle.image_references.specs.Rows.{AddsOneAtMost};
 ghost use Rattle.image_references.specs.Texts.{HasNoZero, HoldsText};
 ghost use Rattle.image_references.specs.TypePaths.{GoesOn};
 ghost use Rattle.image_references.specs.Writable.{IsOwnerWritable, IsFieldRefWritable};
@@ -55,6 +56,7 @@ fn referred_row_of(
 ) -> Result<u32, NoMemory>
     requires { length members.old < 2 ^ 24 - 1 }
     ensures row { IfOk result (IsReferredRow members.new owner name signature) }
+    ensures adds { AddsOneAtMost (member_cells owner name signature) members.old members.new }
     ensures few { IfOk result (λ row. row < 2 ^ 24) }
     ensures goes_on { GoesOn members.old members.new }
     ensures more { length members.new ≤ length members.old + 1 }
@@ -77,6 +79,7 @@ pub fn member_token(
 ) -> Result<u32, NoMemory>
     requires { length members.old < 2 ^ 24 - 1 }
     ensures token { IfOk result (IsRowToken table declared.now members.new owner name signature) }
+    ensures adds { AddsOneAtMost (member_cells owner name signature) members.old members.new }
     ensures goes_on { GoesOn members.old members.new }
     ensures more { length members.new ≤ length members.old + 1 }
 {

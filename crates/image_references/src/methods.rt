@@ -2,7 +2,7 @@
 ghost use Rattle.std.specs.Prelude.{◌≡◌, ◌+◌, ◌^◌, ◌≤◌, length, Some, IfOk};
 ghost use Rattle.assembly_tree.specs.Weight.{owner_weight, signature_weight, method_ref_weight};
 ghost use Rattle.sig_codec.specs.Signature.{SpellsMethod};
-ghost use Rattle.image_references.specs.Members.{Leaves, HasMethod, instance_weight, IsInstanceOf};
+ghost use Rattle.image_references.specs.Members.{Leaves, HasMethod, HasArguments, instance_weight, IsInstanceOf};
 ghost use Rattle.image_references.specs.References.{tokens_of, size, AreKnown, HasSignature, HasGenericToken, IsMethodToken};
 ghost use Rattle.image_references.specs.Texts.{HoldsText};
 ghost use Rattle.image_references.specs.Writable.{AreArgumentsWritable, IsMethodRefWritable};
@@ -94,7 +94,7 @@ fn instance_token<'a>(
         None => Ok(generic),
         Some(args) => {
             let signature = arguments_signature(alloc, refs, args)?;
-            instance_row(refs, generic, signature)
+            instance_row(refs, method, generic, signature)
         }
     }
 }
@@ -102,10 +102,13 @@ fn instance_token<'a>(
 /// The token of the row of MethodSpec with these cells, which is added where it is lacking.
 fn instance_row<'a>(
     refs: &mut References<'a>,
+    _method: &'a MethodRef,
     generic: u32,
     signature: u32,
 ) -> Result<u32, NoMemory>
     requires known { AreKnown refs.old }
+    requires generic_is { HasGenericToken refs.old _method.now generic }
+    requires signature_is { HasArguments refs.old signature }
     requires room { size refs.old + 8 ≤ 2 ^ 26 }
     ensures { IfOk result (Leaves (IsInstanceOf generic signature) refs.old refs.new 8) }
 {

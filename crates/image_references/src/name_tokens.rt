@@ -3,7 +3,7 @@ ghost use Rattle.std.specs.Prelude.{◌≡◌, ◌+◌, ◌^◌, ◌<◌, ◌≤
 ghost use Rattle.std.specs.List.{AllByRecursion};
 ghost use Rattle.image_references.specs.Found.{token_in};
 ghost use Rattle.image_references.specs.KnownTokens.{names_apart};
-ghost use Rattle.image_references.specs.NameTokens.{HasNameToken, IsNameable, AreNames, Learns};
+ghost use Rattle.image_references.specs.NameTokens.{HasNameToken, IsNameable, AreNames, AddsName, Learns};
 ghost use Rattle.image_references.specs.Texts.{KeepsTexts, IsPlainId};
 ghost use Rattle.image_references.specs.TypePaths.{GoesOn, path_size};
 
@@ -28,6 +28,7 @@ pub fn token_by_rows(
     requires room { length strings.old.bytes + path_size name.now.path + 8 < 2 ^ 29 }
     requires few { length referred.old + length name.now.path < 2 ^ 24 }
     ensures token { IfOk result (HasNameToken strings.new declared.now referred.new name.now) }
+    ensures adds { AddsName strings.new name.now referred.old referred.new }
     ensures keeps { KeepsTexts strings.old strings.new }
     ensures goes_on { GoesOn referred.old referred.new }
     ensures size { length strings.new.bytes ≤ length strings.old.bytes + path_size name.now.path }
@@ -62,6 +63,7 @@ pub fn name_token<'a>(
     requires few { length referred.old + length name.now.path < 2 ^ 24 }
     requires names { AreNames strings.old declared.now referred.old known.old }
     ensures token { IfOk result (HasNameToken strings.new declared.now referred.new name.now) }
+    ensures adds { AddsName strings.new name.now referred.old referred.new }
     ensures found { IfOk result (λ token. token_in names_apart known.new name.now ≡ Some token) }
     ensures names { AreNames strings.new declared.now referred.new known.new }
     ensures learns { Learns known.old known.new }

@@ -1,5 +1,7 @@
 //! What is filled while an image is made: heaps, rows that are found again, and the tokens of what a tree
 //! names.
+ghost use Rattle.std.specs.Prelude.{◌≡◌, []};
+
 use crate::heap_contents::Heaps;
 use crate::known::Known;
 use crate::row_list::RowList;
@@ -13,6 +15,8 @@ pub struct Declared {
     pub types: RowSet,
     pub fields: RowList,
     pub methods: RowList,
+    /// How many assemblies are named (II.22.5).
+    pub externs: u32,
 }
 
 /// The rows of the tables of references: TypeRef, TypeSpec, MemberRef, MethodSpec and StandAloneSig.
@@ -36,7 +40,9 @@ pub struct References<'a> {
 
 impl Referred {
     /// No rows. Takes no memory.
-    pub fn new(alloc: Global) -> Referred {
+    pub fn new(alloc: Global) -> Referred
+        ensures { result ≡ record { names = []; specs = []; members = []; instances = []; locals = [] } }
+    {
         Referred {
             names: RowSet::new(alloc),
             specs: RowSet::new(alloc),

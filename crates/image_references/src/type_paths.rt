@@ -1,8 +1,8 @@
 //! The rows of types by their paths (ECMA-335 II.22.32, II.22.38).
-ghost use Rattle.std.specs.Prelude.{◌≡◌, ℕ, ◌+◌, ◌^◌, ◌<◌, ◌≤◌, Ok, length, IfOk};
+ghost use Rattle.std.specs.Prelude.{◌≡◌, ℕ, ◌+◌, ◌^◌, ◌<◌, ◌≤◌, [], ◌∷◌, Ok, length, IfOk};
 ghost use Rattle.std.specs.List.{AllByRecursion};
 ghost use Rattle.image_references.specs.Texts.{KeepsTexts, IsPlainId, id_size};
-ghost use Rattle.image_references.specs.TypePaths.{IsTypeRow, Follows, in_reference, in_declared, GoesOn, path_size};
+ghost use Rattle.image_references.specs.TypePaths.{IsTypeRow, Follows, in_reference, in_declared, AddsPath, GoesOn, path_size};
 
 use crate::row_set::{Cells, RowSet};
 use crate::texts::add_id;
@@ -24,6 +24,7 @@ pub fn referred_in(
     requires room { length strings.old.bytes + id_size id.now + 8 < 2 ^ 29 }
     requires few { length rows.old + 1 < 2 ^ 24 }
     ensures row { IfOk result (IsTypeRow strings.new rows.new scope id.now) }
+    ensures adds { AddsPath strings.new scope (id.now ∷ []) rows.old rows.new }
     ensures keeps { KeepsTexts strings.old strings.new }
     ensures goes_on { GoesOn rows.old rows.new }
     ensures size { length strings.new.bytes ≤ length strings.old.bytes + id_size id.now }
@@ -106,6 +107,7 @@ pub fn referred_row(
     requires room { length strings.old.bytes + path_size path.now + 8 < 2 ^ 29 }
     requires few { length rows.old + length path.now < 2 ^ 24 }
     ensures follows { IfOk result (Follows strings.new rows.new in_reference scope path.now) }
+    ensures adds { AddsPath strings.new scope path.now rows.old rows.new }
     ensures keeps { KeepsTexts strings.old strings.new }
     ensures goes_on { GoesOn rows.old rows.new }
     ensures size { length strings.new.bytes ≤ length strings.old.bytes + path_size path.now }

@@ -41,7 +41,7 @@ pub fn refer_loaded<'a>(
 ) -> Result<u32, NoMemory>
     requires known { AreKnown refs.old }
     requires loadable { IsLoadable refs.old.heaps.user units.now }
-    requires room { size refs.old + 2 * length units.now ≤ 2 ^ 26 }
+    requires room { size refs.old ≤ 2 ^ 26 }
     ensures { IfOk result (Leaves (HasLoaded units.now) refs.old refs.new 0) }
 {
     if let Some(token) = refs.known.texts.find(units) {

@@ -1,7 +1,7 @@
 use Rattle.std.proofs.Common.{◌≡◌, ap, length, ◌+◌, ◌*◌, ◌≤◌, arith}
 use Rattle.std.specs.Prelude.{sum_by}
 use Rattle.std.proofs.lemmas.Result.{on_ok_weaker}
-use Rattle.assembly_tree.specs.Weight.{instruction_weight, clause_weight}
+use Rattle.image_references.specs.NamesWeight.{instruction_names, clause_names}
 use Rattle.image_references.proofs.BodyLemmas.{body_weighs, body_noted, code_can, clauses_can}
 use Rattle.image_references.proofs.GrowthLemmas.{grows_trans}
 use Rattle.image_references.proofs.body_tokens.note_body.Goals as goal
@@ -27,7 +27,7 @@ note_code-requires-clause-room c =
     let weighs = body_weighs c.args.body.now in
     let room = c.requires.room in
     let first = c.in_ok-note_locals.ensures.room in
-    let p = ap (sum_by instruction_weight) c.as_slice.ensures in
+    let p = ap (sum_by instruction_names) c.as_slice.ensures in
     omega arith
 
 pub note_clauses-requires-clause-known : goal.note_clauses-requires-clause-known
@@ -44,8 +44,8 @@ note_clauses-requires-clause-room c =
     let room = c.requires.room in
     let first = c.in_ok-note_locals.ensures.room in
     let then = c.in_ok-note_code.ensures.room in
-    let p = ap (sum_by instruction_weight) c.as_slice.ensures in
-    let q = ap (sum_by clause_weight) c.as_slice-2.ensures in
+    let p = ap (sum_by instruction_names) c.as_slice.ensures in
+    let q = ap (sum_by clause_names) c.as_slice-2.ensures in
     omega arith
 
 pub returns : goal.returns

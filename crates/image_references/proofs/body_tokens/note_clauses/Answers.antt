@@ -1,6 +1,6 @@
 use Rattle.std.proofs.Common.{◌≡◌, ◌∙◌, ap, sym, ◌+◌, ◌≤◌, ◌∷◌, drop, drop_of_length-le, arith}
 use Rattle.std.proofs.lemmas.List.{drop_more}
-use Rattle.assembly_tree.specs.Weight.{clause_weight}
+use Rattle.image_references.specs.NamesWeight.{clause_names}
 use Rattle.assembly_tree.specs.declared.body.Clause.{Clause}
 use Rattle.image_references.specs.BodyTokens.{HasClauseToken}
 use Rattle.image_references.specs.Writable.{IsClauseWritable}
@@ -9,7 +9,7 @@ use Rattle.image_references.proofs.StepLemmas.{done_begin, done_can, done_fits, 
 use Rattle.image_references.proofs.body_tokens.note_clauses.Goals as goal
 
 pub loop-clause-init : goal.loop-clause-init
-loop-clause-init c = done_begin clause_weight IsClauseWritable HasClauseToken c.args.refs.now c.args.clauses.now c.requires.known c.requires.writable
+loop-clause-init c = done_begin clause_names IsClauseWritable HasClauseToken c.args.refs.now c.args.clauses.now c.requires.known c.requires.writable
 
 pub note_handled-requires-clause-known : goal.note_handled-requires-clause-known
 note_handled-requires-clause-known c = c.loop-clause.invariant.known
@@ -20,7 +20,7 @@ note_handled-requires-clause-writable c =
     let i = c.loop-clause.clause-index in
     let x = c.clause-item.result in
     let here : drop i xs ≡ x ∷ drop (i + 1) xs = drop_more xs i x (omega arith) ∙ ap (λ (y : Clause). y ∷ drop (i + 1) xs) (sym c.clause-item.is) in
-    done_can clause_weight IsClauseWritable HasClauseToken c.args.refs.now c.loop-clause.refs xs (drop i xs) (drop (i + 1) xs) x here c.loop-clause.invariant
+    done_can clause_names IsClauseWritable HasClauseToken c.args.refs.now c.loop-clause.refs xs (drop i xs) (drop (i + 1) xs) x here c.loop-clause.invariant
 
 pub note_handled-requires-clause-room : goal.note_handled-requires-clause-room
 note_handled-requires-clause-room c =
@@ -28,7 +28,7 @@ note_handled-requires-clause-room c =
     let i = c.loop-clause.clause-index in
     let x = c.clause-item.result in
     let here : drop i xs ≡ x ∷ drop (i + 1) xs = drop_more xs i x (omega arith) ∙ ap (λ (y : Clause). y ∷ drop (i + 1) xs) (sym c.clause-item.is) in
-    let fits = done_fits clause_weight IsClauseWritable HasClauseToken c.args.refs.now c.loop-clause.refs xs (drop i xs) (drop (i + 1) xs) x here c.requires.room c.loop-clause.invariant in
+    let fits = done_fits clause_names IsClauseWritable HasClauseToken c.args.refs.now c.loop-clause.refs xs (drop i xs) (drop (i + 1) xs) x here c.requires.room c.loop-clause.invariant in
     let less = clause_fits x in
     omega arith
 
@@ -38,11 +38,11 @@ loop-clause-preserved c =
     let i = c.loop-clause.clause-index in
     let x = c.clause-item.result in
     let here : drop i xs ≡ x ∷ drop (i + 1) xs = drop_more xs i x (omega arith) ∙ ap (λ (y : Clause). y ∷ drop (i + 1) xs) (sym c.clause-item.is) in
-    done_on clause_weight IsClauseWritable HasClauseToken clause_can clause_has c.args.refs.now c.loop-clause.refs c.note_handled.new.refs xs (drop i xs) (drop (i + 1) xs) x _ here
+    done_on clause_names IsClauseWritable HasClauseToken clause_can clause_has c.args.refs.now c.loop-clause.refs c.note_handled.new.refs xs (drop i xs) (drop (i + 1) xs) x _ here
     c.loop-clause.invariant c.in_ok-note_handled.ensures (clause_fits x)
 
 pub returns : goal.returns
 returns c =
     let xs = c.args.clauses.now in
     let i = c.loop-clause.clause-index in
-    done_end clause_weight IsClauseWritable HasClauseToken c.args.refs.now c.loop-clause.refs xs (drop i xs) (drop_of_length-le xs {i = i} (omega arith)) c.loop-clause.invariant
+    done_end clause_names IsClauseWritable HasClauseToken c.args.refs.now c.loop-clause.refs xs (drop i xs) (drop_of_length-le xs {i = i} (omega arith)) c.loop-clause.invariant

@@ -1,6 +1,6 @@
 use Rattle.std.proofs.Common.{◌≡◌, subst, ◌+◌, ◌*◌, ◌≤◌, length, arith}
 use Rattle.image_references.specs.Writable.{IsOperandWritable}
-use Rattle.image_references.proofs.OperandLemmas.{weight_of_method, weight_of_field, weight_of_owner, weight_of_text, method_noted, field_noted, of_noted, text_noted}
+use Rattle.image_references.proofs.OperandLemmas.{weight_of_method, weight_of_field, weight_of_owner, method_noted, field_noted, of_noted, text_noted}
 use Rattle.image_references.proofs.body_tokens.note_operand.Goals as goal
 
 pub refer_method-requires-clause-writable : goal.refer_method-requires-clause-writable
@@ -37,7 +37,7 @@ pub refer_loaded-requires-clause-loadable : goal.refer_loaded-requires-clause-lo
 refer_loaded-requires-clause-loadable c = subst (IsOperandWritable c.args.refs.now) c.in-Text.is c.requires.writable
 
 pub refer_loaded-requires-clause-room : goal.refer_loaded-requires-clause-room
-refer_loaded-requires-clause-room c = let weighs = weight_of_text c.args.operand.now c.in-Text.units c.in-Text.is in let room = c.requires.room in omega arith
+refer_loaded-requires-clause-room c = let room = c.requires.room in omega arith
 
 pub returns-in_ok-refer_loaded-in-Text : goal.returns-in_ok-refer_loaded-in-Text
 returns-in_ok-refer_loaded-in-Text c =

@@ -2,6 +2,7 @@ use Rattle.std.proofs.Common.{◌≡◌, ap, subst, ◌+◌, ◌≤◌, arith}
 use Rattle.std.proofs.lemmas.Result.{IfOk-weaker}
 use Rattle.image_references.specs.Members.{instance_weight}
 use Rattle.image_references.specs.Writable.{AreArgumentsWritable}
+use Rattle.image_references.proofs.GrowthLemmas.{generic_kept}
 use Rattle.image_references.proofs.GivenLemmas.{without_arguments, with_arguments}
 use Rattle.image_references.proofs.methods.instance_token.Goals as goal
 
@@ -22,6 +23,13 @@ arguments_signature-requires-clause-room c = let weighs = ap instance_weight c.i
 
 pub instance_row-requires-clause-known : goal.instance_row-requires-clause-known
 instance_row-requires-clause-known c = c.in_ok-signature-in-Some.ensures.known
+
+pub instance_row-requires-clause-generic_is : goal.instance_row-requires-clause-generic_is
+instance_row-requires-clause-generic_is c =
+    generic_kept c.args.refs.now c.arguments_signature.new.refs c.args.method.now c.args.generic c.in_ok-signature-in-Some.ensures.grows c.requires.generic_is
+
+pub instance_row-requires-clause-signature_is : goal.instance_row-requires-clause-signature_is
+instance_row-requires-clause-signature_is c = (c.in-Some.args, c.in_ok-signature-in-Some.ensures.signature)
 
 pub instance_row-requires-clause-room : goal.instance_row-requires-clause-room
 instance_row-requires-clause-room c =

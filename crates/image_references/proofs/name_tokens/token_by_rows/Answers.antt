@@ -1,8 +1,9 @@
-use Rattle.std.proofs.Common.{◌≡◌, sym, subst, ℕ, List}
+use Rattle.std.proofs.Common.{◌≡◌, refl, sym, subst, ℕ, List}
 use Rattle.heaps.specs.Heap.{Heap}
 use Rattle.type_terms.specs.declared.name.TypeId.{TypeId}
 use Rattle.image_references.specs.NameTokens.{of_declared, of_referred, in_extern}
-use Rattle.image_references.specs.TypePaths.{Follows, in_declared, in_reference}
+use Rattle.image_references.specs.TypePaths.{Follows, AddsPath, in_declared, in_reference}
+use Rattle.image_references.proofs.EachRowLemmas.{name_path, name_none}
 use Rattle.image_references.proofs.NameLemmas.{declared_end}
 use Rattle.image_references.proofs.name_tokens.token_by_rows.Goals as goal
 
@@ -29,3 +30,16 @@ returns-in_ok-row-in-Extern-clause-token c =
     subst (λ (x : ℕ). Follows strings rows in_reference x c.as_slice-path.result.now row) c.index_of-scope.ensures c.in_ok-row-in-Extern.ensures.follows in
     of_referred c.in-Extern.is
     (subst (λ (xs : List TypeId). Follows strings rows in_reference (in_extern c.in-Extern.number) xs row) c.as_slice-path.ensures.ids from_extern) (record { is = c.token_of-in-Extern.ensures; fits = c.in_ok-row-in-Extern.ensures.small })
+
+pub returns-in_ok-row-in-Extern-clause-adds : goal.returns-in_ok-row-in-Extern-clause-adds
+returns-in_ok-row-in-Extern-clause-adds c =
+    let strings = c.referred_row.new.strings in
+    let old = c.args.referred.now in
+    let new = c.referred_row.new.rows in
+    let from_extern : AddsPath strings (in_extern c.in-Extern.number) c.as_slice-path.result.now old new =
+    subst (λ (x : ℕ). AddsPath strings x c.as_slice-path.result.now old new) c.index_of-scope.ensures c.referred_row.ensures.adds in
+    name_path strings c.args.name.now c.in-Extern.number old new c.in-Extern.is
+    (subst (λ (xs : List TypeId). AddsPath strings (in_extern c.in-Extern.number) xs old new) c.as_slice-path.ensures.ids from_extern)
+
+pub returns-in_ok-row-in-Here-clause-adds : goal.returns-in_ok-row-in-Here-clause-adds
+returns-in_ok-row-in-Here-clause-adds c = name_none _ c.args.name.now c.args.referred.now c.args.referred.now refl

@@ -14,4 +14,4 @@ pub returns : goal.returns
 returns c =
     let e = c.name_token.ensures in
     named c.args.refs.now c.name_token.new.strings c.name_token.new.referred c.name_token.new.known c.args.name.now c.name_token.result c.requires.known c.requires.room
-    e.token e.found e.names e.learns e.keeps e.goes_on e.size e.more
+    e.token e.found e.names e.learns e.keeps e.goes_on e.size e.more c.requires.nameable e.adds

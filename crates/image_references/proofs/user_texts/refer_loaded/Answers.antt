@@ -1,4 +1,4 @@
-use Rattle.std.proofs.Common.{◌≡◌, sym, subst, ℕ, length, ◌+◌, ◌*◌, ◌<◌, ◌^◌, arith}
+use Rattle.std.proofs.Common.{◌≡◌, sym, subst, ℕ, ◌<◌, ◌^◌}
 use Rattle.image_references.specs.Members.{HasLoaded}
 use Rattle.image_references.proofs.GivenLemmas.{loaded_given, room_for_units}
 use Rattle.image_references.proofs.LeavesLemmas.{leaves_there}
@@ -8,7 +8,7 @@ pub returns-in-Some : goal.returns-in-Some
 returns-in-Some c = leaves_there (HasLoaded c.args.units.now) c.args.refs.now 0 c.in-Some.token c.requires.known (sym c.in-Some.ensures)
 
 pub add_units-requires : goal.add_units-requires
-add_units-requires c = room_for_units c.args.refs.now (length c.args.units.now) c.requires.room
+add_units-requires c = room_for_units c.args.refs.now c.args.units.now c.requires.loadable c.requires.room
 
 pub token_of-requires : goal.token_of-requires
 token_of-requires c =

@@ -1,0 +1,87 @@
+//! The bodies of methods, one after another (ECMA-335 II.25.4).
+ghost use Rattle.std.specs.Prelude.{◌≡◌, ℕ, ◌+◌, ◌^◌, ◌≤◌, ◌∷◌, [], map, Some, length, IfOk};
+ghost use Rattle.body_codec.specs.Encoding.{CanBeWritten, IsFirstFar, IsWritten};
+ghost use Rattle.image_references.specs.BodyTokens.{HasBodyTokens};
+ghost use Rattle.image_references.specs.NamesWeight.{names_weight};
+ghost use Rattle.image_rows.specs.CodeBytes.{all_tokens, any_token, code_room, body_of, IsBodyAt, AddsBodies, AddsBody, CanPushBody, CanPushBodies};
+ghost use Rattle.image_rows.specs.Places.{lent};
+ghost use Rattle.image_references.specs.References.{size, AreKnown};
+
+use crate::placing::put_bytes;
+use assembly_tree::{Body, Method};
+use body_codec::{BodyFault, encode};
+use il_base::{Bytes, Items, NoMemory};
+use image_references::body_tokens::note_body;
+use image_references::references::References;
+use std::alloc::Global;
+
+/// Adds the bodies of methods to the code, and answers where each stands, as an RVA; 0 for a method that
+/// has none.
+pub fn push_bodies<'a>(
+    alloc: Global,
+    refs: &mut References<'a>,
+    code: &mut Bytes,
+    methods: &[&'a Method],
+) -> Result<Items<u32>, NoMemory>
+    requires { CanPushBodies (map body_of (lent methods.now)) refs.old code.old }
+    ensures { IfOk result (AddsBodies (map body_of (lent methods.now)) refs.old refs.new code.old code.new) }
+{
+    let mut rvas = Items::new(alloc);
+    for method in methods {
+        let rva = push_stated(alloc, refs, code, &method.body)?;
+        rvas.push(rva)?;
+    }
+    Ok(rvas)
+}
+
+/// Adds a body to the code, if there is one.
+fn push_stated<'a>(
+    alloc: Global,
+    refs: &mut References<'a>,
+    code: &mut Bytes,
+    body: &'a Option<Body>,
+) -> Result<u32, NoMemory>
+    requires { CanPushBodies (body.now ∷ []) refs.old code.old }
+    ensures { IfOk result (λ rva. AddsBodies (body.now ∷ []) refs.old refs.new code.old code.new (rva ∷ [])) }
+{
+    match body {
+        None => Ok(0),
+        Some(body) => push_body(alloc, refs, code, body),
+    }
+}
+
+/// Adds a body to the code.
+fn push_body<'a>(
+    alloc: Global,
+    refs: &mut References<'a>,
+    code: &mut Bytes,
+    body: &'a Body,
+) -> Result<u32, NoMemory>
+    requires known { AreKnown refs.old }
+    requires can { CanPushBody refs.old body.now }
+    requires room { size refs.old + names_weight body.now ≤ 2 ^ 26 }
+    requires long { length code.old + code_room body.now ≤ 2 ^ 26 }
+    ensures { IfOk result (AddsBody body.now refs.old refs.new code.old code.new) }
+{
+    note_body(alloc, refs, body)?;
+    let bytes = bytes_of(alloc, refs, body)?;
+    put_bytes(code, 4, bytes.as_slice())
+}
+
+/// The bytes of a body, all of whose names have tokens.
+fn bytes_of<'a>(alloc: Global, refs: &References<'a>, body: &Body) -> Result<Bytes, NoMemory>
+    requires known { AreKnown refs.now }
+    requires tokens { HasBodyTokens refs.now body.now }
+    requires form { CanBeWritten any_token body.now }
+    requires reaches { (at : ℕ) → IsFirstFar body.now.code at → ⊥ }
+    ensures { IfOk result (IsWritten (all_tokens refs.now) body.now) }
+{
+    match encode(alloc, body, &refs.known) {
+        Ok(bytes) => Ok(bytes),
+        Err(fault) => match fault {
+            BodyFault::NoMemory => Err(NoMemory),
+            // No branch is too far.
+            _ => unreachable!(),
+        },
+    }
+}

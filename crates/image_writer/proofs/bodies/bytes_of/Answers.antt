@@ -1,8 +1,0 @@
-use Rattle.image_writer.proofs.CodeLemmas.{can_be_written, no_fault}
-use Rattle.image_writer.proofs.bodies.bytes_of.Goals as goal
-
-pub encode-requires : goal.encode-requires
-encode-requires c = can_be_written c.args.refs.now c.args.body.now c.requires.known c.requires.tokens c.requires.form
-
-pub unreachable-requires : goal.unreachable-requires
-unreachable-requires c = no_fault c.args.body.now.code c.in-Err.fault c.in-Err.ensures.fault c.in_default.not-NoMemory c.requires.reaches

@@ -1,8 +1,0 @@
-use Rattle.std.proofs.Common.{drop}
-use Rattle.image_writer.specs.Places.{lent}
-use Rattle.image_writer.proofs.KindLemmas.{Pushing}
-use Rattle.image_writer.proofs.EventLemmas.{event_kind}
-use Rattle.image_writer.proofs.event_rows.push_events.Given as goal
-
-abbrev pub invariant-loop-event : goal.invariant-loop-event
-invariant-loop-event l = Pushing event_kind l.initial.refs l.refs l.initial.rows l.rows (lent l.events) (lent (drop l.event-index l.events))

@@ -1,6 +1,0 @@
-use Rattle.std.proofs.Common.{drop}
-use Rattle.image_writer.proofs.FieldLemmas.{FieldsTo}
-use Rattle.image_writer.proofs.field_rows.push_fields.Given as goal
-
-abbrev pub invariant-loop-field : goal.invariant-loop-field
-invariant-loop-field l = FieldsTo l.refs l.initial.rows l.rows l.place l.fields (drop l.field-index l.fields)

@@ -1,6 +1,0 @@
-use Rattle.std.proofs.Common.{drop}
-use Rattle.image_writer.proofs.OverrideLemmas.{OverridesTo}
-use Rattle.image_writer.proofs.override_rows.push_all_overrides.Given as goal
-
-abbrev pub invariant-loop-method : goal.invariant-loop-method
-invariant-loop-method l = OverridesTo l.initial.refs l.refs l.initial.rows l.rows l.place l.methods (drop l.method-index l.methods)

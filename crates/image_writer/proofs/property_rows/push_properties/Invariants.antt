@@ -1,8 +1,0 @@
-use Rattle.std.proofs.Common.{drop}
-use Rattle.image_writer.specs.Places.{lent}
-use Rattle.image_writer.proofs.KindLemmas.{Pushing}
-use Rattle.image_writer.proofs.PropertyLemmas.{property_kind}
-use Rattle.image_writer.proofs.property_rows.push_properties.Given as goal
-
-abbrev pub invariant-loop-property : goal.invariant-loop-property
-invariant-loop-property l = Pushing property_kind l.initial.refs l.refs l.initial.rows l.rows (lent l.properties) (lent (drop l.property-index l.properties))

@@ -1,8 +1,0 @@
-use Rattle.std.proofs.Common.{List, drop}
-use Rattle.assembly_tree.specs.declared.members.Accessor.{Accessor}
-use Rattle.image_writer.specs.SemanticsRows.{accessors_with}
-use Rattle.image_writer.proofs.AccessorLemmas.{Adding}
-use Rattle.image_writer.proofs.semantics_rows.push_accessors.Given as goal
-
-abbrev pub invariant-loop-accessor : goal.invariant-loop-accessor
-invariant-loop-accessor l = Adding l.initial.rows l.rows (accessors_with l.association l.first l.accessors) (accessors_with l.association l.first (drop l.accessor-index l.accessors))
