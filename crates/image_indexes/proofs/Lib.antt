@@ -1,0 +1,7 @@
+pub mod EachLemmas
+pub mod EntryLemmas
+pub mod OwnedTables
+pub mod PlainTables
+pub mod ReferenceTables
+pub mod TableLemmas
+pub mod TokenLemmas
