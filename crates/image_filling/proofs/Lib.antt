@@ -1,0 +1,11 @@
+pub mod FieldPart
+pub mod FillLemmas
+pub mod HoldsLemmas
+pub mod ManifestPart
+pub mod MethodPart
+pub mod OrderLemmas
+pub mod OwnedPart
+pub mod PartLemmas
+pub mod PropertyPart
+pub mod ReadyLemmas
+pub mod TypePart

@@ -1,0 +1,5 @@
+pub mod FieldPart
+pub mod Filling
+pub mod OwnedPart
+pub mod Parts
+pub mod TypePart

@@ -1,0 +1,15 @@
+pub mod AttributeSums
+pub mod BodySums
+pub mod ClassSums
+pub mod CountLemmas
+pub mod FieldSums
+pub mod MethodSums
+pub mod NumberSums
+pub mod OverrideLemmas
+pub mod OwnedSums
+pub mod PartLemmas
+pub mod PropertySums
+pub mod RowCountLemmas
+pub mod Sums
+pub mod TextSums
+pub mod WholeLemmas

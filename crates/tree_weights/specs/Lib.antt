@@ -1,0 +1,3 @@
+pub mod ImageBytes
+pub mod Laws
+pub mod RowCounts

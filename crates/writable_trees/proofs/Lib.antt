@@ -1,0 +1,12 @@
+mod Accessors
+mod Apart
+mod Bodies
+mod Classes
+mod Constants
+mod Each
+mod Filling
+mod Members
+mod Names
+mod Operands
+mod Parts
+mod Types
