@@ -1,0 +1,12 @@
+pub mod AtRows
+pub mod CodeRead
+pub mod ConstantsRead
+pub mod EntryRead
+pub mod ItemRows
+pub mod ManifestRead
+pub mod NestingRead
+pub mod OwnedRows
+pub mod PartsRead
+pub mod RowCells
+pub mod RowsRead
+pub mod RunsRead

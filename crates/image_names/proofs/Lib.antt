@@ -1,0 +1,15 @@
+pub mod General
+pub mod PlaceLemmas
+pub mod ReferenceLemmas
+pub mod PathsRead
+pub mod OnePath
+pub mod Respelled
+pub mod EntryLemmas
+pub mod OneToken
+pub mod OwnerLemmas
+pub mod OwnersRead
+pub mod RowMap
+pub mod SignatureLemmas
+pub mod LocalsLemmas
+pub mod RunOwners
+pub mod ParentLemmas
