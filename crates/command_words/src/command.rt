@@ -1,0 +1,16 @@
+use il_base::Text;
+use pe_layout::Kind;
+
+/// What is to be done.
+#[derive(Debug, Drop)]
+pub enum Command {
+    /// A source is assembled.
+    Ilasm {
+        /// The name of the source.
+        file: Text,
+        /// Whether a program or a library is made.
+        kind: Kind,
+        /// The name of the image.
+        output: Text,
+    },
+}
