@@ -1,0 +1,41 @@
+use Rattle.std.proofs.Common.{ℕ, ◌+◌, ◌*◌, ◌≤◌, List, length}
+use Rattle.std.proofs.lemmas.Result.{IfOk-weaker}
+use Rattle.assembly_tree.specs.Weight.{weight_of}
+use Rattle.image_layout.specs.LaidOut.{IsLaidOut}
+use Rattle.image_layout.specs.Sizes.{heap_bytes, stream_bytes}
+use Rattle.image_writer.specs.Made.{IsMade}
+use Rattle.image_writer.proofs.FormedLemmas.{numbers_formed}
+use Rattle.image_writer.proofs.LayLemmas.{contents_fit, contents_small, contents_laid_out}
+use Rattle.image_writer.proofs.laying_out.lay_out_filled.Goals as goal
+
+pub lay_out-requires-clause-base : goal.lay_out-requires-clause-base
+lay_out-requires-clause-base c = (numbers_formed c.conditions_are_named.ensures.assemblies c.args.a.now c.requires.formed).0
+
+pub lay_out-requires-clause-alignment : goal.lay_out-requires-clause-alignment
+lay_out-requires-clause-alignment c = (numbers_formed c.conditions_are_named.ensures.assemblies c.args.a.now c.requires.formed).1
+
+pub lay_out-requires-clause-indexes : goal.lay_out-requires-clause-indexes
+lay_out-requires-clause-indexes c =
+    let h = c.requires.contents in
+    c.indexes_are_there.ensures c.args.a.now c.args._classes.now c.args.refs.now c.args.rows.now c.args.code
+    (c.accessors_have_rows.ensures c.args.a.now c.args._classes.now c.requires.formed c.requires.weight h.filled.classes_are) h.externs_are h.filled
+
+pub lay_out-requires-clause-size : goal.lay_out-requires-clause-size
+lay_out-requires-clause-size c =
+    contents_fit c.args.a.now c.args._classes.now c.args.refs.now c.args.rows.now c.args.code c.requires.contents c.weight_is_enough.ensures c.filled_is_counted.ensures c.requires.weight
+
+pub returns-clause-made : goal.returns-clause-made
+returns-clause-made c =
+    IfOk-weaker c.lay_out.result
+    (IsLaidOut c.args.a.now.manifest c.args.refs.now c.args.rows.now c.args.code c.args.entry c.args.id.now c.args.kind)
+    (IsMade c.args.a.now c.args.id.now c.args.kind)
+    (λ image h. contents_laid_out c.args.a.now c.args._classes.now c.args.refs.now c.args.rows.now c.args.code c.requires.contents c.args.entry c.args.id.now c.args.kind image c.requires.entry h)
+    c.lay_out.ensures.laid_out
+
+pub returns-clause-small : goal.returns-clause-small
+returns-clause-small c =
+    IfOk-weaker c.lay_out.result
+    (λ (image : List ℕ). length image ≤ length c.args.code + heap_bytes c.args.refs.now + stream_bytes c.args.rows.now + 3 * c.args.a.now.manifest.file_alignment + 317)
+    (λ (image : List ℕ). length image ≤ weight_of c.args.a.now)
+    (λ image h. contents_small c.args.a.now c.args._classes.now c.args.refs.now c.args.rows.now c.args.code c.requires.contents c.weight_is_enough.ensures c.filled_is_counted.ensures
+    (numbers_formed c.conditions_are_named.ensures.assemblies c.args.a.now c.requires.formed).1 image h) c.lay_out.ensures.len

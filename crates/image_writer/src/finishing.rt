@@ -1,0 +1,137 @@
+//! The image of an assembly, whose types are declared (ECMA-335 II.22 to II.25).
+ghost use Rattle.std.specs.Prelude.{◌≡◌, ◌^◌, ◌≤◌, true, length, IfOk};
+ghost use Rattle.assembly_tree.specs.Room.{texts};
+ghost use Rattle.assembly_tree.specs.Weight.{weight_of};
+ghost use Rattle.assembly_tree.specs.WellFormed.{is_well_formed};
+ghost use Rattle.image_filling.specs.OwnedPart.{IsNothing};
+ghost use Rattle.image_references.specs.Loaded.{AreLoaded};
+ghost use Rattle.image_rows.specs.Classes.{AreClasses};
+ghost use Rattle.image_rows.specs.Filled.{entry_token};
+ghost use Rattle.image_rows.specs.Ordered.{IsOrdered};
+ghost use Rattle.image_writer.specs.Beginning.{HasBegun, DeclaresAll};
+ghost use Rattle.image_writer.specs.Made.{IsMade};
+
+use crate::beginning::{begin_types, declare_all};
+use crate::contents::fill_all;
+use crate::laying_out::lay_out_filled;
+use assembly_tree::Assembly;
+use heaps::UserHeap;
+use il_base::{Bytes, NoMemory};
+use image_filling::owned_part::Nothing;
+use image_references::references::References;
+use image_rows::classes::{Class, classes_of};
+use image_rows::entry::entry_of;
+use image_rows::order::{Ordered, in_order};
+use metadata_tables::Rows;
+use pe_layout::Kind;
+use std::alloc::Global;
+use tree_weights::laws::{rows_are_few, weight_is_enough};
+use writable_trees::laws::types_are_declarable;
+
+/// The image of an assembly whose loaded texts stand in the heap.
+pub(crate) fn write_loaded<'a>(
+    alloc: Global,
+    a: &'a Assembly,
+    none: &'a Nothing,
+    user: UserHeap,
+    id: &[u8; 16],
+    kind: Kind,
+) -> Result<Bytes, NoMemory>
+    requires formed { is_well_formed a.now ≡ true }
+    requires weight { weight_of a.now ≤ 2 ^ 26 }
+    requires none { IsNothing none.now }
+    requires loaded { AreLoaded user (texts a.now) }
+    requires room { length user.bytes ≤ 2 ^ 24 }
+    ensures made { IfOk result (IsMade a.now id.now kind) }
+    ensures small { IfOk result (λ image. length image ≤ weight_of a.now) }
+{
+    let classes = classes_of(alloc, a)?;
+    write_classes(alloc, a, classes.as_slice(), none, user, id, kind)
+}
+
+/// The same of an assembly whose types are `classes`.
+fn write_classes<'a>(
+    alloc: Global,
+    a: &'a Assembly,
+    classes: &[Class<'a>],
+    none: &'a Nothing,
+    user: UserHeap,
+    id: &[u8; 16],
+    kind: Kind,
+) -> Result<Bytes, NoMemory>
+    requires formed { is_well_formed a.now ≡ true }
+    requires weight { weight_of a.now ≤ 2 ^ 26 }
+    requires classes { AreClasses 0 2 a.now.types classes.now }
+    requires none { IsNothing none.now }
+    requires loaded { AreLoaded user (texts a.now) }
+    requires room { length user.bytes ≤ 2 ^ 24 }
+    ensures made { IfOk result (IsMade a.now id.now kind) }
+    ensures small { IfOk result (λ image. length image ≤ weight_of a.now) }
+{
+    types_are_declarable();
+    rows_are_few();
+    weight_is_enough();
+    let mut refs = begin_types(alloc, classes, a.externs.len() as u32, user)?;
+    finish(alloc, &mut refs, a, classes, none, id, kind)
+}
+
+/// The same where types have rows, and nothing else has.
+fn finish<'a>(
+    alloc: Global,
+    refs: &mut References<'a>,
+    a: &'a Assembly,
+    classes: &[Class<'a>],
+    none: &'a Nothing,
+    id: &[u8; 16],
+    kind: Kind,
+) -> Result<Bytes, NoMemory>
+    requires formed { is_well_formed a.now ≡ true }
+    requires weight { weight_of a.now ≤ 2 ^ 26 }
+    requires classes { AreClasses 0 2 a.now.types classes.now }
+    requires none { IsNothing none.now }
+    requires begun { HasBegun a.now classes.now refs.old }
+    ensures made { IfOk result (IsMade a.now id.now kind) }
+    ensures small { IfOk result (λ image. length image ≤ weight_of a.now) }
+{
+    let ordered = in_order(alloc, a, classes)?;
+    declare_all(alloc, refs, a, classes, &ordered)?;
+    finish_declared(alloc, refs, a, classes, &ordered, none, id, kind)
+}
+
+/// The same where types, fields and methods have rows.
+fn finish_declared<'a>(
+    alloc: Global,
+    refs: &mut References<'a>,
+    a: &'a Assembly,
+    classes: &[Class<'a>],
+    ordered: &Ordered<'a>,
+    none: &'a Nothing,
+    id: &[u8; 16],
+    kind: Kind,
+) -> Result<Bytes, NoMemory>
+    requires formed { is_well_formed a.now ≡ true }
+    requires weight { weight_of a.now ≤ 2 ^ 26 }
+    requires classes { AreClasses 0 2 a.now.types classes.now }
+    requires ordered { IsOrdered a.now classes.now ordered.now }
+    requires none { IsNothing none.now }
+    requires declared { DeclaresAll a.now classes.now refs.old }
+    ensures made { IfOk result (IsMade a.now id.now kind) }
+    ensures small { IfOk result (λ image. length image ≤ weight_of a.now) }
+{
+    let entry = entry_in(a, classes, ordered);
+    let mut rows = Rows::new(alloc);
+    let mut code = Bytes::new(alloc);
+    fill_all(alloc, refs, &mut rows, &mut code, a, classes, ordered, none)?;
+    lay_out_filled(alloc, a, classes, refs, &rows, code, entry, id, kind)
+}
+
+/// The token of the entry point, or 0.
+fn entry_in<'a>(_a: &Assembly, _classes: &[Class<'a>], ordered: &Ordered<'a>) -> u32
+    requires weight { weight_of _a.now ≤ 2 ^ 26 }
+    requires classes { AreClasses 0 2 _a.now.types _classes.now }
+    requires ordered { IsOrdered _a.now _classes.now ordered.now }
+    ensures { result ≡ entry_token _a.now _classes.now }
+{
+    rows_are_few();
+    entry_of(ordered.methods.as_slice())
+}

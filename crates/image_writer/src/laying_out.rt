@@ -1,0 +1,46 @@
+//! The image of an assembly from what it is made of (ECMA-335 II.24.2, II.25).
+ghost use Rattle.std.specs.Prelude.{◌≡◌, ◌≤◌, ◌^◌, true, length, IfOk};
+ghost use Rattle.assembly_tree.specs.Weight.{weight_of};
+ghost use Rattle.assembly_tree.specs.WellFormed.{is_well_formed};
+ghost use Rattle.image_rows.specs.Filled.{entry_token};
+ghost use Rattle.image_writer.specs.Contents.{IsContents};
+ghost use Rattle.image_writer.specs.Made.{IsMade};
+
+use assembly_tree::{Assembly, conditions_are_named};
+use il_base::{Bytes, NoMemory};
+use image_indexes::indexes_are_there;
+use image_layout::lay_out;
+use image_references::references::References;
+use image_rows::classes::Class;
+use metadata_tables::Rows;
+use pe_layout::Kind;
+use std::alloc::Global;
+use tree_weights::laws::{filled_is_counted, weight_is_enough};
+use writable_trees::laws::accessors_have_rows;
+
+/// The image of an assembly, whose types are `_classes`, from what it is made of; `entry` is the token of its entry point, or 0.
+pub(crate) fn lay_out_filled<'a>(
+    alloc: Global,
+    a: &Assembly,
+    _classes: &[Class<'a>],
+    refs: &References<'a>,
+    rows: &Rows,
+    code: Bytes,
+    entry: u32,
+    id: &[u8; 16],
+    kind: Kind,
+) -> Result<Bytes, NoMemory>
+    requires formed { is_well_formed a.now ≡ true }
+    requires weight { weight_of a.now ≤ 2 ^ 26 }
+    requires contents { IsContents a.now _classes.now refs.now rows.now code }
+    requires entry { entry ≡ entry_token a.now _classes.now }
+    ensures made { IfOk result (IsMade a.now id.now kind) }
+    ensures small { IfOk result (λ image. length image ≤ weight_of a.now) }
+{
+    conditions_are_named();
+    accessors_have_rows();
+    indexes_are_there();
+    weight_is_enough();
+    filled_is_counted();
+    lay_out(alloc, refs, rows, code, entry, id, &a.manifest, kind)
+}
