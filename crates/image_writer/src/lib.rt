@@ -1,4 +1,4 @@
-//! The writer of images: from an assembly as a tree to a PE32 image that reads as it (ECMA-335 II.22 to II.25).
+//! The writer of images: from an assembly as a tree to a PE32 image that is made of it (ECMA-335 II.22 to II.25).
 #![tactic(auto)]
 
 mod beginning;
