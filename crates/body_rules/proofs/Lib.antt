@@ -1,3 +1,4 @@
+pub mod BodyLemmas
 pub mod BodyNumberLemmas
 pub mod BranchLemmas
 pub mod ClauseCountLemmas

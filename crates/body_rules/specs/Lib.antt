@@ -1,7 +1,9 @@
+pub mod AllOfBodies
 pub mod ClauseCounts
 pub mod CodeParts
 pub mod CodePlaces
 pub mod NamedVariables
 pub mod OperandRanges
+pub mod PlainBodies
 pub mod Ranges
 pub mod Sizes

@@ -87,8 +87,8 @@ fn first_operand(
     Ok(first)
 }
 
-// The least number in brackets before a local that isn't the local's.
-fn misnumbered_local(
+/// The least number in brackets before a local that isn't the local's.
+pub fn misnumbered_local(
     alloc: Global,
     reader: &Reader,
     method: &[TreeNode],

@@ -51,8 +51,12 @@ impl MethodRule for BranchesToTheEnd {
     }
 }
 
-// The labels that instructions branch to, in order.
-fn all_targets(alloc: Global, nodes: &[TreeNode], code: &[Piece]) -> Result<Items<u32>, NoMemory>
+/// The labels that instructions branch to, in order.
+pub fn all_targets(
+    alloc: Global,
+    nodes: &[TreeNode],
+    code: &[Piece],
+) -> Result<Items<u32>, NoMemory>
     requires { AreParts nodes.now code.now }
     ensures { (ps : List Part) → ArePieces nodes.now code.now ps → IfOk result (λ tokens. tokens ≡ flat_map targets ps) }
 {
@@ -64,8 +68,8 @@ fn all_targets(alloc: Global, nodes: &[TreeNode], code: &[Piece]) -> Result<Item
     Ok(tokens)
 }
 
-// The least of these names that stands for this number.
-fn first_at(
+/// The least of these names that stands for this number.
+pub fn first_at(
     alloc: Global,
     reader: &Reader,
     labels: &Labels,

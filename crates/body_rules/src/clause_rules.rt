@@ -52,9 +52,9 @@ impl MethodRule for ForwardClauses {
     }
 }
 
-// The least first token of a clause among these nodes that isn't forward; `tried` are the nodes below the innermost `.try`
-// around them.
-fn first_backwards(
+/// The least first token of a clause among these nodes that isn't forward; `tried` are the nodes below the innermost `.try`
+/// around them.
+pub fn first_backwards(
     places: &CodePlaces,
     alloc: Global,
     reader: &Reader,

@@ -107,8 +107,8 @@ fn is_below(number: Option<usize>, most: usize) -> bool
     }
 }
 
-// The least of these tokens whose name isn't among the names.
-fn first_missing(
+/// The least of these tokens whose name isn't among the names.
+pub fn first_missing(
     alloc: Global,
     reader: &Reader,
     names: &Declared,

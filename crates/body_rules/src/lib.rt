@@ -2,6 +2,7 @@
 //! token at which it is broken: labels and variables, branches and clauses.
 #![tactic(auto)]
 
+pub mod bodies;
 pub mod body_numbers;
 pub mod branch_rules;
 pub mod clause_counts;
@@ -11,6 +12,7 @@ pub mod code_places;
 pub mod instruction_rules;
 pub mod label_rules;
 pub mod operand_ranges;
+pub mod plain_bodies;
 pub mod short_branches;
 pub mod sizes;
 pub mod variable_rules;

@@ -61,11 +61,11 @@ impl MethodRule for ShortBranches {
     }
 }
 
-// What a method's labels and the offsets of its instructions say of short branches.
+/// What a method's labels and the offsets of its instructions say of short branches.
 #[derive(Clone, Copy)]
-struct Reach<'a> {
-    labels: &'a Labels,
-    offsets: &'a [usize],
+pub struct Reach<'a> {
+    pub labels: &'a Labels,
+    pub offsets: &'a [usize],
 }
 
 impl<'a> InstructionRule for Reach<'a> {

@@ -56,10 +56,10 @@ impl MethodRule for NamedVariables {
     }
 }
 
-// Names in instructions are among those of these variables.
+/// Names in instructions are among those of these variables.
 #[derive(Clone, Copy)]
-struct AmongVariables<'a> {
-    variables: &'a Variables,
+pub struct AmongVariables<'a> {
+    pub variables: &'a Variables,
 }
 
 impl<'a> InstructionRule for AmongVariables<'a> {

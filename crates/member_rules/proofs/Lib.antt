@@ -6,6 +6,7 @@ pub mod KeepLemmas
 pub mod MemberLemmas
 pub mod MemberParts
 pub mod MemberWalks
+pub mod OwnerLemmas
 pub mod ReadLemmas
 pub mod ReferenceParts
 pub mod TieLemmas

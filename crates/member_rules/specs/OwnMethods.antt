@@ -1,5 +1,5 @@
 -- The methods of a class that its accessors may be (ECMA-335 II.17, II.18, II.22.28).
-use Rattle.std.specs.Prelude.{ℕ, ◌&&◌, Bool, if◌then◌else◌, List, [], ◌∷◌, map, filter}
+use Rattle.std.specs.Prelude.{ℕ, ◌&&◌, Bool, false, if◌then◌else◌, List, [], ◌∷◌, map, filter}
 use Rattle.std.specs.List.{flat_map}
 use Rattle.type_terms.specs.declared.name.TypeId.{TypeId}
 use Rattle.type_terms.specs.declared.name.TypeName.{TypeName}
@@ -14,6 +14,8 @@ use Rattle.ilasm_grammar.specs.declared.productions.TheConstants.{
   EVENT_ITEM_FIRE,
   EVENT_ITEM_OTHER,
 }
+use Rattle.ilasm_grammar.specs.declared.tree.TreeNode.{TreeNode}
+use Rattle.ilasm_grammar.specs.declared.tree.TreeNode.TheVariants.{Branch, Leaf}
 use Rattle.source_model.specs.Forest.{Forest, Part, is_among}
 use Rattle.source_model.specs.Items.{members}
 use Rattle.source_model.specs.Members.{method_forests}
@@ -60,6 +62,10 @@ accessor_items =
 -- a property or an event
 abbrev pub has_accessors : ℕ → Bool
 has_accessors p = is_among (PROPERTY ∷ EVENT ∷ []) p
+
+abbrev pub is_owner : TreeNode → Bool
+is_owner (Branch p count) = has_accessors p
+is_owner (Leaf token) = false
 
 -- the accessors of a production that are no methods of its class
 abbrev pub undeclared_at : Source → Node → List ℕ

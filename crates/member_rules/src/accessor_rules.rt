@@ -1,6 +1,7 @@
 //! Accessors of properties and events that are no methods of their class (ECMA-335 II.17, II.18, II.22.28).
 
 ghost use Rattle.std.specs.Prelude.{◌≡◌, ℕ, ◌<◌, ◌^◌, IfOk, length, min};
+ghost use Rattle.std.specs.List.{list_any};
 ghost use Rattle.ilasm_grammar.specs.declared.productions.TheConstants.{CLASS};
 ghost use Rattle.source_model.specs.Forest.{Forest, preorder};
 ghost use Rattle.source_model.specs.Nodes.{Around, Node, entered};
@@ -14,7 +15,7 @@ ghost use Rattle.source_reading.specs.Readers.{Reads};
 ghost use Rattle.source_reading.specs.Walk.{IsForest};
 ghost use Rattle.source_reading.specs.declared.name_lists.Naming.TheVariants as naming;
 ghost use Rattle.member_rules.specs.MemberReading.{Serves};
-ghost use Rattle.member_rules.specs.OwnMethods.{has_accessors, own_methods, undeclared_at};
+ghost use Rattle.member_rules.specs.OwnMethods.{has_accessors, is_owner, own_methods, undeclared_at};
 ghost use Rattle.rule_steps.specs.Surroundings.{HasParameters, IsSurrounding, found_in};
 
 use crate::member_reading::Signatures;
@@ -46,6 +47,9 @@ pub fn accessor_undeclared<R: Rule>(
         IfOk result (λ k. k ≡ least (accessors_undeclared s)) }
 {
     derivations_have_bodies();
+    if !has_owner(reader.nodes) {
+        return Ok(None);
+    }
     let signatures = Signatures {
         rule,
         keys: &externs.names,
@@ -155,6 +159,22 @@ impl<'a, R: Rule> Signatures<'a, R> {
         let found = self.undeclared_in(path, alloc, reader, &place, &methods, class)?;
         path.truncate(outer);
         Ok(found)
+    }
+}
+
+// Whether one of these nodes is a property or an event.
+fn has_owner(nodes: &[TreeNode]) -> bool
+    ensures { result ≡ list_any is_owner nodes.now }
+{
+    nodes.iter().any(|node| is_owner(*node))
+}
+
+fn is_owner(node: TreeNode) -> bool
+    ensures { result ≡ is_owner node }
+{
+    match node {
+        TreeNode::Branch { production, .. } => has_accessors(production),
+        TreeNode::Leaf { .. } => false,
     }
 }
 

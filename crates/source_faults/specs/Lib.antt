@@ -1,2 +1,3 @@
 pub mod AllDeclared
+pub mod Passes
 pub mod SourceFaults

@@ -4,11 +4,13 @@ ghost use Rattle.std.specs.Prelude.{◌≡◌, ◌<◌, ◌^◌, IfOk, length};
 ghost use Rattle.source_model.specs.Denotes.{broken_d};
 ghost use Rattle.source_model.specs.Faults.{earliest};
 ghost use Rattle.source_model.specs.Source.{Source};
+ghost use Rattle.source_reading.specs.Least.{least};
 ghost use Rattle.source_reading.specs.Readers.{Reads};
 ghost use Rattle.source_reading.specs.Walk.{IsForest};
 ghost use Rattle.source_rules.specs.Breaches.{any_broken};
 ghost use Rattle.source_rules.specs.Leasts.{AreTwice};
 ghost use Rattle.source_faults.specs.AllDeclared.{AreDeclarations};
+ghost use Rattle.source_faults.specs.Passes.{KeepsPasses, broken_in_passes};
 
 use crate::all_declared::Declarations;
 use body_rules::label_rules::label_twice;
@@ -22,21 +24,58 @@ use source_rules::firsts::{Twice, first_twice};
 use source_rules::merging::Breach;
 use std::alloc::Global;
 
-/// The first rule of class D that a source breaks.
+/// The first rule of class D that a source breaks, where `found` is the least token at which a rule is broken that is asked in
+/// the passes.
 pub fn declared_twice(
     alloc: Global,
     reader: &Reader,
     declared: &Declarations,
+    found: Option<u32>,
 ) -> Result<Option<Breach>, NoMemory>
     requires forest { IsForest reader.now.nodes.now }
     requires few { length reader.now.nodes.now < 2 ^ 32 }
-    ensures { (s : Source) → Reads reader.now s → AreDeclarations s declared.now → IfOk result (λ b. any_broken b ≡ earliest (broken_d s)) }
+    ensures { (s : Source) → Reads reader.now s → AreDeclarations s declared.now → found ≡ least (broken_in_passes s) →
+        IfOk result (λ b. any_broken b ≡ earliest (broken_d s)) }
 {
-    let twice = twice(alloc, reader, declared)?;
+    let twice = twice(alloc, reader, declared, found)?;
     Ok(first_twice(&twice))
 }
 
-fn twice(alloc: Global, reader: &Reader, declared: &Declarations) -> Result<Twice, NoMemory>
+fn twice(
+    alloc: Global,
+    reader: &Reader,
+    declared: &Declarations,
+    found: Option<u32>,
+) -> Result<Twice, NoMemory>
+    requires forest { IsForest reader.now.nodes.now }
+    requires few { length reader.now.nodes.now < 2 ^ 32 }
+    ensures { (s : Source) → Reads reader.now s → AreDeclarations s declared.now → found ≡ least (broken_in_passes s) → IfOk result (AreTwice s) }
+{
+    match found {
+        None => other_twice(alloc, reader, declared),
+        Some(_) => each_twice(alloc, reader, declared),
+    }
+}
+
+// Where nothing is found in the passes.
+fn other_twice(alloc: Global, reader: &Reader, declared: &Declarations) -> Result<Twice, NoMemory>
+    requires forest { IsForest reader.now.nodes.now }
+    requires few { length reader.now.nodes.now < 2 ^ 32 }
+    ensures { (s : Source) → Reads reader.now s → AreDeclarations s declared.now → KeepsPasses s → IfOk result (AreTwice s) }
+{
+    let rule = signatures_of(&declared.externs, &declared.own, &declared.classes);
+    Ok(Twice {
+        types: declared.classes.again,
+        members: member_twice(&rule, alloc, reader, &declared.externs)?,
+        externs: assembly_again(&declared.externs),
+        labels: None,
+        entries: entry_twice(reader),
+        manifests: manifest_twice(reader),
+        data_labels: label_again(&declared.labels),
+    })
+}
+
+fn each_twice(alloc: Global, reader: &Reader, declared: &Declarations) -> Result<Twice, NoMemory>
     requires forest { IsForest reader.now.nodes.now }
     requires few { length reader.now.nodes.now < 2 ^ 32 }
     ensures { (s : Source) → Reads reader.now s → AreDeclarations s declared.now → IfOk result (AreTwice s) }

@@ -12,6 +12,7 @@ use crate::all_declared::{Declarations, collect_declarations};
 use crate::declared_twice::declared_twice;
 use crate::not_declared::not_declared;
 use crate::out_of_bounds::out_of_bounds;
+use crate::passes::pass_fault;
 use il_base::{NoMemory, Pos};
 use il_lexer::end_place;
 use source_model::{NameClass, the_first_is_least};
@@ -92,19 +93,20 @@ fn first_of_all(
     ensures { (s : Source) → Reads reader.now s → AreDeclarations s declared.now → IfOk result (λ f. IsFirst s f) }
 {
     the_first_is_least();
-    if let Some(breach) = declared_twice(alloc, reader, declared)? {
+    let found = pass_fault(alloc, reader, declared)?;
+    if let Some(breach) = declared_twice(alloc, reader, declared, found)? {
         return Ok(Some(Classed {
             class: NameClass::D,
             breach,
         }));
     }
-    if let Some(breach) = not_declared(alloc, reader, declared)? {
+    if let Some(breach) = not_declared(alloc, reader, declared, found)? {
         return Ok(Some(Classed {
             class: NameClass::N,
             breach,
         }));
     }
-    let breach = out_of_bounds(alloc, reader, declared)?;
+    let breach = out_of_bounds(alloc, reader, declared, found)?;
     Ok(in_class(NameClass::B, breach))
 }
 

@@ -6,3 +6,4 @@ pub mod declared_twice;
 pub mod faults;
 pub mod not_declared;
 pub mod out_of_bounds;
+pub mod passes;

@@ -1,14 +1,18 @@
 //! The rules on what a source names and doesn't declare (ECMA-335 II.6.2, II.7.3, II.10.1.7, II.15.4.1, II.16.3, II.17, II.18).
 
-ghost use Rattle.std.specs.Prelude.{◌≡◌, ◌<◌, ◌^◌, IfOk, length};
+ghost use Rattle.std.specs.Prelude.{◌≡◌, ◌<◌, ◌++◌, ◌^◌, IfOk, None, length};
 ghost use Rattle.source_model.specs.Denotes.{broken_n};
 ghost use Rattle.source_model.specs.Faults.{earliest};
 ghost use Rattle.source_model.specs.Source.{Source};
+ghost use Rattle.source_model.specs.Undeclared.{objects_undeclared, scopes_undeclared};
+ghost use Rattle.source_reading.specs.Least.{least};
 ghost use Rattle.source_reading.specs.Readers.{Reads};
 ghost use Rattle.source_reading.specs.Walk.{IsForest};
 ghost use Rattle.source_rules.specs.Breaches.{any_broken};
+ghost use Rattle.source_rules.specs.DeclaredClasses.{AreClasses};
 ghost use Rattle.source_rules.specs.Leasts.{AreUndeclared};
 ghost use Rattle.source_faults.specs.AllDeclared.{AreDeclarations};
+ghost use Rattle.source_faults.specs.Passes.{KeepsPasses, broken_in_passes};
 
 use crate::all_declared::Declarations;
 use body_rules::label_rules::label_undeclared;
@@ -18,29 +22,92 @@ use member_rules::accessor_rules::accessor_undeclared;
 use member_rules::broken_signatures::signatures_of;
 use rule_steps::repeats::without_assembly;
 use source_reading::reader::Reader;
+use source_rules::class_rules::Classes;
 use source_rules::extern_rules::extern_undeclared;
 use source_rules::firsts::{Undeclared, first_undeclared};
 use source_rules::merging::Breach;
 use source_rules::named_types::type_undeclared;
+use source_rules::roots::object_undeclared;
 use source_rules::undeclared::{label_undeclared as data_undeclared, typar_undeclared};
 use std::alloc::Global;
 
-/// The first rule of class N that a source breaks.
+/// The first rule of class N that a source breaks, where `found` is the least token at which a rule is broken that is asked in
+/// the passes.
 pub fn not_declared(
     alloc: Global,
     reader: &Reader,
     declared: &Declarations,
+    found: Option<u32>,
 ) -> Result<Option<Breach>, NoMemory>
     requires forest { IsForest reader.now.nodes.now }
     requires few { length reader.now.tokens.now < 2 ^ 32 }
     requires few_nodes { length reader.now.nodes.now < 2 ^ 32 }
-    ensures { (s : Source) → Reads reader.now s → AreDeclarations s declared.now → IfOk result (λ b. any_broken b ≡ earliest (broken_n s)) }
+    ensures { (s : Source) → Reads reader.now s → AreDeclarations s declared.now → found ≡ least (broken_in_passes s) →
+        IfOk result (λ b. any_broken b ≡ earliest (broken_n s)) }
 {
-    let undeclared = undeclared(alloc, reader, declared)?;
+    let undeclared = undeclared(alloc, reader, declared, found)?;
     Ok(first_undeclared(&undeclared))
 }
 
 fn undeclared(
+    alloc: Global,
+    reader: &Reader,
+    declared: &Declarations,
+    found: Option<u32>,
+) -> Result<Undeclared, NoMemory>
+    requires forest { IsForest reader.now.nodes.now }
+    requires few { length reader.now.tokens.now < 2 ^ 32 }
+    requires few_nodes { length reader.now.nodes.now < 2 ^ 32 }
+    ensures { (s : Source) → Reads reader.now s → AreDeclarations s declared.now → found ≡ least (broken_in_passes s) → IfOk result (AreUndeclared s) }
+{
+    match found {
+        None => other_undeclared(alloc, reader, declared),
+        Some(_) => each_undeclared(alloc, reader, declared),
+    }
+}
+
+// Where nothing is found in the passes.
+fn other_undeclared(
+    alloc: Global,
+    reader: &Reader,
+    declared: &Declarations,
+) -> Result<Undeclared, NoMemory>
+    requires forest { IsForest reader.now.nodes.now }
+    requires few { length reader.now.tokens.now < 2 ^ 32 }
+    requires few_nodes { length reader.now.nodes.now < 2 ^ 32 }
+    ensures { (s : Source) → Reads reader.now s → AreDeclarations s declared.now → KeepsPasses s → IfOk result (AreUndeclared s) }
+{
+    let Declarations {
+        externs,
+        own,
+        classes,
+        ..
+    } = declared;
+    let rule = signatures_of(externs, own, classes);
+    Ok(Undeclared {
+        types: None,
+        externs: object_alone(alloc, reader, classes)?,
+        labels: None,
+        variables: None,
+        typars: None,
+        accessors: accessor_undeclared(&rule, alloc, reader, externs)?,
+        assembly: without_assembly(reader),
+        data_labels: None,
+    })
+}
+
+// The least name of a class that would have `System.Object` as its base where that stands nowhere; no name in brackets is at
+// fault.
+fn object_alone(alloc: Global, reader: &Reader, classes: &Classes) -> Result<Option<u32>, NoMemory>
+    requires { IsForest reader.now.nodes.now }
+    ensures { (s : Source) → Reads reader.now s → AreClasses s classes.now → None ≡ least (scopes_undeclared s) →
+        IfOk result (λ k. k ≡ least (scopes_undeclared s ++ objects_undeclared s)) }
+{
+    let object = object_undeclared(alloc, reader, classes)?;
+    Ok(object)
+}
+
+fn each_undeclared(
     alloc: Global,
     reader: &Reader,
     declared: &Declarations,

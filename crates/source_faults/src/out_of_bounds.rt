@@ -12,6 +12,7 @@ ghost use Rattle.source_reading.specs.Walk.{IsForest};
 ghost use Rattle.source_rules.specs.Breaches.{any_broken};
 ghost use Rattle.source_rules.specs.Leasts.{AreUnbounded};
 ghost use Rattle.source_faults.specs.AllDeclared.{AreDeclarations};
+ghost use Rattle.source_faults.specs.Passes.{KeepsPasses, broken_in_passes};
 
 use crate::all_declared::Declarations;
 use body_rules::body_numbers::body_number;
@@ -29,20 +30,70 @@ use source_rules::out_of_range::number_out_of_range;
 use source_rules::type_depths::type_too_deep;
 use std::alloc::Global;
 
-/// The first rule of class B that a source breaks.
+/// The first rule of class B that a source breaks, where `found` is the least token at which a rule is broken that is asked in
+/// the passes.
 pub fn out_of_bounds(
     alloc: Global,
     reader: &Reader,
     declared: &Declarations,
+    found: Option<u32>,
 ) -> Result<Option<Breach>, NoMemory>
     requires { IsForest reader.now.nodes.now }
-    ensures { (s : Source) → Reads reader.now s → AreDeclarations s declared.now → IfOk result (λ b. any_broken b ≡ earliest (broken_b s)) }
+    ensures { (s : Source) → Reads reader.now s → AreDeclarations s declared.now → found ≡ least (broken_in_passes s) →
+        IfOk result (λ b. any_broken b ≡ earliest (broken_b s)) }
 {
-    let unbounded = unbounded(alloc, reader, declared)?;
+    let unbounded = unbounded(alloc, reader, declared, found)?;
     Ok(first_unbounded(&unbounded))
 }
 
-fn unbounded(alloc: Global, reader: &Reader, declared: &Declarations) -> Result<Unbounded, NoMemory>
+fn unbounded(
+    alloc: Global,
+    reader: &Reader,
+    declared: &Declarations,
+    found: Option<u32>,
+) -> Result<Unbounded, NoMemory>
+    requires { IsForest reader.now.nodes.now }
+    ensures { (s : Source) → Reads reader.now s → AreDeclarations s declared.now → found ≡ least (broken_in_passes s) → IfOk result (AreUnbounded s) }
+{
+    match found {
+        None => other_unbounded(alloc, reader, declared),
+        Some(_) => each_unbounded(alloc, reader, declared),
+    }
+}
+
+// Where nothing is found in the passes.
+fn other_unbounded(
+    alloc: Global,
+    reader: &Reader,
+    declared: &Declarations,
+) -> Result<Unbounded, NoMemory>
+    requires { IsForest reader.now.nodes.now }
+    ensures { (s : Source) → Reads reader.now s → AreDeclarations s declared.now → KeepsPasses s → IfOk result (AreUnbounded s) }
+{
+    let Declarations {
+        labels,
+        externs,
+        classes,
+        ..
+    } = declared;
+    let data = data_faults(alloc, reader, externs, classes, labels)?;
+    Ok(Unbounded {
+        numbers: None,
+        branches: None,
+        clauses: None,
+        types: type_too_deep(reader),
+        ends: None,
+        nestings: None,
+        short: data.short,
+        without_size: data.without_size,
+    })
+}
+
+fn each_unbounded(
+    alloc: Global,
+    reader: &Reader,
+    declared: &Declarations,
+) -> Result<Unbounded, NoMemory>
     requires { IsForest reader.now.nodes.now }
     ensures { (s : Source) → Reads reader.now s → AreDeclarations s declared.now → IfOk result (AreUnbounded s) }
 {

@@ -1,4 +1,5 @@
 pub mod ArrayLemmas
+pub mod AskedLemmas
 pub mod BarredLemmas
 pub mod ClassSizes
 pub mod ClassWalks
@@ -12,6 +13,7 @@ pub mod MappedData
 pub mod MissingLemmas
 pub mod NamedTypeLemmas
 pub mod OrderedNumbers
+pub mod PartLemmas
 pub mod RootLemmas
 pub mod SignatureParts
 pub mod StatedSizes

@@ -1,4 +1,6 @@
+pub mod AllOfParts
 pub mod ArrayNumbers
+pub mod Asked
 pub mod Breaches
 pub mod ClassSizes
 pub mod DataItems

@@ -3,6 +3,7 @@
 #![tactic(auto)]
 
 pub mod array_numbers;
+pub mod asked;
 pub mod barred;
 pub mod class_rules;
 pub mod class_sizes;
@@ -17,6 +18,7 @@ pub mod nestings;
 pub mod number_rules;
 pub mod out_of_range;
 pub mod param_numbers;
+pub mod parts;
 pub mod roots;
 pub mod stated_sizes;
 pub mod type_depths;

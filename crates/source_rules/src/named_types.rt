@@ -119,8 +119,8 @@ impl<'a> Scopes<'a> {
         }
     }
 
-    // What the name of an assembly in brackets stands for; without one it is this assembly.
-    fn written(
+    /// What the name of an assembly in brackets stands for; without one it is this assembly.
+    pub fn written(
         &self,
         alloc: Global,
         reader: &Reader,
@@ -172,8 +172,8 @@ impl<'a> Rule for Scopes<'a> {
     }
 }
 
-// The token of an assembly's name, unless that stands for one.
-fn unless_known(standing: Standing, scope: Option<u32>) -> Option<u32>
+/// The token of an assembly's name, unless that stands for one.
+pub fn unless_known(standing: Standing, scope: Option<u32>) -> Option<u32>
     ensures { (known : Option Scope) → standing ≡ standing_of known → result ≡ least (scope_token_unless (is_some known) scope) }
 {
     match standing {
@@ -204,8 +204,8 @@ impl<'a> Rule for Types<'a> {
     }
 }
 
-// The first name of a path in this assembly that no class has.
-fn missing(
+/// The first name of a path in this assembly that no class has.
+pub fn missing(
     alloc: Global,
     reader: &Reader,
     classes: &ClassPaths,

@@ -29,8 +29,8 @@ pub fn nesting_too_deep(alloc: Global, reader: &Reader) -> Result<Option<u32>, N
     Ok(first)
 }
 
-// Classes and paths that nest deeper than 100.
-struct Nestings;
+/// Classes and paths that nest deeper than 100.
+pub struct Nestings;
 
 impl Rule for Nestings {
     ghost broken = { λ _ s n. class_too_deep n ++ path_too_long n };

@@ -40,8 +40,8 @@ pub fn number_out_of_range(alloc: Global, reader: &Reader) -> Result<Option<u32>
     Ok(first)
 }
 
-// Numbers and counts are in their ranges.
-struct Numbers;
+/// Numbers and counts are in their ranges.
+pub struct Numbers;
 
 impl Rule for Numbers {
     ghost broken = { λ _ s n. number_at s n };

@@ -52,10 +52,10 @@ pub fn typar_undeclared(alloc: Global, reader: &Reader) -> Result<Option<u32>, N
     Ok(first)
 }
 
-// Labels behind `at` are among these.
+/// Labels behind `at` are among these.
 #[derive(Clone, Copy)]
-struct Labels<'a> {
-    names: &'a Declared,
+pub struct Labels<'a> {
+    pub names: &'a Declared,
 }
 
 impl<'a> Rule for Labels<'a> {
@@ -76,8 +76,8 @@ impl<'a> Rule for Labels<'a> {
     }
 }
 
-// Generic parameters that are named are among those of the class or the method around them.
-struct Typars;
+/// Generic parameters that are named are among those of the class or the method around them.
+pub struct Typars;
 
 impl Rule for Typars {
     ghost broken = { λ _ s n. typar_undeclared s n ++ param_type_undeclared s n };

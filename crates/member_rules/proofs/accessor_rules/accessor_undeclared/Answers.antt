@@ -1,12 +1,21 @@
 use Rattle.std.proofs.Common.{◌≡◌, ◌<◌, ◌^◌, ◌∙◌, ap, length, refl, subst, sym}
+use Rattle.std.specs.Prelude.{false}
+use Rattle.std.specs.List.{list_any}
 use Rattle.std.proofs.lemmas.Result.{IfOk-weaker}
 use Rattle.source_model.specs.Forest.{preorder}
 use Rattle.source_model.specs.Nodes.{nothing_around}
 use Rattle.source_model.specs.Undeclared.{accessors_undeclared}
 use Rattle.source_reading.specs.Least.{least}
+use Rattle.member_rules.specs.OwnMethods.{is_owner}
 use Rattle.member_rules.proofs.AccessorWalks.{all_undeclared}
+use Rattle.member_rules.proofs.OwnerLemmas.{no_owner}
 use Rattle.member_rules.proofs.ReadLemmas.{around_nothing, names_of_nothing, serves_by}
 use Rattle.member_rules.proofs.accessor_rules.accessor_undeclared.Goals as goal
+
+pub returns-then-not-has_owner : goal.returns-then-not-has_owner
+returns-then-not-has_owner g c s r names breaks =
+    let none : list_any is_owner (preorder s.tree) ≡ false = ap (list_any is_owner) r.nodes ∙ sym c.has_owner.ensures ∙ c.if-not-has_owner.true in
+    sym (ap least (sym (all_undeclared s) ∙ no_owner s nothing_around s.tree none))
 
 pub returns : goal.returns
 returns g c s r names breaks =

@@ -1,0 +1,10 @@
+use Rattle.std.proofs.Common.{sym, subst}
+use Rattle.source_model.specs.Bodies.{code}
+use Rattle.body_rules.specs.Sizes.{AreOffsets}
+use Rattle.body_rules.proofs.bodies.branch_fault.Goals as goal
+
+pub returns : goal.returns
+returns c s n r m e are labels =
+    let f = n.below in
+    let offsets = subst (λ xs. AreOffsets xs (code s n.around f)) (sym c.as_slice.ensures) (c.in_ok-offsets.ensures s n.around f r e are) in
+    c.in_ok-first.ensures s n r m.bodies (labels, offsets) are

@@ -1,0 +1,15 @@
+use Rattle.std.proofs.Common.{ap, ◌∙◌}
+use Rattle.ilasm_grammar.specs.declared.productions.TheConstants.{INSTRUCTION_OP_VAR}
+use Rattle.source_model.specs.BodyFaults.{variable_undeclared}
+use Rattle.source_model.specs.Instructions.{instructions_of}
+use Rattle.source_reading.specs.Least.{least}
+use Rattle.body_rules.specs.NamedVariables.{undeclared_at}
+use Rattle.body_rules.proofs.CodeLemmas.{of_one_form, without_numbers}
+use Rattle.body_rules.proofs.bodies.variable_fault.Goals as goal
+
+pub returns : goal.returns
+returns c s n r m are variables =
+    let f = n.below in
+    let ps = instructions_of f in
+    c.in_ok-first.ensures s n r m.bodies variables are
+    ∙ ap least (without_numbers (undeclared_at s f) 0 ps ∙ of_one_form (variable_undeclared s f) INSTRUCTION_OP_VAR ps)

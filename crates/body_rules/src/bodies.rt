@@ -1,0 +1,227 @@
+//! All rules of bodies, asked of each method at once: what several of them ask for is found once (ECMA-335 II.5.4, II.15.4.1,
+//! II.19, III.1.7.2).
+
+ghost use Rattle.std.specs.Prelude.{◌≡◌, ◌++◌, IfOk};
+ghost use Rattle.std.specs.List.{flat_map};
+ghost use Rattle.source_model.specs.BodyNumbers.{body_numbers_out_of_range_in};
+ghost use Rattle.source_model.specs.Bodies.{code};
+ghost use Rattle.source_model.specs.Forest.{preorder};
+ghost use Rattle.source_model.specs.Instructions.{instructions_of};
+ghost use Rattle.source_model.specs.Nodes.{Node};
+ghost use Rattle.source_model.specs.Source.{Source};
+ghost use Rattle.source_reading.specs.Labels.{AreLabels};
+ghost use Rattle.source_reading.specs.Least.{least};
+ghost use Rattle.source_reading.specs.Methods.{IsMethod};
+ghost use Rattle.source_reading.specs.Pieces.{ArePieces, AreParts};
+ghost use Rattle.source_reading.specs.Readers.{Reads};
+ghost use Rattle.source_reading.specs.Walk.{IsForest};
+ghost use Rattle.body_rules.specs.AllOfBodies.{backwards_in, broken_in, broken_in_bodies, ends_in, far_in, twice_in, undeclared_in, variables_in};
+ghost use Rattle.body_rules.specs.NamedVariables.{AreVariables};
+ghost use Rattle.body_rules.specs.OperandRanges.{operand_at_fault};
+ghost use Rattle.body_rules.specs.PlainBodies.{is_plain};
+
+use crate::body_numbers::misnumbered_local;
+use crate::branch_rules::{all_targets, first_at};
+use crate::clause_counts::clause_past_most;
+use crate::clause_rules::first_backwards;
+use crate::code_places::CodePlaces;
+use crate::instruction_rules::first_in_code;
+use crate::label_rules::first_missing;
+use crate::operand_ranges::OperandRanges;
+use crate::plain_bodies::is_plain;
+use crate::short_branches::Reach;
+use crate::sizes::offsets_of;
+use crate::variable_rules::AmongVariables;
+use crate::variables::Variables;
+use il_base::NoMemory;
+use ilasm_grammar::{TreeNode, productions};
+use rule_steps::counts::local_past_most;
+use rule_steps::ranges::{Limit, beyond_in_each};
+use source_reading::label_numbers::Labels;
+use source_reading::labels::{label_names, label_tokens};
+use source_reading::least::sooner;
+use source_reading::methods::{MethodRule, first_in_methods};
+use source_reading::name_lists::again;
+use source_reading::pieces::{Piece, Sought, pieces_of};
+use source_reading::reader::Reader;
+use std::alloc::Global;
+
+/// The least token at which the body of a method breaks any of the rules.
+pub fn body_fault(alloc: Global, reader: &Reader) -> Result<Option<u32>, NoMemory>
+    requires { IsForest reader.now.nodes.now }
+    ensures { (s : Source) → Reads reader.now s → IfOk result (λ k. k ≡ least (broken_in_bodies s)) }
+{
+    let first = first_in_methods(&AllOfBodies, alloc, reader)?;
+    Ok(first)
+}
+
+// All rules of bodies.
+struct AllOfBodies;
+
+impl MethodRule for AllOfBodies {
+    ghost broken = { λ _ s n. broken_in s n };
+
+    fn first(
+        &self,
+        alloc: Global,
+        reader: &Reader,
+        below: &[TreeNode],
+    ) -> Result<Option<u32>, NoMemory> {
+        let code = pieces_of(alloc, below, Sought::Instructions)?;
+        let labels = Labels::read(alloc, reader, below, code.as_slice())?;
+        let variables = Variables::read(alloc, reader, below)?;
+        let plain = is_plain(below);
+        let label = label_fault(alloc, reader, below, &labels)?;
+        let variable = variable_fault(alloc, reader, below, code.as_slice(), &variables)?;
+        let number = number_fault(alloc, reader, below, code.as_slice(), &variables, plain)?;
+        let far = branch_fault(alloc, reader, below, code.as_slice(), &labels)?;
+        let clause = clause_fault(alloc, reader, below, plain)?;
+        let end = end_fault(alloc, reader, below, code.as_slice(), &labels)?;
+        let to_variable = sooner(label, variable);
+        let to_number = sooner(to_variable, number);
+        let to_branch = sooner(to_number, far);
+        let to_clause = sooner(to_branch, clause);
+        Ok(sooner(to_clause, end))
+    }
+}
+
+// The least label of a method that has the name of an earlier one, or name that no label of it has.
+fn label_fault(
+    alloc: Global,
+    reader: &Reader,
+    method: &[TreeNode],
+    labels: &Labels,
+) -> Result<Option<u32>, NoMemory>
+    requires { IsForest method.now }
+    ensures { (s : Source) (n : Node) → Reads reader.now s → IsMethod s n → preorder n.below ≡ method.now → AreLabels labels.now s n.below →
+        IfOk result (λ k. k ≡ least (twice_in s n ++ undeclared_in s n)) }
+{
+    let tokens = label_tokens(alloc, method)?;
+    let named = label_names(alloc, method)?;
+    let twice = again(&labels.names, tokens.as_slice());
+    let missing = first_missing(alloc, reader, &labels.names, named.as_slice())?;
+    Ok(sooner(twice, missing))
+}
+
+// The least name in an instruction that none of these variables has.
+fn variable_fault(
+    alloc: Global,
+    reader: &Reader,
+    method: &[TreeNode],
+    code: &[Piece],
+    variables: &Variables,
+) -> Result<Option<u32>, NoMemory>
+    requires { AreParts method.now code.now }
+    ensures { (s : Source) (n : Node) → Reads reader.now s → IsMethod s n → ArePieces method.now code.now (instructions_of n.below) →
+        AreVariables variables.now s n.below → IfOk result (λ k. k ≡ least (variables_in s n)) }
+{
+    let rule = AmongVariables { variables };
+    let first = first_in_code(&rule, alloc, reader, method, code)?;
+    Ok(first)
+}
+
+// The least number or count of a method that is out of its range.
+fn number_fault(
+    alloc: Global,
+    reader: &Reader,
+    method: &[TreeNode],
+    code: &[Piece],
+    variables: &Variables,
+    plain: bool,
+) -> Result<Option<u32>, NoMemory>
+    requires forest { IsForest method.now }
+    requires parts { AreParts method.now code.now }
+    ensures { (s : Source) (n : Node) → Reads reader.now s → IsMethod s n → preorder n.below ≡ method.now →
+        ArePieces method.now code.now (instructions_of n.below) → AreVariables variables.now s n.below → plain ≡ is_plain method.now →
+        IfOk result (λ k. k ≡ least (body_numbers_out_of_range_in s n)) }
+{
+    let operand = operand_fault(alloc, reader, method, code, variables)?;
+    if plain {
+        return Ok(operand);
+    }
+    let stack = beyond_in_each(
+        reader,
+        method,
+        productions::ITEM_MAXSTACK,
+        Limit::UpTo(0xFFFF),
+    );
+    let misnumbered = misnumbered_local(alloc, reader, method)?;
+    let local = local_past_most(method);
+    let clause = clause_past_most(method);
+    let past = sooner(local, clause);
+    let counts = sooner(misnumbered, past);
+    let in_code = sooner(operand, counts);
+    Ok(sooner(stack, in_code))
+}
+
+// The least number of an instruction that is out of its range.
+fn operand_fault(
+    alloc: Global,
+    reader: &Reader,
+    method: &[TreeNode],
+    code: &[Piece],
+    variables: &Variables,
+) -> Result<Option<u32>, NoMemory>
+    requires { AreParts method.now code.now }
+    ensures { (s : Source) (n : Node) → Reads reader.now s → IsMethod s n → ArePieces method.now code.now (instructions_of n.below) →
+        AreVariables variables.now s n.below → IfOk result (λ k. k ≡ least (flat_map (operand_at_fault s n.below) (instructions_of n.below))) }
+{
+    let rule = OperandRanges { variables };
+    let first = first_in_code(&rule, alloc, reader, method, code)?;
+    Ok(first)
+}
+
+// The least label behind a short branch that doesn't reach it.
+fn branch_fault(
+    alloc: Global,
+    reader: &Reader,
+    method: &[TreeNode],
+    code: &[Piece],
+    labels: &Labels,
+) -> Result<Option<u32>, NoMemory>
+    requires { AreParts method.now code.now }
+    ensures { (s : Source) (n : Node) → Reads reader.now s → IsMethod s n → preorder n.below ≡ method.now →
+        ArePieces method.now code.now (instructions_of n.below) → AreLabels labels.now s n.below → IfOk result (λ k. k ≡ least (far_in s n)) }
+{
+    let offsets = offsets_of(alloc, reader, method, code)?;
+    let reach = Reach {
+        labels,
+        offsets: offsets.as_slice(),
+    };
+    let first = first_in_code(&reach, alloc, reader, method, code)?;
+    Ok(first)
+}
+
+// The least first token of a clause that is empty or backwards.
+fn clause_fault(
+    alloc: Global,
+    reader: &Reader,
+    method: &[TreeNode],
+    plain: bool,
+) -> Result<Option<u32>, NoMemory>
+    requires { IsForest method.now }
+    ensures { (s : Source) (n : Node) → Reads reader.now s → IsMethod s n → preorder n.below ≡ method.now → plain ≡ is_plain method.now →
+        IfOk result (λ k. k ≡ least (backwards_in s n)) }
+{
+    if plain {
+        return Ok(None);
+    }
+    let places = CodePlaces::read(alloc, reader, method)?;
+    first_backwards(&places, alloc, reader, &[], method)
+}
+
+// The least label behind a branch that no instruction follows.
+fn end_fault(
+    alloc: Global,
+    reader: &Reader,
+    method: &[TreeNode],
+    code: &[Piece],
+    labels: &Labels,
+) -> Result<Option<u32>, NoMemory>
+    requires { AreParts method.now code.now }
+    ensures { (s : Source) (n : Node) → Reads reader.now s → IsMethod s n → ArePieces method.now code.now (instructions_of n.below) →
+        AreLabels labels.now s n.below → IfOk result (λ k. k ≡ least (ends_in s n)) }
+{
+    let tokens = all_targets(alloc, method, code)?;
+    first_at(alloc, reader, labels, tokens.as_slice(), code.len())
+}

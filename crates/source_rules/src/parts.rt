@@ -1,0 +1,122 @@
+//! All rules that are asked of each production by itself, in one pass over a source (ECMA-335 II.5.8, II.6.2, II.7.3, II.10,
+//! II.15, II.16.3, II.23.2).
+
+ghost use Rattle.std.specs.Prelude.{◌≡◌, IfOk};
+ghost use Rattle.source_model.specs.Forest.{preorder};
+ghost use Rattle.source_model.specs.Nodes.{Node};
+ghost use Rattle.source_model.specs.Source.{Source};
+ghost use Rattle.source_reading.specs.Derived.{FitsBody, HasBodies};
+ghost use Rattle.source_reading.specs.Least.{least};
+ghost use Rattle.source_reading.specs.Namings.{AreNames};
+ghost use Rattle.source_reading.specs.Readers.{Reads};
+ghost use Rattle.source_reading.specs.Walk.{IsForest};
+ghost use Rattle.source_reading.specs.declared.name_lists.Naming.TheVariants as naming;
+ghost use Rattle.source_rules.specs.AllOfParts.{broken_at, broken_in_parts, name_broken};
+ghost use Rattle.source_rules.specs.DeclaredClasses.{AreClasses};
+
+use crate::asked::is_asked;
+use crate::class_rules::Classes;
+use crate::named_types::{Scopes, Types, missing, unless_known};
+use crate::nestings::Nestings;
+use crate::out_of_range::Numbers;
+use crate::undeclared::{Labels, Typars};
+use crate::written::written_name;
+use il_base::NoMemory;
+use ilasm_grammar::TreeNode;
+use rule_steps::asking::{Rule, Surrounding, first_at_all};
+use source_model::tokens_stand_in_order;
+use source_reading::derived::derivations_have_bodies;
+use source_reading::least::sooner;
+use source_reading::name_lists::Named;
+use source_reading::reader::Reader;
+use std::alloc::Global;
+
+/// The least token at which a production of a source breaks any of these rules.
+pub fn part_fault(
+    alloc: Global,
+    reader: &Reader,
+    externs: &Named,
+    own: &Named,
+    classes: &Classes,
+    labels: &Named,
+) -> Result<Option<u32>, NoMemory>
+    requires { IsForest reader.now.nodes.now }
+    ensures { (s : Source) → Reads reader.now s → AreNames s naming.Assembly externs.now → AreNames s naming.Own own.now → AreClasses s classes.now →
+        AreNames s naming.Label labels.now → IfOk result (λ k. k ≡ least (broken_in_parts s)) }
+{
+    tokens_stand_in_order();
+    derivations_have_bodies();
+    let scopes = Scopes {
+        keys: &externs.names,
+        own: &own.names,
+    };
+    let types = Types {
+        scopes,
+        classes: &classes.paths,
+    };
+    let labels = Labels {
+        names: &labels.names,
+    };
+    let rule = AllOfParts { types, labels };
+    let first = first_at_all(&rule, alloc, reader)?;
+    Ok(first)
+}
+
+// All rules of productions.
+#[derive(Clone, Copy)]
+struct AllOfParts<'a> {
+    types: Types<'a>,
+    labels: Labels<'a>,
+}
+
+impl<'a> Rule for AllOfParts<'a> {
+    ghost broken = { λ rule s n. broken_at rule.types.scopes.keys.now rule.types.scopes.own.now rule.types.classes.now rule.labels.names.now s n };
+
+    fn first(
+        &self,
+        alloc: Global,
+        reader: &Reader,
+        place: &Surrounding,
+        production: u16,
+        below: &[TreeNode],
+    ) -> Result<Option<u32>, NoMemory> {
+        if !is_asked(production) {
+            return Ok(None);
+        }
+        let name = name_fault(&self.types, alloc, reader, production, below)?;
+        let typar = Typars.first(alloc, reader, place, production, below)?;
+        let label = self.labels.first(alloc, reader, place, production, below)?;
+        let number = Numbers.first(alloc, reader, place, production, below)?;
+        let nesting = Nestings.first(alloc, reader, place, production, below)?;
+        let to_typar = sooner(name, typar);
+        let to_label = sooner(to_typar, label);
+        let to_number = sooner(to_label, number);
+        Ok(sooner(to_number, nesting))
+    }
+}
+
+// What is at fault in the type's name that a production begins with.
+fn name_fault(
+    types: &Types,
+    alloc: Global,
+    reader: &Reader,
+    production: u16,
+    below: &[TreeNode],
+) -> Result<Option<u32>, NoMemory>
+    requires { IsForest below.now }
+    ensures { (s : Source) (n : Node) → Reads reader.now s → n.production ≡ production → preorder n.below ≡ below.now →
+        FitsBody s n.production n.below → HasBodies s n.below →
+        IfOk result (λ k. k ≡ least (name_broken types.now.scopes.keys.now types.now.scopes.own.now types.now.classes.now s n)) }
+{
+    let name = written_name(alloc, production, below)?;
+    match name {
+        None => Ok(None),
+        Some(name) => {
+            let standing = types.scopes.written(alloc, reader, name.scope)?;
+            let path = name.path.as_slice();
+            let absent = missing(alloc, reader, types.classes, standing, path)?;
+            let unknown = unless_known(standing, name.scope);
+            Ok(sooner(absent, unknown))
+        }
+    }
+}
