@@ -1,5 +1,4 @@
+pub mod AssembleLemmas
+pub mod FitsLemmas
 pub mod FrontLemmas
 pub mod OutcomeLemmas
-pub mod PlainReads
-pub mod PlainRows
-pub mod PlainTexts

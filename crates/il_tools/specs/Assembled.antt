@@ -1,18 +1,40 @@
--- What a source gives.
-use Rattle.std.specs.Prelude.{ℕ, List}
-use Rattle.image_model.specs.FirstReading.{ReadsFirst}
-use Rattle.plain_source.specs.Form.{Form}
-use Rattle.plain_source.specs.Reading.{IsPlain, IsFaultOf}
-use Rattle.il_tools.specs.Denoted.{denoted}
+-- What a source gives: an image, or a fault.
+use Rattle.std.specs.Prelude.{ℕ, ◌^◌, ◌<◌, ◌≤◌, ◌⊎◌, List, take}
+use Rattle.assembly_tree.specs.Room.{room as room_in}
+use Rattle.assembly_tree.specs.Weight.{weight_of}
+use Rattle.assembly_tree.specs.declared.assembly.Assembly.{Assembly}
+use Rattle.image_writer.specs.Made.{IsMade}
+use Rattle.pe_layout.specs.declared.parts.Kind.{Kind}
+use Rattle.sha2.specs.Sha256.{sha256}
+use Rattle.source_assembly.specs.Reading.{IsAssemblyOf, IsFaultOf}
+use Rattle.il_tools.specs.declared.fault.ContentFault.{ContentFault}
+use Rattle.il_tools.specs.declared.fault.ContentFault.TheVariants as content
 use Rattle.il_tools.specs.declared.fault.Fault.{Fault}
 use Rattle.il_tools.specs.declared.fault.Fault.TheVariants as fault
 
--- the source is a manifest of the form, and the image reads as the assembly that it denotes
-abbrev pub IsImageOf : List ℕ → List ℕ → Type 0
-IsImageOf source image = (form : Form) × IsPlain source form × ReadsFirst image (denoted form)
+-- the identifier of a module: the front of the SHA-256 of its source
+abbrev pub identifier_of : List ℕ → List ℕ
+identifier_of source = take 16 (sha256 source)
 
--- the source has this fault, or there was no memory
+-- an assembly fits into an image, and its texts have room for the tokens that load them (III.1.9)
+pub record Fits (a : Assembly) : Type 0 where
+  pub weight : weight_of a ≤ 2 ^ 26
+  pub room : room_in a ≤ 2 ^ 24
+
+-- the image is made of the assembly that the source denotes
+pub record IsImageOf (source : List ℕ) (kind : Kind) (image : List ℕ) : Type 0 where
+  pub meant : Assembly
+  pub denoted : IsAssemblyOf source meant
+  pub fits : Fits meant
+  pub made : IsMade meant (identifier_of source) kind image
+
+-- the source has this fault, or denotes an assembly that doesn't fit
+abbrev pub IsContentFault : List ℕ → ContentFault → Type 0
+IsContentFault source (content.Source found) = IsFaultOf source found
+IsContentFault source content.TooLarge = (a : Assembly) × IsAssemblyOf source a × ((2 ^ 26 < weight_of a) ⊎ (2 ^ 24 < room_in a))
+
+-- the cause of a refusal of a source; want of memory has none
 abbrev pub IsRefused : List ℕ → Fault → Type 0
-IsRefused source (fault.Source found) = IsFaultOf source found
+IsRefused source (fault.Content found) = IsContentFault source found
 IsRefused source fault.NoMemory = Unit {0}
 IsRefused source _ = ⊥

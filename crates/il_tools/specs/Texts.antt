@@ -1,8 +1,10 @@
 -- What is said of the fault of a source.
 use Rattle.std.specs.Prelude.{ℕ, ◌==◌, if◌then◌else◌, List, [], ◌++◌, codes}
 use Rattle.std.specs.Fmt.{decimal}
-use Rattle.plain_source.specs.declared.reading.SourceFault.{SourceFault}
-use Rattle.plain_source.specs.declared.reading.SourceFault.TheVariants.{Lexical, Syntax, Named, NotRead}
+use Rattle.source_assembly.specs.declared.fault.SourceFault.{SourceFault}
+use Rattle.source_assembly.specs.declared.fault.SourceFault.TheVariants.{Lexical, Syntax, Named}
+use Rattle.il_tools.specs.declared.fault.ContentFault.{ContentFault}
+use Rattle.il_tools.specs.declared.fault.ContentFault.TheVariants.{Source, TooLarge}
 use Rattle.source_model.specs.declared.fault.NameClass.{NameClass}
 use Rattle.source_model.specs.declared.fault.NameClass.TheVariants.{D, N, B}
 
@@ -84,4 +86,8 @@ source_text file (Lexical line rule) =
 source_text file (Syntax line rule) =
     file ++ (codes "(" ++ (decimal line ++ (codes "): error S" ++ (decimal rule ++ (codes ": " ++ (syntax_text rule ++ codes "\n"))))))
 source_text file (Named line class rule) = named_text file line class rule
-source_text file NotRead = file ++ codes ": error P1: this form isn't read yet\n"
+
+-- the line for a source without an image
+abbrev pub content_text : List ℕ → ContentFault → List ℕ
+content_text file (Source fault) = source_text file fault
+content_text file TooLarge = file ++ codes ": error Z1: the assembly is too large\n"

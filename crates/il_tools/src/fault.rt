@@ -1,5 +1,16 @@
-use plain_source::SourceFault;
+use source_assembly::SourceFault;
 use thiserror::Error;
+
+/// Why a source gives no image.
+#[derive(Debug, Clone, Copy, PartialEq, Eq, Drop, Error)]
+pub(crate) enum ContentFault {
+    /// It has a fault.
+    #[error("the source has a fault")]
+    Source(SourceFault),
+    /// It denotes an assembly that is too large for an image.
+    #[error("the assembly is too large")]
+    TooLarge,
+}
 
 /// Why the program isn't done.
 #[derive(Debug, Clone, Copy, PartialEq, Eq, Drop, Error)]
@@ -7,9 +18,9 @@ pub(crate) enum Fault {
     /// The words don't fit, from this word on.
     #[error("usage fault")]
     Usage(u32),
-    /// The source has a fault, or isn't of the form that is read so far.
-    #[error("the source has a fault")]
-    Source(SourceFault),
+    /// The source gives no image.
+    #[error("the source gives no image")]
+    Content(ContentFault),
     /// The input can't be read.
     #[error("cannot be read")]
     Unread,

@@ -5,10 +5,9 @@ mod assemble;
 mod fault;
 mod input;
 mod output;
-mod plain;
 mod report;
 mod texts;
 mod top;
-mod words;
 
+pub use command_words::{Command, WordFault, parse_words};
 pub use top::{Status, run};

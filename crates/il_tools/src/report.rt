@@ -4,7 +4,7 @@ ghost use Rattle.il_tools.specs.Outcome.{number_of, text_of, Reported};
 
 use crate::fault::Fault;
 use crate::output::write_error;
-use crate::texts::source_message;
+use crate::texts::content_message;
 use il_base::{Console, NoMemory};
 use std::alloc::Global;
 
@@ -50,7 +50,7 @@ fn message(alloc: Global, file: &str, fault: Fault) -> Result<String, NoMemory>
 {
     let text = match fault {
         Fault::Usage(word) => format!(in alloc; "usage fault at word {word}\n")?,
-        Fault::Source(fault) => source_message(alloc, file, fault)?,
+        Fault::Content(fault) => content_message(alloc, file, fault)?,
         Fault::Unread => format!(in alloc; "{file}: cannot be read\n")?,
         Fault::TooLong => format!(in alloc; "{file}: longer than 134217728 bytes\n")?,
         Fault::Unwritten | Fault::NoMemory => String::new(alloc),
@@ -62,7 +62,7 @@ fn number_of(fault: Fault) -> u8
     ensures { result ≡ number_of fault }
 {
     match fault {
-        Fault::Source(_) => 1,
+        Fault::Content(_) => 1,
         Fault::Usage(_) => 2,
         Fault::Unread => 3,
         Fault::Unwritten => 4,

@@ -1,18 +1,37 @@
 //! What the program says of the fault of a source.
 ghost use Rattle.std.specs.Prelude.{◌≡◌, IfOk, string_bytes};
-ghost use Rattle.il_tools.specs.Texts.{bounds_text, letter, lexical_text, named_text, source_text, syntax_text, twice_text, undeclared_text};
+ghost use Rattle.il_tools.specs.Texts.{bounds_text, content_text, letter, lexical_text, named_text, source_text, syntax_text, twice_text, undeclared_text};
 
+use crate::fault::ContentFault;
 use il_base::NoMemory;
-use plain_source::SourceFault;
+use source_assembly::SourceFault;
 use source_model::NameClass;
 use std::alloc::Global;
 
-/// The line for the fault of the source `file`, with its line feed.
-pub(crate) fn source_message(
+/// The line for the source `file` that gives no image, with its line feed.
+pub(crate) fn content_message(
     alloc: Global,
     file: &str,
-    fault: SourceFault,
+    fault: ContentFault,
 ) -> Result<String, NoMemory>
+    ensures { IfOk result (λ text. string_bytes text ≡ content_text file.now fault) }
+{
+    match fault {
+        ContentFault::Source(fault) => source_message(alloc, file, fault),
+        ContentFault::TooLarge => too_large_message(alloc, file),
+    }
+}
+
+// The line for an assembly that doesn't fit into an image.
+fn too_large_message(alloc: Global, file: &str) -> Result<String, NoMemory>
+    ensures { IfOk result (λ text. string_bytes text ≡ content_text file.now ContentFault.TooLarge) }
+{
+    let message = format!(in alloc; "{file}: error Z1: the assembly is too large\n")?;
+    Ok(message)
+}
+
+// The line for the fault of the source `file`.
+fn source_message(alloc: Global, file: &str, fault: SourceFault) -> Result<String, NoMemory>
     ensures { IfOk result (λ text. string_bytes text ≡ source_text file.now fault) }
 {
     let message = match fault {
@@ -26,9 +45,6 @@ pub(crate) fn source_message(
         }
         SourceFault::Named { line, class, rule } => {
             named_message(alloc, file, line, class, rule)?
-        }
-        SourceFault::NotRead => {
-            format!(in alloc; "{file}: error P1: this form isn't read yet\n")?
         }
     };
     Ok(message)

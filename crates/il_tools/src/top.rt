@@ -1,17 +1,18 @@
 //! The top call.
 ghost use Rattle.std.specs.Prelude.{◌≡◌, ◌≤◌, IsTrue};
-ghost use Rattle.il_tools.specs.Words.{file_of};
 ghost use Rattle.il_tools.specs.Outcome.{Answers, Says};
 
 use crate::assemble::assemble;
+use crate::fault::Fault;
 use crate::report::report;
-use il_base::{Console, Shelf, Text, Words};
-use plain_source::one_reading;
+use command_words::{Command, WordFault, parse_words};
+use il_base::{Console, Shelf, Words};
+use source_assembly::one_reading;
 use std::alloc::Global;
 
 /// How the program ends.
 ///
-/// 0: done. 1: the source has a fault, or isn't read yet. 2: the words don't fit. 3: a file can't be
+/// 0: done. 1: the source has a fault, or its assembly is too large. 2: the words don't fit. 3: a file can't be
 /// read. 4: a write failed. 5: a file is longer than its limit. 6: there is no memory.
 #[derive(Debug, Clone, Copy, PartialEq, Eq)]
 pub struct Status {
@@ -19,11 +20,11 @@ pub struct Status {
     pub number: u8,
 }
 
-/// Does all that the program does: `ilasm FILE -dll` assembles FILE, whose output is named after it,
-/// without a last `.il` and with `.dll`. `words` are those after the program's name.
+/// Does all that the program does: `ilasm FILE [-dll or -exe] [-output=NAME]` assembles FILE. `words` are those behind the
+/// program's name.
 ///
-/// A source is read through its tokens and its derivation (II.5). Its first fault is said with its rule and
-/// line; a source without one that is no manifest of the form in `plain_source` isn't read yet, which is P1.
+/// A source that has a fault is refused with its first rule and line (II.5 to II.23), and one whose assembly is too large for an
+/// image with Z1. The image is built whole before the output is started.
 pub fn run<S: Shelf, C: Console>(
     alloc: Global,
     words: &Words,
@@ -42,20 +43,18 @@ pub fn run<S: Shelf, C: Console>(
     ensures count_stays { C.failed console.old ≤ C.failed console.new }
 {
     one_reading();
-    match assemble(alloc, words, shelf) {
-        Ok(()) => Status { number: 0 },
-        Err(fault) => Status {
-            number: report(alloc, file_text(words.as_slice()), fault, console),
+    match parse_words(alloc, words) {
+        Ok(Command::Ilasm { file, kind, output }) => {
+            match assemble(alloc, shelf, file.as_str(), kind, output.as_str()) {
+                Ok(()) => Status { number: 0 },
+                Err(fault) => Status {
+                    number: report(alloc, file.as_str(), fault, console),
+                },
+            }
+        }
+        Err(WordFault::At { word }) => Status {
+            number: report(alloc, "", Fault::Usage(word), console),
         },
-    }
-}
-
-// The text of FILE, empty where there is none.
-fn file_text(words: &[Text]) -> &str
-    ensures { result.now ≡ file_of words.now }
-{
-    match words.get(1) {
-        Some(file) => file.as_str(),
-        None => "",
+        Err(WordFault::NoMemory) => Status { number: 6 },
     }
 }

@@ -11,12 +11,14 @@ use thiserror::Error;
 const HELP: &str = "\
 iltool: tools for .NET's intermediate language
 
-  iltool ilasm FILE -dll    assembles FILE to a library, named as FILE with .dll in place of .il
+  iltool ilasm FILE [-dll or -exe] [-output=NAME]
+                            assembles FILE to a program, or with -dll to a library, named NAME, or
+                            else as FILE with .exe or .dll in place of .il
   iltool --help             prints this text
   iltool --version          prints the version
 
-Status: 0 done, 1 fault in the source, 2 usage fault, 3 FILE cannot be read, 4 output cannot be
-written, 5 FILE is too long, 6 no memory.
+Status: 0 done, 1 fault in the source or too large an assembly, 2 usage fault, 3 FILE cannot be
+read, 4 output cannot be written, 5 FILE is too long, 6 no memory.
 ";
 
 const VERSION: &str = "iltool 0.1.0\n";

@@ -4,9 +4,7 @@ use crate::running::{outcome, shelf_with};
 use std::alloc::Global;
 use std::test::Fail;
 
-const P1: &str = "a.il: error P1: this form isn't read yet\n";
-
-/// Sources, and what is said of each. Those that break no rule aren't read yet.
+/// Sources, and what is said of each. Nothing is said of those that break no rule.
 static SOURCES: [(&str, &str); 16] = [
     // the classes of rules go in the order D, N, B, all over the source
     (
@@ -24,7 +22,7 @@ static SOURCES: [(&str, &str); 16] = [
     // names that are words elsewhere, and names with dots in their quotes
     (
         ".assembly extern mscorlib { }\n.assembly A { }\n.class c.d.'a.b' { .method static void 'add'() cil managed { ret } }\n.class ldc.'i4' extends c.d.'a.b' { .field class ldc.'i4' F }",
-        P1,
+        "",
     ),
     (
         ".assembly extern mscorlib { }\n.assembly A { }\n.class c.d.'a.b' { }\n.class C extends c.d.a.b { }",
@@ -33,7 +31,7 @@ static SOURCES: [(&str, &str); 16] = [
     // aliases
     (
         ".assembly extern Lib as A { .ver 1:0:0:0 }\n.assembly extern Lib as B { .ver 2:0:0:0 }\n.assembly C { }",
-        P1,
+        "",
     ),
     (
         ".assembly extern Lib { .ver 1:0:0:0 }\n.assembly extern Lib { .ver 2:0:0:0 }\n.assembly C { }",
@@ -42,7 +40,7 @@ static SOURCES: [(&str, &str); 16] = [
     // real numbers are bits
     (
         ".assembly extern mscorlib { }\n.assembly A { }\n.method static void M() cil managed { ldc.r8 float64(0x4004000000000000) pop ret }",
-        P1,
+        "",
     ),
     (
         ".assembly extern mscorlib { }\n.assembly A { }\n.method static void M() cil managed { ldc.r8 float32(0) pop ret }",
@@ -56,7 +54,7 @@ static SOURCES: [(&str, &str); 16] = [
     // fields with data
     (
         ".assembly extern mscorlib { }\n.assembly A { }\n.class sequential ansi sealed S extends [mscorlib]System.ValueType { .pack 1 .size 3\n.field static valuetype S X at Q }\n.data Q = { int8(1), int16(0x203) }",
-        P1,
+        "",
     ),
     (
         ".assembly extern mscorlib { }\n.assembly A { }\n.class sequential ansi sealed S extends [mscorlib]System.ValueType { .pack 1 .size 4\n.field static valuetype S X at Q }\n.data Q = { int8(1), int16(0x203) }",
@@ -85,7 +83,8 @@ static SOURCES: [(&str, &str); 16] = [
 fn says(alloc: Global, source: &[u8], text: &str) -> Result<bool, Fail> {
     let mut shelf = shelf_with(alloc, source)?;
     let (number, said) = outcome(alloc, "ilasm a.il -dll", &mut shelf)?;
-    Ok(number == 1 && said.as_str() == text)
+    let status = if text.is_empty() { 0 } else { 1 };
+    Ok(number == status && said.as_str() == text)
 }
 
 #[test]
@@ -122,9 +121,9 @@ fn bounds(rt: HostRuntime) -> Result<(), Fail> {
     let far = "a.il(3): error B2: a short branch is too far\n";
     let deep = "a.il(2): error B4: a signature is deeper than 100\n";
     let cases = [
-        (body, "\nnop", 127, "\nL: ret }", P1),
+        (body, "\nnop", 127, "\nL: ret }", ""),
         (body, "\nnop", 128, "\nL: ret }", far),
-        (field, "[]", 99, " F", P1),
+        (field, "[]", 99, " F", ""),
         (field, "[]", 100, " F", deep),
     ];
     for (front, piece, count, back, text) in cases {

@@ -5,6 +5,6 @@
 #[cfg(test)]
 mod faults;
 #[cfg(test)]
-mod reading;
+mod images;
 #[cfg(test)]
 mod running;

@@ -7,8 +7,6 @@ use std::test::Fail;
 
 const MANIFEST: &[u8] = b".assembly Hello { .ver 1:2:3:4 }";
 
-const P1: &str = "a.il: error P1: this form isn't read yet\n";
-
 /// Words parted by single spaces.
 fn words(alloc: Global, line: &str) -> Result<Words, NoMemory> {
     let mut words = Words::new(alloc);
@@ -60,10 +58,10 @@ static SOURCES: [(&str, u8, &str); 24] = [
         1,
         "a.il(1): error N7: no .assembly\n",
     ),
-    (".assembly A { }\n.class System.Object { }", 1, P1),
-    (".assembly a { }", 1, P1),
-    (".assembly A.B { }", 1, P1),
-    (".assembly 'A' { }", 1, P1),
+    (".assembly A { }\n.class System.Object { }", 0, ""),
+    (".assembly a { }", 0, ""),
+    (".assembly A.B { }", 0, ""),
+    (".assembly 'A' { }", 0, ""),
     (
         ".assembly A { } .assembly\nB { }",
         1,
@@ -79,8 +77,8 @@ static SOURCES: [(&str, u8, &str); 24] = [
         1,
         "a.il(1): error B1: a number or a count is out of its range\n",
     ),
-    (".assembly A { .ver 1:0:0:0 .ver 1:0:0:0 }", 1, P1),
-    (".assembly A { .hash algorithm 0x8004 }", 1, P1),
+    (".assembly A { .ver 1:0:0:0 .ver 1:0:0:0 }", 0, ""),
+    (".assembly A { .hash algorithm 0x8004 }", 0, ""),
     (
         ".assembly extern A { }",
         1,
@@ -145,37 +143,63 @@ fn sources(rt: HostRuntime) -> Result<(), Fail> {
     Ok(())
 }
 
+/// Words, the status of the program over the source of `MANIFEST`, what it says, and the image that stands then.
+static LINES: [(&str, u8, &str, &str); 18] = [
+    ("ilasm a.il", 0, "", "a.exe"),
+    ("ilasm a.il -exe", 0, "", "a.exe"),
+    ("ilasm a.il -dll", 0, "", "a.dll"),
+    ("ilasm -dll a.il", 0, "", "a.dll"),
+    ("ilasm -output=x -dll a.il", 0, "", "x"),
+    ("ilasm a.il -output=b.il", 0, "", "b.il"),
+    ("ilasm b.il -dll", 3, "b.il: cannot be read\n", ""),
+    ("ilasm", 2, "usage fault at word 2\n", ""),
+    ("ilasm -dll", 2, "usage fault at word 3\n", ""),
+    ("ilasm -dll -dll a.il", 2, "usage fault at word 3\n", ""),
+    ("ilasm a.il -dll -exe", 2, "usage fault at word 4\n", ""),
+    ("ilasm a.il -dll -dll", 2, "usage fault at word 4\n", ""),
+    ("ilasm a.il b.il", 2, "usage fault at word 3\n", ""),
+    ("ilasm - -dll", 2, "usage fault at word 2\n", ""),
+    ("ilasm a.il -output=", 2, "usage fault at word 3\n", ""),
+    (
+        "ilasm -output=x a.il -output=y",
+        2,
+        "usage fault at word 4\n",
+        "",
+    ),
+    ("ildasm a.exe", 2, "usage fault at word 1\n", ""),
+    ("peverify a.exe", 2, "usage fault at word 1\n", ""),
+];
+
 #[test]
-fn statuses_and_texts(rt: HostRuntime) -> Result<(), Fail> {
-    let cases: [(&str, &[u8], u8, &str); 8] = [
-        ("ilasm a.il -dll", MANIFEST, 0, ""),
-        (
-            "ilasm a.il -dll",
-            b"\n\xFF".as_slice(),
-            1,
-            "a.il(2): error L1: the source isn't UTF-8\n",
-        ),
-        ("ilasm a.il", MANIFEST, 2, "usage fault at word 3\n"),
-        ("ilasm -dll a.il", MANIFEST, 2, "usage fault at word 2\n"),
-        (
-            "ilasm a.il -dll -dll",
-            MANIFEST,
-            2,
-            "usage fault at word 4\n",
-        ),
-        ("peverify a.il", MANIFEST, 2, "usage fault at word 1\n"),
-        ("ilasm - -dll", MANIFEST, 2, "usage fault at word 2\n"),
-        ("ilasm b.il -dll", MANIFEST, 3, "b.il: cannot be read\n"),
-    ];
-    for (line, source, status, text) in cases {
-        let mut shelf = shelf_with(rt.alloc(), source)?;
+fn lines(rt: HostRuntime) -> Result<(), Fail> {
+    for (line, status, text, output) in LINES.iter() {
+        let mut shelf = shelf_with(rt.alloc(), MANIFEST)?;
         let (number, said) = outcome(rt.alloc(), line, &mut shelf)?;
-        assert_eq!(rt; number, status, "at {line:?}");
-        assert_eq!(rt; said.as_str(), text, "at {line:?}");
-        assert_eq!(rt; shelf.file("a.dll").is_some(), status == 0, "at {line:?}");
+        assert_eq!(rt; number, *status, "at {line:?}");
+        assert_eq!(rt; said.as_str(), *text, "at {line:?}");
+        for name in ["a.exe", "a.dll", "x", "b.il"] {
+            assert_eq!(rt;
+                shelf.file(name).is_some(),
+                name == *output,
+                "{name} at {line:?}"
+            );
+        }
         assert_eq!(rt; shelf.failed_reads(), 0, "at {line:?}");
         assert_eq!(rt; shelf.failed_writes(), 0, "at {line:?}");
     }
+    Ok(())
+}
+
+#[test]
+fn a_source_that_is_no_text(rt: HostRuntime) -> Result<(), Fail> {
+    let mut shelf = shelf_with(rt.alloc(), b"\n\xFF")?;
+    let (number, said) = outcome(rt.alloc(), "ilasm a.il", &mut shelf)?;
+    assert_eq!(rt; number, 1);
+    assert_eq!(rt;
+        said.as_str(),
+        "a.il(2): error L1: the source isn't UTF-8\n"
+    );
+    assert!(rt; shelf.file("a.exe").is_none());
     Ok(())
 }
 

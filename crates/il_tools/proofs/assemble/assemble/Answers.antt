@@ -1,19 +1,29 @@
-use Rattle.std.proofs.Common.{◌≡◌, ◌⊎◌, inl, inr, IsTrue, List, ℕ, Some, ap, sym, ◌∙◌, rules}
-use Rattle.il_base.specs.Outside.{Files}
-use Rattle.il_tools.specs.Output.{HoldsFront}
+use Rattle.std.proofs.Common.{IsTrue}
+use Rattle.il_tools.proofs.AssembleLemmas.{written, begun, changes_after}
 use Rattle.il_tools.proofs.assemble.assemble.Goals as goal
 
-front_of : (a b now : Files) (name name' bytes bytes' : List ℕ) → b ≡ a → name ≡ name' → bytes ≡ bytes'
-    → (now ≡ b) ⊎ HoldsFront now name bytes → (now ≡ a) ⊎ HoldsFront now name' bytes'
-front_of a b now name name' bytes bytes' e n s (inl same) = inl (same ∙ e)
-front_of a b now name name' bytes bytes' e n s (inr front) = inr (rw (← n, ← s) front)
+pub returns-in-Ok-write_file-clause-done : goal.returns-in-Ok-write_file-clause-done
+returns-in-Ok-write_file-clause-done g c tells _ =
+    let now : IsTrue (g.S.Shelf.tells c.read_file.new.shelf) = rw c.in-Ok.ensures.same_tells tells in
+    written (g.S.Shelf.files c.args.shelf.now) (g.S.Shelf.files c.write_file.new.shelf) c.args.file.now c.args.output.now c.in-Ok.source c.in-Ok-image_of.image
+    c.as_slice.result.now c.as_slice-2.result.now c.args.kind (c.in-Ok.ensures.told tells) c.as_slice.ensures c.as_slice-2.ensures c.in-Ok-image_of.ensures.image
+    c.in-Ok.ensures.within (c.in-Ok-write_file.ensures.told now)
+
+pub returns-in-Ok-write_file-clause-others : goal.returns-in-Ok-write_file-clause-others
+returns-in-Ok-write_file-clause-others g c tells =
+    let now : IsTrue (g.S.Shelf.tells c.read_file.new.shelf) = rw c.in-Ok.ensures.same_tells tells in
+    changes_after (g.S.Shelf.files c.args.shelf.now) (g.S.Shelf.files c.read_file.new.shelf) (g.S.Shelf.files c.write_file.new.shelf) c.args.output.now
+    (c.in-Ok.ensures.same_files tells) (c.in-Ok-write_file.ensures.others now)
 
 pub returns-clause-begun : goal.returns-clause-begun
 returns-clause-begun g c tells _ =
-    let now : IsTrue (g.S.Shelf.tells c.read_file.new.shelf) = rw c.in-Ok-read_file.ensures.same_tells tells in (
-      c.in-Ok-read_file.source,
-      c.in-Ok-image_of.image,
-      search rules,
-      rw c.as_slice-2.ensures at c.in-Ok-image_of.ensures.image,
-      front_of _ _ _ _ _ _ _ (c.in-Ok-read_file.ensures.same_files tells) (search rules) c.as_slice-3.ensures (c.in-Err-write_file.ensures.front now),
-    )
+    let now : IsTrue (g.S.Shelf.tells c.read_file.new.shelf) = rw c.in-Ok.ensures.same_tells tells in
+    begun (g.S.Shelf.files c.args.shelf.now) (g.S.Shelf.files c.write_file.new.shelf) c.args.file.now c.args.output.now c.in-Ok.source c.in-Ok-image_of.image
+    c.as_slice.result.now c.as_slice-2.result.now c.args.kind (c.in-Ok.ensures.told tells) c.as_slice.ensures c.as_slice-2.ensures c.in-Ok-image_of.ensures.image
+    (g.S.Shelf.files c.read_file.new.shelf) (c.in-Ok.ensures.same_files tells) (c.in-Err-write_file.ensures.front now)
+
+pub returns-clause-others : goal.returns-clause-others
+returns-clause-others g c tells =
+    let now : IsTrue (g.S.Shelf.tells c.read_file.new.shelf) = rw c.in-Ok.ensures.same_tells tells in
+    changes_after (g.S.Shelf.files c.args.shelf.now) (g.S.Shelf.files c.read_file.new.shelf) (g.S.Shelf.files c.write_file.new.shelf) c.args.output.now
+    (c.in-Ok.ensures.same_files tells) (c.in-Err-write_file.ensures.others now)

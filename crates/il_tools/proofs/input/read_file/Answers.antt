@@ -1,7 +1,6 @@
-use Rattle.std.proofs.Common.{◌≡◌, ◌+◌, ◌≤◌, ◌++◌, IsTrue, Some, length, take, sym, ap, ◌∙◌, arith, rules}
+use Rattle.std.proofs.Common.{◌≡◌, IsTrue, sym, ap, ◌∙◌, arith}
 use Rattle.std.proofs.lemmas.List.{length-append, length-drop, length-take}
 use Rattle.std.proofs.lemmas.Option.{same_Some}
-use Rattle.il_base.specs.Outside.{ReadsAt}
 use Rattle.il_tools.proofs.FrontLemmas.{read_grows}
 use Rattle.il_tools.proofs.input.read_file.Goals as goal
 

@@ -1,4 +1,4 @@
-use Rattle.std.proofs.Common.{◌≡◌, ◌+◌, ◌≤◌, ◌++◌, IsTrue, Some, length, take, ap, ◌∙◌, arith, rules}
+use Rattle.std.proofs.Common.{IsTrue, Some, ap, ◌∙◌, arith}
 use Rattle.il_tools.proofs.FrontLemmas.{front_grows}
 use Rattle.il_tools.proofs.output.append_all.Goals as goal
 

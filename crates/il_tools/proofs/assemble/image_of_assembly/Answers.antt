@@ -1,0 +1,12 @@
+use Rattle.std.proofs.Common.{subst, List, ℕ}
+use Rattle.image_writer.specs.Made.{IsMade}
+use Rattle.il_tools.proofs.FitsLemmas.{fits_made}
+use Rattle.il_tools.proofs.assemble.image_of_assembly.Goals as goal
+
+pub returns-in-Ok-clause-image : goal.returns-in-Ok-clause-image
+returns-in-Ok-clause-image c = record {
+  meant = c.args.assembly.now;
+  denoted = c.requires.denoted;
+  fits = fits_made c.args.assembly.now c.write.result c.in-Ok.image c.in-Ok.is c.write.ensures.too_large c.write.ensures.strings_full;
+  made = subst (λ (id : List ℕ). IsMade c.args.assembly.now id c.args.kind c.in-Ok.image) c.identifier_of.ensures c.in-Ok.ensures.made;
+}

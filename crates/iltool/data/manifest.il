@@ -1,1 +1,0 @@
-.assembly Hello { .ver 1:2:3:4 }

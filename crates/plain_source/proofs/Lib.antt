@@ -1,4 +1,0 @@
-pub mod Derivations
-pub mod LawLemmas
-pub mod NumberLemmas
-pub mod ReadLemmas

@@ -1,6 +1,0 @@
-pub mod Derived
-pub mod Form
-pub mod Laws
-pub mod Names
-pub mod Numbers
-pub mod Reading
