@@ -1,0 +1,3 @@
+.assembly extern mscorlib { }
+.assembly A { }
+.field int32[,1...5] F

@@ -1,0 +1,1 @@
+.assembly A { } .corflags 0x100000001

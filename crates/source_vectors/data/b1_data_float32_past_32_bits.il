@@ -1,0 +1,3 @@
+.assembly extern mscorlib { }
+.assembly A { }
+.data float32(0x100000000)

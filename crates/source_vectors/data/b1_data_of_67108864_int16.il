@@ -1,0 +1,3 @@
+.assembly extern mscorlib { }
+.assembly A { }
+.data int16[67108864]

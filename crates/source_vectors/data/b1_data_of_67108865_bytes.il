@@ -1,0 +1,3 @@
+.assembly extern mscorlib { }
+.assembly A { }
+.data int8[67108865]

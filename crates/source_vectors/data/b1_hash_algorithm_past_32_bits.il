@@ -1,0 +1,1 @@
+.assembly A { .hash algorithm 0x100000000 }

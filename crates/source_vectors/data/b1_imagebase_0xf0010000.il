@@ -1,0 +1,1 @@
+.assembly A { } .imagebase 0xF0010000

@@ -1,0 +1,3 @@
+.assembly extern mscorlib { }
+.assembly A { }
+.field [-1] int32 F

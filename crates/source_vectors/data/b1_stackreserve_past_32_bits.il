@@ -1,0 +1,1 @@
+.assembly A { } .stackreserve 0x100000000

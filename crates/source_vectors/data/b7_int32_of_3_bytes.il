@@ -1,0 +1,3 @@
+.assembly extern mscorlib { }
+.assembly A { }
+.field static int32 F at Q .data Q = int8[3]

@@ -1,0 +1,2 @@
+// numbers by their width, bits of reals, units of texts, and other names of instructions
+.assembly A { } .method static void M() cil managed { ldc.i4 0xFFFFFFFF ldc.i4 -2147483648 ldc.i4.s 255 ldc.i8 0xFFFFFFFFFFFFFFFF unaligned. 255 ldc.r4 float32(-1) ldc.r4 (00 00 80 3F) ldc.r8 float64(0x4004000000000000) ldc.r8 (00 00 00 00 00 00 F0 3F) ldstr "a" + "😀" ldstr bytearray (00 D8 41) ldstr "\101\t\\" ldstr "" endfault ldind.u8 ldelem.any object stelem.any string }

@@ -1,0 +1,2 @@
+// names of arguments count from 1 where there is a `this` that isn't written; all locals are joined
+.assembly extern mscorlib { } .assembly A { } .class C { .method instance void M(int32 a, int32 b, int32 a) cil managed { .locals (int32 x, [1] string y) ldarg 0 ldarg a ldarg.s b starg.s b ldarga a ldloc y stloc.s x ldloca 7 .locals init (int8 x, bool z) ldloc z ret } .method instance explicit void N(class C a, int32 b) cil managed { ldarg a ldarg b ldarg 300 } .method void O(int32 a) cil managed { starg a } }

@@ -1,0 +1,2 @@
+// generic parameters with their bounds, and a name is that of the class around it alone
+.assembly extern mscorlib { } .assembly A { } .class C<T, + U, class .ctor ([mscorlib]I, !T) V, valuetype - flags(0x40) T> extends class C<!U, !3, object, class C/D<!V>[]> { .class nested public D<X, T> { .field !T F } .field !T F .param type V .custom void [mscorlib]X::.ctor() = (01) .custom void [mscorlib]X::.ctor() = (02) .param type [4] .custom void [mscorlib]X::.ctor() = (03) .class nested public E { } .custom void [mscorlib]X::.ctor() = (04) }

@@ -1,0 +1,2 @@
+// types: suffixes go around what stands before them; sizes and lower bounds of arrays
+.assembly extern mscorlib { } .assembly A { } .field int32[2...9,-5...-4] A .field int32[1,2...] B .field uint8[,1...] C .field char[...] D .field bool[0...,] E .field unsigned int16*[]& F .field string modopt([mscorlib]X) modreq(class [mscorlib]Y[]) pinned[] G .field valuetype [mscorlib]N.G/H<native int, class [mscorlib]J<!0>>[,] H .field native unsigned int I .field typedref J .field object[1,2,,] K

@@ -1,0 +1,3 @@
+.assembly extern mscorlib { }
+.assembly A { }
+.class C { .event C E { } .event [mscorlib]X E { } }

@@ -1,0 +1,1 @@
+.assembly extern Lib { } .assembly extern X as 'Lib' { }

@@ -1,0 +1,1 @@
+.assembly extern Lib as X { } .assembly extern X { }

@@ -1,0 +1,1 @@
+.assembly extern Lib { .ver 1:0:0:0 } .assembly extern Lib { .ver 2:0:0:0 } .assembly Z { }

@@ -1,0 +1,1 @@
+.module A .module B .assembly A { }

@@ -1,0 +1,3 @@
+.assembly A { }
+  "a
+b"

@@ -1,0 +1,2 @@
+.assembly A { }
+  a 0.5

@@ -1,0 +1,2 @@
+.assembly A { }
+  1E-5

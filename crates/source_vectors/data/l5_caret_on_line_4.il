@@ -1,0 +1,4 @@
+.assembly A { }
+  
+
+ a ^

@@ -1,0 +1,2 @@
+.assembly A { }
+  0x10.5

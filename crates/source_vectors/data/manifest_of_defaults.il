@@ -1,0 +1,2 @@
+// the defaults
+.assembly A { }

@@ -1,0 +1,2 @@
+// constants: numbers by their width, and those of texts by units
+.assembly extern mscorlib { } .assembly A { } .field public static literal int32 A = int8(255) .field int32 B = uint16(-1) .field int32 C = unsigned int64(-1) .field int32 D = int64(0xFFFFFFFFFFFFFFFE) .field int32 E = char(65) .field int32 F = bool(true) .field int32 G = "a" + "\102" .field int32 H = bytearray (41 00 42) .field int32 I = nullref .field int32 J = float32(-1) .field int32 K = float64(0x3FF0000000000000) .field flags(0xFFFF) int32 L = int32(0x80000000)

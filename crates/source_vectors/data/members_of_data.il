@@ -1,0 +1,2 @@
+// data with its items and repeats, of which a field takes the front; offsets
+.assembly extern mscorlib { } .assembly A { } .class sequential ansi sealed S extends [mscorlib]System.ValueType { .pack 1 .size 3 .field static valuetype S X at Q .field [8] public int32 F } .data cil Q = { int8(1), int16(0x203)[2], bytearray (0A), float32(1), int8 } .field int64 G at Q .field int64 H at R .field int32 I at S .data S = int32(-2) .data R = int32[2]

@@ -1,0 +1,2 @@
+// a method's generic parameters and overrides, the start of the program and flags
+.assembly extern mscorlib { } .assembly A { } .class C<T> { .method public virtual static hidebysig !!V M<T, (class C<!!T>) V>(!T, !!T) cil managed synchronized flags(0x80) { .override method instance void class C<int8>::N<[3]>(int32) .override [mscorlib]I::X .entrypoint .param type V .custom void [mscorlib]X::.ctor() .override class C<!T>::.ctor } .method abstract instance explicit vararg void N(class C<!0>) runtime managed internalcall { } }

@@ -1,0 +1,2 @@
+// rows of parameters: what is said beside the type, whose numbers begin at 1, 0 being the result
+.assembly extern mscorlib { } .assembly A { } .method public static void M([in] int32 a, [out][opt] int32 b, int32, int32 c, int32) cil managed { .param [0] flags(4) .custom void [mscorlib]X::.ctor() = (01) .custom void [mscorlib]X::.ctor() = (02) .param [2] flags(0x1008) = int8(1) .param [5] .custom void [mscorlib]X::.ctor() = (03) .param [2] flags(0x20) = int8(2) ret .custom void [mscorlib]X::.ctor() = (04) }

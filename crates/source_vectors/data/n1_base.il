@@ -1,0 +1,1 @@
+.assembly A { .ver 70000:0:0:0 } .class C extends D { }

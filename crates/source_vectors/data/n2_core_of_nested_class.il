@@ -1,0 +1,3 @@
+.assembly extern y { }
+.assembly A { }
+.class A { .class nested public B extends [y]Z { } }

@@ -1,0 +1,3 @@
+.assembly extern mscorlib { }
+.assembly A { }
+.class C { .method int32 get() { } .property int32 P() { .get int32 C::get<[1]>() } .class D { .method int32 get() { } } }

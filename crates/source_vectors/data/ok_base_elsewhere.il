@@ -1,0 +1,1 @@
+.assembly extern mscorlib { } .assembly extern Test { } .assembly Lib { } .class B extends [Test]A { }

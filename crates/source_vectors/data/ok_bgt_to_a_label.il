@@ -1,0 +1,1 @@
+.assembly A { } .method static void M() cil managed { ldnull ldnull bgt.un L L: ret }

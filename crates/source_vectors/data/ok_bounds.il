@@ -1,0 +1,3 @@
+.assembly extern mscorlib { }
+.assembly A { }
+.field int32[2...9,-5...-4] F

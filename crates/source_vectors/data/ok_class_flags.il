@@ -1,0 +1,3 @@
+.assembly extern mscorlib { }
+.assembly A { }
+.class public flags(6) C { }

@@ -1,0 +1,3 @@
+.assembly extern mscorlib { }
+.assembly A { }
+.field !3[] F

@@ -1,0 +1,2 @@
+.assembly extern mscorlib { } .assembly Test { }
+.class interface I implements I { }

@@ -1,0 +1,3 @@
+.assembly extern mscorlib { }
+.assembly A { }
+.class C { .field int32[1,2...] Fx = "ab" }

@@ -1,0 +1,1 @@
+.assembly A { .custom void '<Module>'::.ctor() = (01) }

@@ -1,0 +1,1 @@
+.field int32 at

@@ -1,0 +1,3 @@
+.field
+int32
+at

@@ -1,0 +1,1 @@
+.method void M() { br }

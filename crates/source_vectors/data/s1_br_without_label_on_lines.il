@@ -1,0 +1,6 @@
+.method
+void
+M()
+{
+br
+}

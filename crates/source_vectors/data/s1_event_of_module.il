@@ -1,0 +1,1 @@
+.event X E { .addon void X::A() .custom void X::.ctor() = (00) }

@@ -1,0 +1,13 @@
+.event
+X
+E
+{
+.addon
+void
+X::A()
+.custom
+void
+X::.ctor()
+=
+(00)
+}

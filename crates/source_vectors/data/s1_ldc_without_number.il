@@ -1,0 +1,1 @@
+.method void M() { ldc.i4 }

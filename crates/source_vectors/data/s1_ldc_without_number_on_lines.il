@@ -1,0 +1,6 @@
+.method
+void
+M()
+{
+ldc.i4
+}

@@ -1,0 +1,7 @@
+.method
+void
+M()
+{
+.locals
+([0])
+}

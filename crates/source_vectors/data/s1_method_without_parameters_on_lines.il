@@ -1,0 +1,5 @@
+.method
+void
+M
+{
+}

@@ -1,0 +1,8 @@
+.property
+int32
+P()
+{
+.get
+int32
+X::G()
+}

@@ -1,0 +1,5 @@
+.property
+int32
+P
+{
+}

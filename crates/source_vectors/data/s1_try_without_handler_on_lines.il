@@ -1,0 +1,8 @@
+.method
+void
+M()
+{
+.try
+{
+}
+}

@@ -1,0 +1,2 @@
+.assembly A { }
+.interfaceimpl

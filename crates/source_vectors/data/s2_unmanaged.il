@@ -1,0 +1,1 @@
+.method static void M() unmanaged { }

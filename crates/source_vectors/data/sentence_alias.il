@@ -1,0 +1,1 @@
+.assembly extern A as B { }

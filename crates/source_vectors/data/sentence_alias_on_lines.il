@@ -1,0 +1,7 @@
+.assembly
+extern
+A
+as
+B
+{
+}

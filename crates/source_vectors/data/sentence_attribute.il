@@ -1,0 +1,1 @@
+.custom instance void [a.b]X/Y::.ctor()

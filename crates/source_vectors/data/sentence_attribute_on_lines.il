@@ -1,0 +1,4 @@
+.custom
+instance
+void
+[a.b]X/Y::.ctor()

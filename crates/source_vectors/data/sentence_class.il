@@ -1,0 +1,1 @@
+.class public C<T, - U, (int32) V> extends class X<!0> implements Y, int32[] { }

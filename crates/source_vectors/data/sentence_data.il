@@ -1,0 +1,1 @@
+.data D = { int8(1)[2], bytearray (01), float64 }

@@ -1,0 +1,9 @@
+.data
+D
+=
+{
+int8(1)[2],
+bytearray
+(01),
+float64
+}

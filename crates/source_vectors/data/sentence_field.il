@@ -1,0 +1,1 @@
+.class C { .field [4] int32[0...,3,] F = int8(1) at D }

@@ -1,0 +1,1 @@
+.method vararg int32 M([in] int32 a, !!T) cil managed { .try L to M filter L handler M to N L: M: N: }

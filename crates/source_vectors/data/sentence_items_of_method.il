@@ -1,0 +1,1 @@
+.method void M() { switch () ldtoken method void X::Y<[1]>(..., int32) .param type T .param [1] flags(1) = nullref }

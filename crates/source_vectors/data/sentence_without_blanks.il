@@ -1,0 +1,1 @@
+.assembly A{.ver 1:0:0:0}
