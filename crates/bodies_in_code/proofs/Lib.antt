@@ -1,0 +1,4 @@
+pub mod BodyLemmas
+pub mod GivenLemmas
+pub mod HeaderLemmas
+pub mod SectionLemmas

@@ -1,0 +1,12 @@
+pub mod DecidedMaps
+pub mod DeclaredRows
+pub mod FieldNames
+pub mod HeapUnits
+pub mod MemberKinds
+pub mod MemberRows
+pub mod MemberTokens
+pub mod MembersRead
+pub mod MethodNames
+pub mod NamingsRead
+pub mod OwnRuns
+pub mod TextLemmas

@@ -1,0 +1,4 @@
+pub mod Members
+pub mod Namings
+pub mod Readable
+pub mod Texts

@@ -1,0 +1,5 @@
+pub mod Distinct
+pub mod Entries
+pub mod Fields
+pub mod InUse
+pub mod Once
