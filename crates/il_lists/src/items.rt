@@ -85,11 +85,15 @@ impl<T> Items<T> {
 }
 
 impl<T: Drop> Items<T> {
-    /// Adds an item at the end.
+    /// Adds an item at the end. A first item gets room for itself alone, since many lists of a tree
+    /// have one item.
     pub fn push(&mut self, item: T) -> Result<(), NoMemory>
         ensures ok { OnOk result (self.new ≡ self.old ++ item ∷ []) }
         ensures err { OnErr result (self.new ≡ self.old) }
     {
+        if self.items.is_empty() {
+            self.items.reserve_exact(1)?;
+        }
         self.items.push(item)?;
         Ok(())
     }
