@@ -11,6 +11,7 @@ use Rattle.type_terms.specs.declared.term.Owner.{Owner, out-Owner}
 use Rattle.type_terms.specs.declared.term.Owner.TheVariants as owners
 use Rattle.type_terms.specs.declared.term.SigType.{SigType}
 use Rattle.image_references.specs.Blobs.{HoldsBlob, KeepsBlobs}
+use Rattle.image_references.specs.Bounds.{IsTypeInBounds}
 use Rattle.image_references.specs.Found.{token_in}
 use Rattle.image_references.specs.Indexes.{IsToken}
 use Rattle.image_references.specs.KnownTokens.{names_apart, types_apart, layer_token}
@@ -171,10 +172,10 @@ one_more old new cells (inr e) = omega (arith, ap (length {A = Cells}) e.0 ∙ l
 
 -- a row more, or one that was there
 pub spec_added : (a : References) (rows : List Cells) (specs : List (SigType × ℕ)) (t : SigType) (blob row token : ℕ)
-    → AreKnown a → token_in types_apart a.known.specs t ≡ None → HasSignature SpellsType a t blob → IsRowAt rows (one_cell blob) row
+    → AreKnown a → token_in types_apart a.known.specs t ≡ None → HasSignature SpellsType a t blob → IsTypeInBounds t → IsRowAt rows (one_cell blob) row
     → (rows ≡ a.referred.specs) ⊎ ((rows ≡ a.referred.specs ++ one_cell blob ∷ []) × Lacks a.referred.specs (one_cell blob))
     → IsToken token 0x1B row → specs ≡ a.known.specs ++ (t, token) ∷ [] → IsSpecified a (with_specs a rows specs) t 4 token
-spec_added a rows specs t blob row token known lacks signature at kept is learnt =
+spec_added a rows specs t blob row token known lacks signature bounds at kept is learnt =
     let b : References = with_specs a rows specs in
     let on : GoesOn a.referred.specs rows = goes_on a.referred.specs rows (one_cell blob) kept in
     let g : Grows a b = specs_grow a rows specs on (learns_one a.known.specs specs t token learnt) in
@@ -193,7 +194,7 @@ spec_added a rows specs t blob row token known lacks signature at kept is learnt
         rows = record {
           names = s.rows.names;
           specs = each_more (IsSpecRow b) a.referred.specs rows (one_cell blob) (one_of a.referred.specs rows (one_cell blob) kept) s.rows.specs
-              (record { of = t; blob = blob; are = refl; signature = signature_kept SpellsType a b t blob g signature });
+              (record { of = t; blob = blob; are = refl; signature = signature_kept SpellsType a b t blob g signature; in_bounds = bounds });
           members = s.rows.members;
           instances = s.rows.instances;
           locals = s.rows.locals;

@@ -39,18 +39,27 @@ signature_can a b g s h = record {
   ret = still_writable a b g s.ret h.ret;
   params = still_writable_each a b g s.params h.params;
   sentinel = h.sentinel;
+  in_bounds = h.in_bounds;
 }
 
 pub method_can : (a b : References) → Grows a b → (m : MethodRef) → IsMethodRefWritable a m → IsMethodRefWritable b m
 method_can a b g m h = record {
   owner = still_writable_owner a b g m.owner h.owner;
   name = h.name;
+  named = h.named;
   sig = signature_can a b g m.sig h.sig;
   args = arguments_can a b g m.args h.args;
+  in_bounds = h.in_bounds;
 }
 
 pub field_can : (a b : References) → Grows a b → (f : FieldRef) → IsFieldRefWritable a f → IsFieldRefWritable b f
-field_can a b g f h = record { owner = still_writable_owner a b g f.owner h.owner; name = h.name; of = still_writable a b g f.of h.of }
+field_can a b g f h = record {
+  owner = still_writable_owner a b g f.owner h.owner;
+  name = h.name;
+  named = h.named;
+  of = still_writable a b g f.of h.of;
+  in_bounds = h.in_bounds;
+}
 
 operand_can : (a b : References) → Grows a b → (o : Operand) → IsOperandWritable a o → IsOperandWritable b o
 operand_can a b g (operand.Method m) h = method_can a b g m h

@@ -9,9 +9,11 @@ use Rattle.metadata_tables.specs.declared.coded.Coded.TheVariants.{MethodDefOrRe
 use Rattle.sig_codec.specs.Signature.{SpellsLocals, SpellsInstantiation}
 use Rattle.type_terms.specs.declared.reference.MethodRef.{MethodRef}
 use Rattle.type_terms.specs.declared.term.SigType.{SigType}
+use Rattle.image_references.specs.Bounds.{AreTypesInBounds}
 use Rattle.image_references.specs.Found.{token_in}
 use Rattle.image_references.specs.Indexes.{IsToken, index_of_token}
 use Rattle.image_references.specs.KnownTokens.{locals_apart, texts_apart}
+use Rattle.image_references.specs.Loaded.{AreUnits}
 use Rattle.image_references.specs.Members.{Leaves, HasLocals, HasLoaded, HasArguments, IsInstanceOf, instance_weight}
 use Rattle.image_references.specs.NameTokens.{Learns}
 use Rattle.image_references.specs.Noted.{IsSigned}
@@ -64,7 +66,7 @@ instances_grow a rows on = let g = grows_refl a in record {
 pub instance_added : (a : References) (rows : List Cells) (cells : Cells) (generic blob row token : ℕ) → AreKnown a
     → cells ≡ record { first = index_of_token MethodDefOrRef generic; second = blob; third = 0 } → IsRowAt rows cells row
     → (rows ≡ a.referred.instances) ⊎ ((rows ≡ a.referred.instances ++ cells ∷ []) × Lacks a.referred.instances cells) → IsToken token 0x2B row
-    → (m : MethodRef) → HasGenericToken a m generic → HasArguments a blob
+    → (m : MethodRef) → HasGenericToken a m generic → HasArguments m.sig.generic a blob
     → Leaves (IsInstanceOf generic blob) a (with_instances a rows) 8 token
 instance_added a rows cells generic blob row token known same at kept is m generic_is signed =
     let b : References = with_instances a rows in
@@ -78,7 +80,17 @@ instance_added a rows cells generic blob row token known same at kept is m gener
         members = s.rows.members;
         instances = each_more (IsInstanceRow b) a.referred.instances rows cells (one_of a.referred.instances rows cells kept) s.rows.instances
             (subst (IsInstanceRow b) (sym same)
-            (record { method = m; generic = generic; arguments = signed.0; generic_is = generic_kept a b m generic g generic_is; first_is = refl; signature = signature_kept SpellsInstantiation a b signed.0 blob g signed.1 }));
+            (record {
+              method = m;
+              generic = generic;
+              arguments = signed.0;
+              generic_is = generic_kept a b m generic g generic_is;
+              first_is = refl;
+              signature = signature_kept SpellsInstantiation a b signed.0 blob g signed.1;
+              third_is = refl;
+              in_bounds = signed.2;
+              count = signed.3;
+            }));
         locals = s.rows.locals;
       });
       room = instances_grown a b (one_more a.referred.instances rows cells kept) refl refl refl refl refl;
@@ -147,12 +159,12 @@ locals_grow a rows locals on l = let g = grows_refl a in record {
 }
 
 pub locals_given : {E : Type 0} (a : References) (rows : List Cells) (locals : List (List SigType × ℕ)) (ts : List SigType) (blob row token : ℕ) (r : Result ℕ E) → AreKnown a
-    → HasSignature SpellsLocals a ts blob → IsRowAt rows (one_cell blob) row
+    → HasSignature SpellsLocals a ts blob → AreTypesInBounds ts → IsRowAt rows (one_cell blob) row
     → (rows ≡ a.referred.locals) ⊎ ((rows ≡ a.referred.locals ++ one_cell blob ∷ []) × Lacks a.referred.locals (one_cell blob)) → IsToken token 0x11 row
     → IfOk r (λ given. token_in locals_apart locals ts ≡ Some given) → OnOk r ((locals ≡ a.known.locals) ⊎ (locals ≡ a.known.locals ++ (ts, token) ∷ []))
     → IfOk r (Leaves (HasLocals ts) a (with_locals a rows locals) 4)
-locals_given a rows locals ts blob row token (Err e) known signed at kept is found given = tt
-locals_given a rows locals ts blob row token (Ok n) known signed at kept is found given =
+locals_given a rows locals ts blob row token (Err e) known signed bounds at kept is found given = tt
+locals_given a rows locals ts blob row token (Ok n) known signed bounds at kept is found given =
     let b : References = with_locals a rows locals in
     let g : Grows a b = locals_grow a rows locals (goes_on a.referred.locals rows (one_cell blob) kept) (learns_either a.known.locals locals ts token given) in
     let s = still a b g known in
@@ -173,7 +185,7 @@ locals_given a rows locals ts blob row token (Ok n) known signed at kept is foun
           members = s.rows.members;
           instances = s.rows.instances;
           locals = each_more (IsLocalsRow b) a.referred.locals rows (one_cell blob) (one_of a.referred.locals rows (one_cell blob) kept) s.rows.locals
-              (record { locals = ts; blob = blob; are = refl; signature = signature_kept SpellsLocals a b ts blob g signed });
+              (record { locals = ts; blob = blob; are = refl; signature = signature_kept SpellsLocals a b ts blob g signed; in_bounds = bounds });
         };
       };
       room = locals_grown a b (one_more a.referred.locals rows (one_cell blob) kept) refl refl refl refl refl;
@@ -214,15 +226,15 @@ unfolding size
 same_user a user texts same = omega (arith, ap (λ h. length h.bytes) same)
 
 pub loaded_given : {E : Type 0} (a : References) (user : Heap) (texts : List (List ℕ × ℕ)) (units : List ℕ) (index token : ℕ) (r : Result ℕ E) → AreKnown a
-    → user ≡ a.heaps.user → KeepsUnits a.heaps.user user → HoldsUnits user (bytes_of_units units) index → IsToken token 0x70 index
+    → AreUnits units → user ≡ a.heaps.user → KeepsUnits a.heaps.user user → HoldsUnits user (bytes_of_units units) index → IsToken token 0x70 index
     → IfOk r (λ given. token_in texts_apart texts units ≡ Some given) → OnOk r ((texts ≡ a.known.texts) ⊎ (texts ≡ a.known.texts ++ (units, token) ∷ []))
     → IfOk r (Leaves (HasLoaded units) a (with_texts a user texts) 0)
-loaded_given a user texts units index token (Err e) known same k holds is found given = tt
-loaded_given a user texts units index token (Ok n) known same k holds is found given =
+loaded_given a user texts units index token (Err e) known are same k holds is found given = tt
+loaded_given a user texts units index token (Ok n) known are same k holds is found given =
     let b : References = with_texts a user texts in
     let g : Grows a b = texts_grow a user texts k (learns_either a.known.texts texts units token given) in
     let s = still a b g known in
-    let one : IsTextToken b units token = record { index = index; holds = holds; is = is } in
+    let one : IsTextToken b units token = record { index = index; holds = holds; is = is; are_units = are } in
     record {
       grows = g;
       known = record {

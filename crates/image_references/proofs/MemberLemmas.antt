@@ -1,5 +1,5 @@
 -- Rows of members that have been found or added, and the tokens that fields and methods are given.
-use Rattle.std.proofs.Common.{◌≡◌, ◌⊎◌, inl, inr, refl, sym, subst, ℕ, ◌+◌, ◌*◌, ◌≤◌, ◌-◌, List, [], ◌∷◌, ◌++◌, length, Some, Result, Ok, Err, arith}
+use Rattle.std.proofs.Common.{◌≡◌, ◌≢◌, ◌⊎◌, inl, inr, refl, sym, subst, ℕ, ◌+◌, ◌*◌, ◌≤◌, ◌-◌, List, [], ◌∷◌, ◌++◌, length, Some, Result, Ok, Err, arith}
 use Rattle.std.specs.Prelude.{IfOk, OnOk}
 use Rattle.assembly_tree.specs.Weight.{field_ref_weight, owner_weight, type_weight}
 use Rattle.sig_codec.specs.Spelling.{Notation}
@@ -7,11 +7,12 @@ use Rattle.sig_codec.specs.Signature.{SpellsMethod, SpellsField}
 use Rattle.type_terms.specs.declared.reference.FieldRef.{FieldRef}
 use Rattle.type_terms.specs.declared.reference.MethodRef.{MethodRef}
 use Rattle.type_terms.specs.declared.term.Owner.{Owner}
+use Rattle.image_references.specs.Bounds.{IsTypeInBounds, IsMethodInBounds}
 use Rattle.image_references.specs.Found.{token_in}
 use Rattle.image_references.specs.KnownTokens.{methods_apart, fields_apart}
 use Rattle.image_references.specs.Members.{member_cells, IsRowToken, of_declared, of_referred, Leaves, HasField, HasMethod}
 use Rattle.image_references.specs.NameTokens.{Learns}
-use Rattle.image_references.specs.References.{tokens_of, size, HasSignature, HasMemberToken, HasGenericToken, IsMethodToken, IsFieldToken, IsNameRow, IsSpecRow, IsLocalsRow, IsMemberSignature, IsReferredMember, IsInstanceRow, AreReferred, Grows, AreKnown}
+use Rattle.image_references.specs.References.{tokens_of, size, HasSignature, HasMemberToken, HasGenericToken, IsMethodToken, IsFieldToken, IsNameRow, IsSpecRow, IsLocalsRow, IsMemberSignature, IsMemberInBounds, IsReferredMember, IsInstanceRow, AreReferred, Grows, AreKnown}
 use Rattle.image_references.specs.References as references
 use Rattle.image_references.specs.Rows.{EachRow, AddsOneAtMost}
 use Rattle.image_references.specs.Texts.{HoldsText}
@@ -37,14 +38,14 @@ member_of Spells r table declared o text x type name blob token owner named sign
 -- the rows of members, where one has come at most
 members_come : (a b : References) (rows : List Cells) (owner : Owner) (token : ℕ) (text : List ℕ) (name blob : ℕ) → RowsStill b a
     → b.referred.names ≡ a.referred.names → b.referred.specs ≡ a.referred.specs → b.referred.members ≡ rows → b.referred.instances ≡ a.referred.instances → b.referred.locals ≡ a.referred.locals
-    → tokens_of b owner ≡ Some token → HoldsText b.heaps.strings text name → IsMemberSignature b blob → AddsOneAtMost (member_cells token name blob) a.referred.members rows
-    → AreReferred b
-members_come a b rows owner token text name blob s n p m i l owned named signed adds = record {
+    → tokens_of b owner ≡ Some token → HoldsText b.heaps.strings text name → text ≢ [] → (signed : IsMemberSignature b blob) → IsMemberInBounds b blob signed
+    → AddsOneAtMost (member_cells token name blob) a.referred.members rows → AreReferred b
+members_come a b rows owner token text name blob s n p m i l owned held some signed bounds adds = record {
   names = subst (EachRow (IsNameRow b)) (sym n) s.names;
   specs = subst (EachRow (IsSpecRow b)) (sym p) s.specs;
   members = subst (EachRow (IsReferredMember b)) (sym m)
       (each_more (IsReferredMember b) a.referred.members rows (member_cells token name blob) adds s.members
-      (record { owner = owner; token = token; name = text; owner_is = owned; parent_is = refl; name_is = named; signature = signed }));
+      (record { owner = owner; token = token; name = text; owner_is = owned; parent_is = refl; name_is = held; signature = signed; named = some; in_bounds = bounds }));
   instances = subst (EachRow (IsInstanceRow b)) (sym i) s.instances;
   locals = subst (EachRow (IsLocalsRow b)) (sym l) s.locals;
 }
@@ -89,13 +90,13 @@ fields_grow a rows fields on l = let g = grows_refl a in record {
 }
 
 pub field_given : {E : Type 0} (a : References) (rows : List Cells) (fields : List (FieldRef × ℕ)) (f : FieldRef) (type name blob token : ℕ) (r : Result ℕ E) → AreKnown a
-    → tokens_of a f.owner ≡ Some type → HoldsText a.heaps.strings f.name name → HasSignature SpellsField a f.of blob
+    → tokens_of a f.owner ≡ Some type → HoldsText a.heaps.strings f.name name → HasSignature SpellsField a f.of blob → f.name ≢ [] → IsTypeInBounds f.of
     → IsRowToken 0x04 a.declared.fields rows type name blob token → GoesOn a.referred.members rows → length rows ≤ length a.referred.members + 1
     → AddsOneAtMost (member_cells type name blob) a.referred.members rows
     → IfOk r (λ given. token_in fields_apart fields f ≡ Some given) → OnOk r ((fields ≡ a.known.fields) ⊎ (fields ≡ a.known.fields ++ (f, token) ∷ []))
     → IfOk r (Leaves (HasField f) a (with_fields a rows fields) 12)
-field_given a rows fields f type name blob token (Err e) known owner named signed at on more adds found kept = tt
-field_given a rows fields f type name blob token (Ok given) known owner named signed at on more adds found kept =
+field_given a rows fields f type name blob token (Err e) known owner named signed some bounds at on more adds found kept = tt
+field_given a rows fields f type name blob token (Ok given) known owner named signed some bounds at on more adds found kept =
     let b : References = with_fields a rows fields in
     let g : Grows a b = fields_grow a rows fields on (learns_either a.known.fields fields f token kept) in
     let s = still a b g known in
@@ -113,7 +114,7 @@ field_given a rows fields f type name blob token (Ok given) known owner named si
         locals = s.locals;
         texts = s.texts;
         rows = members_come a b rows f.owner type f.name name blob s.rows refl refl refl refl refl (tokens_kept a b g f.owner type owner)
-            (text_kept a.heaps.strings b.heaps.strings f.name name g.strings named) (inr (f.of, signature_kept SpellsField a b f.of blob g signed)) adds;
+            (text_kept a.heaps.strings b.heaps.strings f.name name g.strings named) some (inr (f.of, signature_kept SpellsField a b f.of blob g signed)) bounds adds;
       };
       room = members_grown a b more refl refl refl refl refl;
       is = found;
@@ -149,18 +150,18 @@ members_grow a rows on = let g = grows_refl a in record {
 }
 
 pub generic_by_row : {E : Type 0} (a : References) (rows : List Cells) (m : MethodRef) (type name blob : ℕ) (r : Result ℕ E) → AreKnown a
-    → tokens_of a m.owner ≡ Some type → HoldsText a.heaps.strings m.name name → HasSignature SpellsMethod a m.sig blob
+    → tokens_of a m.owner ≡ Some type → HoldsText a.heaps.strings m.name name → HasSignature SpellsMethod a m.sig blob → m.name ≢ [] → IsMethodInBounds m.sig
     → IfOk r (IsRowToken 0x06 a.declared.methods rows type name blob) → GoesOn a.referred.members rows → length rows ≤ length a.referred.members + 1
     → AddsOneAtMost (member_cells type name blob) a.referred.members rows
     → IfOk r (Leaves (λ x. HasGenericToken x m) a (with_members a rows) 12)
-generic_by_row a rows m type name blob (Err e) known owner named signed at on more adds = tt
-generic_by_row a rows m type name blob (Ok token) known owner named signed at on more adds =
+generic_by_row a rows m type name blob (Err e) known owner named signed some bounds at on more adds = tt
+generic_by_row a rows m type name blob (Ok token) known owner named signed some bounds at on more adds =
     let b : References = with_members a rows in
     let g : Grows a b = members_grow a rows on in
     record {
       grows = g;
       known = wide_known a b (widened a b g) known refl (members_come a b rows m.owner type m.name name blob (still a b g known).rows refl refl refl refl refl (tokens_kept a b g m.owner type owner)
-          (text_kept a.heaps.strings b.heaps.strings m.name name g.strings named) (inl (m.sig, signature_kept SpellsMethod a b m.sig blob g signed)) adds);
+          (text_kept a.heaps.strings b.heaps.strings m.name name g.strings named) some (inl (m.sig, signature_kept SpellsMethod a b m.sig blob g signed)) bounds adds);
       room = members_grown a b more refl refl refl refl refl;
       is = member_of SpellsMethod b 0x06 b.declared.methods m.owner m.name m.sig type name blob token (tokens_kept a b g m.owner type owner)
           (text_kept a.heaps.strings b.heaps.strings m.name name g.strings named) (signature_kept SpellsMethod a b m.sig blob g signed) at;

@@ -21,7 +21,7 @@ use Rattle.image_references.specs.Blobs.{HoldsBlob, KeepsBlobs}
 use Rattle.image_references.specs.Found.{same_term, token_in}
 use Rattle.image_references.specs.KnownTokens.{layer_token, owner_token, names_apart, types_apart}
 use Rattle.image_references.specs.NameTokens.{NameableIn, IsScopeAmong, AreNames, Learns}
-use Rattle.image_references.specs.References.{tokens_of, HasSignature, IsSpecToken, IsMemberRow, HasMemberToken, HasGenericToken, of_declared, of_referred, IsMethodToken, plain, instance, IsFieldToken, IsLocalsToken, IsTextToken, IsNameRow, IsSpecRow, IsLocalsRow, IsMemberSignature, IsReferredMember, IsInstanceRow, AreReferred, AreKnown, Widens}
+use Rattle.image_references.specs.References.{tokens_of, HasSignature, IsSpecToken, IsMemberRow, HasMemberToken, HasGenericToken, of_declared, of_referred, IsMethodToken, plain, instance, IsFieldToken, IsLocalsToken, IsTextToken, IsNameRow, IsSpecRow, IsLocalsRow, IsMemberSignature, IsMemberInBounds, IsReferredMember, IsInstanceRow, AreReferred, AreKnown, Widens}
 use Rattle.image_references.specs.Rows.{IsRowAt, EachRow}
 use Rattle.image_references.specs.Texts.{HoldsText, KeepsTexts}
 use Rattle.image_references.specs.TypePaths.{GoesOn, in_declared}
@@ -70,6 +70,7 @@ wide_name a b g name h = record {
   plain = h.plain;
   nameable = nameable_kept a.heaps.strings b.heaps.strings a.declared.types b.declared.types name.path name.scope g.strings g.types h.nameable;
   scope = subst (λ n. IsScopeAmong n name.scope) (sym g.externs) h.scope;
+  in_bounds = h.in_bounds;
 }
 
 -- ---- what a token stands for
@@ -137,6 +138,7 @@ units_kept a b units token g h = record {
   index = h.index;
   holds = record { there = g.user.units h.index _ h.holds.there; used = g.user.used h.index h.holds.used };
   is = h.is;
+  are_units = h.are_units;
 }
 
 -- ---- the rows of references
@@ -149,14 +151,19 @@ name_row_kept a b c g h = record {
 }
 
 spec_row_kept : (a b : References) (c : Cells) → Widens a b → IsSpecRow a c → IsSpecRow b c
-spec_row_kept a b c g h = record { of = h.of; blob = h.blob; are = h.are; signature = wide_signature SpellsType a b h.of h.blob g h.signature }
+spec_row_kept a b c g h = record { of = h.of; blob = h.blob; are = h.are; signature = wide_signature SpellsType a b h.of h.blob g h.signature; in_bounds = h.in_bounds }
 
 locals_row_kept : (a b : References) (c : Cells) → Widens a b → IsLocalsRow a c → IsLocalsRow b c
-locals_row_kept a b c g h = record { locals = h.locals; blob = h.blob; are = h.are; signature = wide_signature SpellsLocals a b h.locals h.blob g h.signature }
+locals_row_kept a b c g h = record { locals = h.locals; blob = h.blob; are = h.are; signature = wide_signature SpellsLocals a b h.locals h.blob g h.signature; in_bounds = h.in_bounds }
 
 member_signature_kept : (a b : References) (blob : ℕ) → Widens a b → IsMemberSignature a blob → IsMemberSignature b blob
 member_signature_kept a b blob g (inl h) = inl (h.0, wide_signature SpellsMethod a b h.0 blob g h.1)
 member_signature_kept a b blob g (inr h) = inr (h.0, wide_signature SpellsField a b h.0 blob g h.1)
+
+member_bounds_kept : (a b : References) (blob : ℕ) (g : Widens a b) (s : IsMemberSignature a blob) → IsMemberInBounds a blob s → IsMemberInBounds b blob (member_signature_kept a b blob g s)
+unfolding member_signature_kept
+member_bounds_kept a b blob g (inl h) k = k
+member_bounds_kept a b blob g (inr h) k = k
 
 referred_kept : (a b : References) (c : Cells) → Widens a b → IsReferredMember a c → IsReferredMember b c
 referred_kept a b c g h = record {
@@ -167,6 +174,8 @@ referred_kept a b c g h = record {
   parent_is = h.parent_is;
   name_is = text_kept a.heaps.strings b.heaps.strings h.name c.second g.strings h.name_is;
   signature = member_signature_kept a b c.third g h.signature;
+  named = h.named;
+  in_bounds = member_bounds_kept a b c.third g h.signature h.in_bounds;
 }
 
 instance_kept : (a b : References) (c : Cells) → Widens a b → IsInstanceRow a c → IsInstanceRow b c
@@ -177,6 +186,9 @@ instance_kept a b c g h = record {
   generic_is = wide_generic a b h.method h.generic g h.generic_is;
   first_is = h.first_is;
   signature = wide_signature SpellsInstantiation a b h.arguments c.second g h.signature;
+  third_is = h.third_is;
+  in_bounds = h.in_bounds;
+  count = h.count;
 }
 
 -- what a later state has for the rows that there were

@@ -13,6 +13,7 @@ use Rattle.type_terms.specs.declared.term.SigType.TheVariants as type
 use Rattle.sig_codec.specs.Spellable.{HasToken, HasDeclaredToken, CanBePacked, IsShape, HasSpelling, HasParts, HaveSpellings}
 use Rattle.sig_codec.specs.Spellable as spellable
 use Rattle.sig_codec.specs.Spelling.{Layer}
+use Rattle.image_references.specs.Bounds.{IsTypeInBounds}
 use Rattle.image_references.specs.NameTokens.{NameableIn}
 use Rattle.image_references.specs.References.{Grows, Widens, tokens_of}
 use Rattle.image_references.specs.TypePaths.{in_declared}
@@ -51,7 +52,7 @@ module _ (a b : References) (g : Widens a b) where
 
     owner_layer_can : {l : layer.Owner-F Owner SigType} → IsOwnerLayerWritable a l → IsOwnerLayerWritable b l
     owner_layer_can (w.name {n = n} h) = w.name (wide_name a b g n h)
-    owner_layer_can (w.spec h) = w.spec (type_can h)
+    owner_layer_can (w.spec h k) = w.spec (type_can h) k
 
     types_can : {ts : List SigType} → AreWritable a ts → AreWritable b ts
     types_can w.none = w.none
@@ -132,7 +133,10 @@ module _ (r : References) where
   of_name n (w.name h) = h
 
   pub of_spec : (t : SigType) → IsOwnerLayerWritable r (layer.Spec t) → IsWritable r t
-  of_spec t (w.spec h) = h
+  of_spec t (w.spec h k) = h
+
+  pub spec_bounds : (t : SigType) → IsOwnerLayerWritable r (layer.Spec t) → IsTypeInBounds t
+  spec_bounds t (w.spec h k) = k
 
   pub of_more : (t : SigType) (ts : List SigType) → AreWritable r (t ∷ ts) → IsWritable r t × AreWritable r ts
   of_more t ts (w.more h k) = (h, k)

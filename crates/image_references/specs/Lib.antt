@@ -1,5 +1,6 @@
 pub mod Blobs
 pub mod BodyTokens
+pub mod Bounds
 pub mod Chains
 pub mod Found
 pub mod Hashing

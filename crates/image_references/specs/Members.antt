@@ -1,6 +1,6 @@
 -- Rows of fields and methods while an image is being made (ECMA-335 II.22.25, II.22.29), and what a step leaves that gives a
 -- number to something.
-use Rattle.std.specs.Prelude.{◌≡◌, ℕ, ◌+◌, sum_by, ◌/◌, ◌%◌, ◌^◌, ◌≤◌, List, Option, Some, None}
+use Rattle.std.specs.Prelude.{◌≡◌, ℕ, ◌+◌, sum_by, ◌/◌, ◌%◌, ◌^◌, ◌≤◌, List, Option, Some, None, length}
 use Rattle.assembly_tree.specs.Weight.{type_weight}
 use Rattle.metadata_tables.specs.declared.coded.Coded.TheVariants.{MemberRefParent, MethodDefOrRef}
 use Rattle.sig_codec.specs.Signature.{SpellsInstantiation}
@@ -8,6 +8,7 @@ use Rattle.type_terms.specs.declared.reference.FieldRef.{FieldRef}
 use Rattle.type_terms.specs.declared.reference.MethodRef.{MethodRef}
 use Rattle.type_terms.specs.declared.term.Owner.{Owner}
 use Rattle.type_terms.specs.declared.term.SigType.{SigType}
+use Rattle.image_references.specs.Bounds.{AreTypesInBounds}
 use Rattle.image_references.specs.Found.{token_in}
 use Rattle.image_references.specs.Indexes.{IsToken, index_of_token}
 use Rattle.image_references.specs.KnownTokens.{methods_apart, fields_apart, locals_apart, texts_apart}
@@ -80,9 +81,9 @@ abbrev pub instance_weight : Option (List SigType) → ℕ
 instance_weight None = 0
 instance_weight (Some args) = sum_by type_weight args + 17
 
--- a blob spells the arguments of a method
-abbrev pub HasArguments : References → ℕ → Type 0
-HasArguments r blob = (args : List SigType) × HasSignature SpellsInstantiation r args blob
+-- a blob spells so many arguments of a method
+abbrev pub HasArguments : ℕ → References → ℕ → Type 0
+HasArguments generic r blob = (args : List SigType) × HasSignature SpellsInstantiation r args blob × AreTypesInBounds args × (length args ≡ generic)
 
 -- a row of MethodSpec with a method and the signature of its arguments
 pub record IsInstanceOf (generic signature : ℕ) (r : References) (token : ℕ) : Type 0 where

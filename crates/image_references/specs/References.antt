@@ -1,7 +1,8 @@
 -- What has been given tokens while an image is being made: heaps, rows, and the tokens of what a tree names (ECMA-335 II.22,
 -- II.24, III.1.9).
-use Rattle.std.specs.Prelude.{◌≡◌, ℕ, ◌+◌, ◌*◌, ◌/◌, ◌%◌, ◌^◌, ◌<◌, ◌≤◌, ◌⊎◌, List, Option, Some, None, length}
+use Rattle.std.specs.Prelude.{◌≡◌, ◌≢◌, ℕ, ◌+◌, ◌*◌, ◌/◌, ◌%◌, ◌^◌, ◌<◌, ◌≤◌, ◌⊎◌, List, [], Option, Some, None, length}
 use Rattle.std.specs.List.{AllByRecursion}
+use mathlib.Core.Logic.{inl, inr}
 use Rattle.metadata_tables.specs.declared.coded.Coded.TheVariants.{MemberRefParent, MethodDefOrRef}
 use Rattle.sig_codec.specs.Spelling.{Notation, writing, SpellsType}
 use Rattle.sig_codec.specs.Signature.{SpellsMethod, SpellsField, SpellsLocals, SpellsInstantiation}
@@ -12,8 +13,10 @@ use Rattle.type_terms.specs.declared.reference.MethodSig.{MethodSig}
 use Rattle.type_terms.specs.declared.term.Owner.{Owner}
 use Rattle.type_terms.specs.declared.term.SigType.{SigType}
 use Rattle.image_references.specs.Blobs.{HoldsBlob, KeepsBlobs}
+use Rattle.image_references.specs.Bounds.{IsTypeInBounds, AreTypesInBounds, IsMethodInBounds}
 use Rattle.image_references.specs.Indexes.{IsToken, index_of_token}
 use Rattle.image_references.specs.KnownTokens.{owner_token}
+use Rattle.image_references.specs.Loaded.{AreUnits}
 use Rattle.image_references.specs.NameTokens.{AreNames, LiesOn, Learns}
 use Rattle.image_references.specs.Rows.{IsRowAt, EachRow}
 use Rattle.image_references.specs.Texts.{HoldsText, KeepsTexts}
@@ -97,6 +100,7 @@ pub record IsTextToken (r : References) (units : List ℕ) (token : ℕ) : Type 
   pub index : ℕ
   pub holds : HoldsUnits r.heaps.user (bytes_of_units units) index
   pub is : IsToken token 0x70 index
+  pub are_units : AreUnits units
 
 -- ---- what the rows of references are
 
@@ -112,6 +116,7 @@ pub record IsSpecRow (r : References) (cells : Cells) : Type 0 where
   pub blob : ℕ
   pub are : cells ≡ one_cell blob
   pub signature : HasSignature SpellsType r of blob
+  pub in_bounds : IsTypeInBounds of
 
 -- a row of StandAloneSig is that of locals (II.22.36)
 pub record IsLocalsRow (r : References) (cells : Cells) : Type 0 where
@@ -119,10 +124,16 @@ pub record IsLocalsRow (r : References) (cells : Cells) : Type 0 where
   pub blob : ℕ
   pub are : cells ≡ one_cell blob
   pub signature : HasSignature SpellsLocals r locals blob
+  pub in_bounds : AreTypesInBounds locals
 
 -- the signature of a member: that of a method, or that of a field
 abbrev pub IsMemberSignature : References → ℕ → Type 0
 IsMemberSignature r blob = ((s : MethodSig) × HasSignature SpellsMethod r s blob) ⊎ ((t : SigType) × HasSignature SpellsField r t blob)
+
+-- it is in bounds
+abbrev pub IsMemberInBounds : (r : References) (blob : ℕ) → IsMemberSignature r blob → Type 0
+IsMemberInBounds r blob (inl h) = IsMethodInBounds h.0
+IsMemberInBounds r blob (inr h) = IsTypeInBounds h.0
 
 -- a row of MemberRef has the token of an owner, a name and a signature (II.22.25)
 pub record IsReferredMember (r : References) (cells : Cells) : Type 0 where
@@ -133,8 +144,10 @@ pub record IsReferredMember (r : References) (cells : Cells) : Type 0 where
   pub parent_is : cells.first ≡ index_of_token MemberRefParent token
   pub name_is : HoldsText r.heaps.strings name cells.second
   pub signature : IsMemberSignature r cells.third
+  pub named : name ≢ []
+  pub in_bounds : IsMemberInBounds r cells.third signature
 
--- a row of MethodSpec is that of a method with its arguments (II.22.29)
+-- a row of MethodSpec is that of a method with its arguments, as many as its generic parameters (II.22.29)
 pub record IsInstanceRow (r : References) (cells : Cells) : Type 0 where
   pub method : MethodRef
   pub generic : ℕ
@@ -142,6 +155,9 @@ pub record IsInstanceRow (r : References) (cells : Cells) : Type 0 where
   pub generic_is : HasGenericToken r method generic
   pub first_is : cells.first ≡ index_of_token MethodDefOrRef generic
   pub signature : HasSignature SpellsInstantiation r arguments cells.second
+  pub third_is : cells.third ≡ 0
+  pub in_bounds : AreTypesInBounds arguments
+  pub count : length arguments ≡ method.sig.generic
 
 -- each row of the tables of references leads to what is there
 pub record AreReferred (r : References) : Type 0 where

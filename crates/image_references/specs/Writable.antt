@@ -1,5 +1,5 @@
 -- What can be written: types whose names have tokens or can be given them, and whose numbers can be packed (ECMA-335 II.23.2).
-use Rattle.std.specs.Prelude.{◌≡◌, ℕ, ◌^◌, ◌<◌, ⊤, Bool, true, false, List, [], ◌∷◌, length, ℤ, Option, None, Some}
+use Rattle.std.specs.Prelude.{◌≡◌, ◌≢◌, ℕ, ◌^◌, ◌<◌, ⊤, Bool, true, false, List, [], ◌∷◌, length, ℤ, Option, None, Some}
 use Rattle.std.specs.List.{AllByRecursion}
 use Rattle.assembly_tree.specs.declared.body.Body.{Body}
 use Rattle.assembly_tree.specs.declared.body.Clause.{Clause}
@@ -18,16 +18,18 @@ use Rattle.type_terms.specs.declared.term.Primitive.{Primitive}
 use Rattle.type_terms.specs.declared.term.Owner.{Owner, out-Owner}
 use Rattle.type_terms.specs.declared.term.Owner.TheOpen as layer
 use Rattle.type_terms.specs.declared.term.SigType.{SigType, out-SigType}
+use Rattle.image_references.specs.Bounds.{IsTypeInBounds, AreTypesInBounds, IsMethodInBounds, AreArgumentsInBounds, IsPathInBounds}
 use Rattle.image_references.specs.NameTokens.{IsNameable, IsScopeAmong}
 use Rattle.image_references.specs.Texts.{IsPlainId, HasNoZero}
 use Rattle.image_references.specs.Units.{IsLoadable}
 use Rattle.image_references.specs.declared.references.References.{References}
 
--- a name without zero bytes, declared or in an extern that is there
+-- a name without zero bytes and in bounds, declared or in an extern that is there
 pub record CanBeNamed (r : References) (name : TypeName) : Type 0 where
   pub plain : AllByRecursion IsPlainId name.path
   pub nameable : IsNameable r.heaps.strings r.declared.types name
   pub scope : IsScopeAmong r.declared.externs name.scope
+  pub in_bounds : IsPathInBounds name.path
 
 mutual
   -- a type that can be written
@@ -57,7 +59,7 @@ mutual
 
   pub data IsOwnerLayerWritable (r : References) : layer.Owner-F Owner SigType → Type 0 where
     name : {n : TypeName} → CanBeNamed r n → IsOwnerLayerWritable r (layer.Name n)
-    spec : {t : SigType} → IsWritable r t → IsOwnerLayerWritable r (layer.Spec t)
+    spec : {t : SigType} → IsWritable r t → IsTypeInBounds t → IsOwnerLayerWritable r (layer.Spec t)
 
   -- types that can be written
   pub data AreWritable (r : References) : List SigType → Type 0 where
@@ -72,6 +74,7 @@ pub record IsMethodWritable (r : References) (s : MethodSig) : Type 0 where
   pub ret : IsWritable r s.ret
   pub params : AreWritable r s.params
   pub sentinel : IsSentinel s.sentinel s.params
+  pub in_bounds : IsMethodInBounds s
 
 -- a property's signature that can be written
 pub record IsPropertyWritable (r : References) (s : MethodSig) : Type 0 where
@@ -92,14 +95,18 @@ AreArgumentsWritable r (Some args) = (0 < length args) × CanBePacked (length ar
 pub record IsMethodRefWritable (r : References) (m : MethodRef) : Type 0 where
   pub owner : IsOwnerWritable r m.owner
   pub name : HasNoZero m.name
+  pub named : m.name ≢ []
   pub sig : IsMethodWritable r m.sig
   pub args : AreArgumentsWritable r m.args
+  pub in_bounds : AreArgumentsInBounds m.sig.generic m.args
 
 -- a reference to a field that can be written
 pub record IsFieldRefWritable (r : References) (f : FieldRef) : Type 0 where
   pub owner : IsOwnerWritable r f.owner
   pub name : HasNoZero f.name
+  pub named : f.name ≢ []
   pub of : IsWritable r f.of
+  pub in_bounds : IsTypeInBounds f.of
 
 -- ---- bodies
 
@@ -133,5 +140,6 @@ IsClauseWritable r c = IsHandledWritable r c.kind
 pub record IsBodyWritable (r : References) (b : Body) : Type 0 where
   pub locals : AreWritable r b.locals
   pub count : CanBePacked (length b.locals)
+  pub in_bounds : AreTypesInBounds b.locals
   pub code : AllByRecursion (IsInstructionWritable r) b.code
   pub clauses : AllByRecursion (IsClauseWritable r) b.clauses

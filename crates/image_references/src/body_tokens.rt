@@ -5,6 +5,7 @@ ghost use Rattle.std.specs.List.{AllByRecursion};
 ghost use Rattle.assembly_tree.specs.Weight.{type_weight, handled_weight};
 ghost use Rattle.sig_codec.specs.Spellable.{CanBePacked};
 ghost use Rattle.image_references.specs.BodyTokens.{HasOperandToken, HasInstructionToken, HasHandledToken, HasClauseToken, HaveLocalsToken, HasBodyTokens, Notes};
+ghost use Rattle.image_references.specs.Bounds.{AreTypesInBounds};
 ghost use Rattle.image_references.specs.NamesWeight.{named_weight, instruction_names, clause_names, names_weight};
 ghost use Rattle.image_references.specs.References.{size, AreKnown};
 ghost use Rattle.image_references.specs.Writable.{AreWritable, IsOperandWritable, IsInstructionWritable, IsHandledWritable, IsClauseWritable, IsBodyWritable};
@@ -45,6 +46,7 @@ fn note_locals<'a>(
     requires known { AreKnown refs.old }
     requires writable { AreWritable refs.old locals.now }
     requires count { CanBePacked (length locals.now) }
+    requires in_bounds { AreTypesInBounds locals.now }
     requires room { size refs.old + (64 * length locals.now + sum_by type_weight locals.now) ≤ 2 ^ 26 }
     ensures { OnOk result (Notes (λ r. HaveLocalsToken r locals.now) refs.old refs.new (64 * length locals.now + sum_by type_weight locals.now)) }
 {

@@ -3,6 +3,7 @@ ghost use Rattle.std.specs.Prelude.{◌≡◌, ◌+◌, ◌^◌, ◌≤◌, leng
 ghost use Rattle.assembly_tree.specs.Weight.{type_weight};
 ghost use Rattle.sig_codec.specs.Signature.{SpellsLocals};
 ghost use Rattle.sig_codec.specs.Spellable.{CanBePacked};
+ghost use Rattle.image_references.specs.Bounds.{AreTypesInBounds};
 ghost use Rattle.image_references.specs.Members.{Leaves, HasLocals};
 ghost use Rattle.image_references.specs.References.{size, AreKnown, HasSignature};
 ghost use Rattle.image_references.specs.Writable.{AreWritable};
@@ -24,6 +25,7 @@ pub fn refer_locals<'a>(
     requires known { AreKnown refs.old }
     requires writable { AreWritable refs.old locals.now }
     requires count { CanBePacked (length locals.now) }
+    requires in_bounds { AreTypesInBounds locals.now }
     requires room { size refs.old + (sum_by type_weight locals.now + 17) ≤ 2 ^ 26 }
     ensures { IfOk result (Leaves (HasLocals locals.now) refs.old refs.new (sum_by type_weight locals.now + 17)) }
 {
@@ -42,6 +44,7 @@ fn give_locals<'a>(
 ) -> Result<u32, NoMemory>
     requires known { AreKnown refs.old }
     requires signature_is { HasSignature SpellsLocals refs.old locals.now signature }
+    requires in_bounds { AreTypesInBounds locals.now }
     requires room { size refs.old + 8 ≤ 2 ^ 26 }
     ensures { IfOk result (Leaves (HasLocals locals.now) refs.old refs.new 4) }
 {

@@ -1,8 +1,9 @@
 //! The tokens of fields and methods (ECMA-335 II.22.25, II.22.29): that of the row that a declared type has
 //! for a member, or else that of a row of MemberRef.
-ghost use Rattle.std.specs.Prelude.{◌≡◌, ◌+◌, ◌-◌, ◌^◌, ◌<◌, ◌≤◌, length, Some, IfSome, IfOk};
+ghost use Rattle.std.specs.Prelude.{◌≡◌, ◌≢◌, ◌+◌, ◌-◌, ◌^◌, ◌<◌, ◌≤◌, [], length, Some, IfSome, IfOk};
 ghost use Rattle.assembly_tree.specs.Weight.{owner_weight, field_ref_weight};
 ghost use Rattle.sig_codec.specs.Signature.{SpellsField};
+ghost use Rattle.image_references.specs.Bounds.{IsTypeInBounds};
 ghost use Rattle.image_references.specs.Members.{member_cells, IsDeclaredRow, IsReferredRow, IsRowToken, Leaves, IsTextAt, HasField, IsPlaced};
 ghost use Rattle.image_references.specs.References.{tokens_of, size, AreKnown, HasSignature};
 ghost use Rattle.image_references.specs.Rows.{AddsOneAtMost};
@@ -139,6 +140,8 @@ fn give_field<'a>(
     requires owner_is { tokens_of refs.old field.now.owner ≡ Some owner }
     requires name_is { HoldsText refs.old.heaps.strings field.now.name name }
     requires signature_is { HasSignature SpellsField refs.old field.now.of signature }
+    requires named { field.now.name ≢ [] }
+    requires in_bounds { IsTypeInBounds field.now.of }
     requires room { size refs.old + 12 ≤ 2 ^ 26 }
     ensures { IfOk result (Leaves (HasField field.now) refs.old refs.new 12) }
 {

@@ -1,7 +1,8 @@
 //! The tokens of methods, generic ones with their arguments besides (ECMA-335 II.22.25, II.22.29).
-ghost use Rattle.std.specs.Prelude.{◌≡◌, ◌+◌, ◌^◌, ◌≤◌, length, Some, IfOk};
+ghost use Rattle.std.specs.Prelude.{◌≡◌, ◌≢◌, ◌+◌, ◌^◌, ◌≤◌, [], length, Some, IfOk};
 ghost use Rattle.assembly_tree.specs.Weight.{owner_weight, signature_weight, method_ref_weight};
 ghost use Rattle.sig_codec.specs.Signature.{SpellsMethod};
+ghost use Rattle.image_references.specs.Bounds.{IsMethodInBounds, AreArgumentsInBounds};
 ghost use Rattle.image_references.specs.Members.{Leaves, HasMethod, HasArguments, instance_weight, IsInstanceOf};
 ghost use Rattle.image_references.specs.References.{tokens_of, size, AreKnown, HasSignature, HasGenericToken, IsMethodToken};
 ghost use Rattle.image_references.specs.Texts.{HoldsText};
@@ -64,6 +65,8 @@ fn row_token<'a>(
     requires owner_is { tokens_of refs.old _method.now.owner ≡ Some owner }
     requires name_is { HoldsText refs.old.heaps.strings _method.now.name name }
     requires signature_is { HasSignature SpellsMethod refs.old _method.now.sig signature }
+    requires named { _method.now.name ≢ [] }
+    requires in_bounds { IsMethodInBounds _method.now.sig }
     requires room { size refs.old + 12 ≤ 2 ^ 26 }
     ensures { IfOk result (Leaves (λ r. HasGenericToken r _method.now) refs.old refs.new 12) }
 {
@@ -87,6 +90,7 @@ fn instance_token<'a>(
     requires known { AreKnown refs.old }
     requires generic_is { HasGenericToken refs.old method.now generic }
     requires writable { AreArgumentsWritable refs.old method.now.args }
+    requires in_bounds { AreArgumentsInBounds method.now.sig.generic method.now.args }
     requires room { size refs.old + instance_weight method.now.args ≤ 2 ^ 26 }
     ensures { IfOk result (Leaves (λ r. IsMethodToken r method.now) refs.old refs.new (instance_weight method.now.args)) }
 {
@@ -108,7 +112,7 @@ fn instance_row<'a>(
 ) -> Result<u32, NoMemory>
     requires known { AreKnown refs.old }
     requires generic_is { HasGenericToken refs.old _method.now generic }
-    requires signature_is { HasArguments refs.old signature }
+    requires signature_is { HasArguments _method.now.sig.generic refs.old signature }
     requires room { size refs.old + 8 ≤ 2 ^ 26 }
     ensures { IfOk result (Leaves (IsInstanceOf generic signature) refs.old refs.new 8) }
 {

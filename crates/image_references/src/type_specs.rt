@@ -2,6 +2,7 @@
 ghost use Rattle.std.specs.Prelude.{◌≡◌, ◌+◌, ◌^◌, ◌≤◌, None, IfOk};
 ghost use Rattle.sig_codec.specs.Spellable.{HasSpelling};
 ghost use Rattle.sig_codec.specs.Spelling.{SpellsType};
+ghost use Rattle.image_references.specs.Bounds.{IsTypeInBounds};
 ghost use Rattle.image_references.specs.Found.{token_in};
 ghost use Rattle.image_references.specs.KnownTokens.{types_apart};
 ghost use Rattle.image_references.specs.Noted.{longest, IsSpecified};
@@ -24,6 +25,7 @@ pub fn refer_type<'a>(
 ) -> Result<u32, NoMemory>
     requires known { AreKnown refs.old }
     requires spelled { HasSpelling (tokens_of refs.old) of.now }
+    requires in_bounds { IsTypeInBounds of.now }
     requires room { size refs.old + (longest of.now + 12) ≤ 2 ^ 26 }
     ensures { IfOk result (IsSpecified refs.old refs.new of.now (longest of.now + 12)) }
 {
@@ -40,6 +42,7 @@ fn add_row<'a>(refs: &mut References<'a>, of: &'a SigType, blob: u32) -> Result<
     requires known { AreKnown refs.old }
     requires lacks { token_in types_apart refs.old.known.specs of.now ≡ None }
     requires signature { HasSignature SpellsType refs.old of.now blob }
+    requires in_bounds { IsTypeInBounds of.now }
     requires room { size refs.old + 8 ≤ 2 ^ 26 }
     ensures { IfOk result (IsSpecified refs.old refs.new of.now 4) }
 {

@@ -47,6 +47,7 @@ pub fn refer_loaded<'a>(
     if let Some(token) = refs.known.texts.find(units) {
         return Ok(token);
     }
+    units_fit(units.as_slice());
     let index = add_units(alloc, &mut refs.heaps.user, units)?;
     refs.known.texts.give(units, token_of(USER_STRING, index))
 }

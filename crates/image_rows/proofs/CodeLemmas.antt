@@ -129,6 +129,7 @@ body_can a b g x h = record {
   writable = record {
     locals = still_writable_each a b g x.locals h.writable.locals;
     count = h.writable.count;
+    in_bounds = h.writable.in_bounds;
     code = all_weaker (IsInstructionWritable a) (IsInstructionWritable b) x.code (λ y k. instruction_can a b g y k) h.writable.code;
     clauses = all_weaker (IsClauseWritable a) (IsClauseWritable b) x.clauses (λ y k. clause_can a b g y k) h.writable.clauses;
   };

@@ -12,6 +12,9 @@ note_locals-requires-clause-writable c = c.requires.writable.locals
 pub note_locals-requires-clause-count : goal.note_locals-requires-clause-count
 note_locals-requires-clause-count c = c.requires.writable.count
 
+pub note_locals-requires-clause-in_bounds : goal.note_locals-requires-clause-in_bounds
+note_locals-requires-clause-in_bounds c = c.requires.writable.in_bounds
+
 pub note_locals-requires-clause-room : goal.note_locals-requires-clause-room
 note_locals-requires-clause-room c = let weighs = body_weighs c.args.body.now in let room = c.requires.room in omega arith
 

@@ -51,6 +51,12 @@ give_field-requires-clause-name_is c =
 pub give_field-requires-clause-signature_is : goal.give_field-requires-clause-signature_is
 give_field-requires-clause-signature_is c = c.in_ok-signature.ensures.signature
 
+pub give_field-requires-clause-named : goal.give_field-requires-clause-named
+give_field-requires-clause-named c = c.requires.writable.named
+
+pub give_field-requires-clause-in_bounds : goal.give_field-requires-clause-in_bounds
+give_field-requires-clause-in_bounds c = c.requires.writable.in_bounds
+
 pub give_field-requires-clause-room : goal.give_field-requires-clause-room
 give_field-requires-clause-room c =
     let weighs = field_weighs c.args.field.now in

@@ -41,6 +41,12 @@ row_token-requires-clause-name_is c =
 pub row_token-requires-clause-signature_is : goal.row_token-requires-clause-signature_is
 row_token-requires-clause-signature_is c = c.in_ok-signature.ensures.signature
 
+pub row_token-requires-clause-named : goal.row_token-requires-clause-named
+row_token-requires-clause-named c = c.requires.writable.named
+
+pub row_token-requires-clause-in_bounds : goal.row_token-requires-clause-in_bounds
+row_token-requires-clause-in_bounds c = c.requires.writable.sig.in_bounds
+
 pub row_token-requires-clause-room : goal.row_token-requires-clause-room
 row_token-requires-clause-room c =
     let room = c.requires.room in

@@ -1,5 +1,6 @@
 use Rattle.std.proofs.Common.{◌≡◌, ap, subst, ◌+◌, ◌≤◌, arith}
 use Rattle.std.proofs.lemmas.Result.{IfOk-weaker}
+use Rattle.image_references.specs.Bounds.{AreArgumentsInBounds}
 use Rattle.image_references.specs.Members.{instance_weight}
 use Rattle.image_references.specs.Writable.{AreArgumentsWritable}
 use Rattle.image_references.proofs.GrowthLemmas.{generic_kept}
@@ -29,7 +30,9 @@ instance_row-requires-clause-generic_is c =
     generic_kept c.args.refs.now c.arguments_signature.new.refs c.args.method.now c.args.generic c.in_ok-signature-in-Some.ensures.grows c.requires.generic_is
 
 pub instance_row-requires-clause-signature_is : goal.instance_row-requires-clause-signature_is
-instance_row-requires-clause-signature_is c = (c.in-Some.args, c.in_ok-signature-in-Some.ensures.signature)
+instance_row-requires-clause-signature_is c =
+    let bounds = subst (AreArgumentsInBounds c.args.method.now.sig.generic) c.in-Some.is c.requires.in_bounds in
+    (c.in-Some.args, c.in_ok-signature-in-Some.ensures.signature, bounds.0, bounds.1)
 
 pub instance_row-requires-clause-room : goal.instance_row-requires-clause-room
 instance_row-requires-clause-room c =

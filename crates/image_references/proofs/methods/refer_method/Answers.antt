@@ -25,6 +25,9 @@ pub instance_token-requires-clause-writable : goal.instance_token-requires-claus
 instance_token-requires-clause-writable c =
     arguments_can c.args.refs.now c.generic_token.new.refs c.in_ok-generic.ensures.grows c.args.method.now.args c.requires.writable.args
 
+pub instance_token-requires-clause-in_bounds : goal.instance_token-requires-clause-in_bounds
+instance_token-requires-clause-in_bounds c = c.requires.writable.in_bounds
+
 pub instance_token-requires-clause-room : goal.instance_token-requires-clause-room
 instance_token-requires-clause-room c =
     let fits = method_fits c.args.method.now in

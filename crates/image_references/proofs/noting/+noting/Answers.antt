@@ -17,7 +17,7 @@ use Rattle.image_references.specs.Writable.{IsWritable, IsOwnerWritable, AreWrit
 use Rattle.image_references.proofs.DepthLemmas.{depth_at, owner_depth_spec, item_depth}
 use Rattle.image_references.proofs.NotedLemmas.{name_owner_weight, spec_owner_weight, owned_name, owned_type, noted_leaf, noted_name, noted_round, noted_inst, noted_modified, to_begin, to_go_on, to_end}
 use Rattle.image_references.proofs.SpellingSizes.{weight_at, weight-args}
-use Rattle.image_references.proofs.WritableLemmas.{parts_at, owner_parts_at, of_class, of_value, of_var, of_mvar, of_sz_array, of_by_ref, of_pointer, of_pinned, of_array, of_modified, of_inst, of_name, of_spec, of_more, still_writable, still_writable_each}
+use Rattle.image_references.proofs.WritableLemmas.{parts_at, owner_parts_at, of_class, of_value, of_var, of_mvar, of_sz_array, of_by_ref, of_pointer, of_pinned, of_array, of_modified, of_inst, of_name, of_spec, spec_bounds, of_more, still_writable, still_writable_each}
 use Rattle.image_references.proofs.noting.+noting.Goals as goal
 
 pub note_type-returns-in-Prim : goal.note_type-returns-in-Prim
@@ -248,6 +248,10 @@ refer_owner-refer_type-requires-clause-known t c =
 pub refer_owner-refer_type-requires-clause-spelled : goal.refer_owner-refer_type-requires-clause-spelled
 refer_owner-refer_type-requires-clause-spelled t c =
     c.in_ok-note_type-in-Spec.ensures.spells
+
+pub refer_owner-refer_type-requires-clause-in_bounds : goal.refer_owner-refer_type-requires-clause-in_bounds
+refer_owner-refer_type-requires-clause-in_bounds t c =
+    spec_bounds c.args.refs.now c.in-Spec.of (owner_parts_at c.args.refs.now c.args.owner.now (owners.Spec c.in-Spec.of) (layer.Spec c.in-Spec.of) c.in-Spec.is (owners.outs-Spec c.in-Spec.of) c.requires.writable)
 
 pub refer_owner-refer_type-requires-clause-room : goal.refer_owner-refer_type-requires-clause-room
 refer_owner-refer_type-requires-clause-room t c =

@@ -8,5 +8,5 @@ number-requires c = few_specs_now c.args.refs.now c.requires.room
 
 pub returns : goal.returns
 returns c =
-    spec_added c.args.refs.now c.number.new.self c.add.new.self c.args.of.now c.args.blob c.in_ok-row.row c.token_of-token.result c.requires.known c.requires.lacks c.requires.signature
+    spec_added c.args.refs.now c.number.new.self c.add.new.self c.args.of.now c.args.blob c.in_ok-row.row c.token_of-token.result c.requires.known c.requires.lacks c.requires.signature c.requires.in_bounds
     c.in_ok-row.ensures.at c.in_ok-row.ensures.kept (record { is = c.token_of-token.ensures; fits = c.in_ok-row.ensures.few }) c.in_ok-add.ensures.ok

@@ -1,4 +1,5 @@
 use Rattle.std.proofs.Common.{◌≡◌, sym, subst, ℕ, ◌<◌, ◌^◌}
+use Rattle.image_references.specs.Loaded.{AreUnits}
 use Rattle.image_references.specs.Members.{HasLoaded}
 use Rattle.image_references.proofs.GivenLemmas.{loaded_given, room_for_units}
 use Rattle.image_references.proofs.LeavesLemmas.{leaves_there}
@@ -20,4 +21,4 @@ returns c =
     let at = c.requires.loadable in
     let less = subst (λ (k : ℕ). k < 2 ^ 24) (sym (c.in_ok-index.ensures.known at.0 at.1)) at.2 in
     loaded_given c.args.refs.now c.add_units.new.user c.give.new.self c.args.units.now c.in_ok-index.index c.token_of.result c.give.result c.requires.known
-    (c.add_units.ensures.same at.0 at.1) c.add_units.ensures.keeps c.in_ok-index.ensures.holds (record { is = c.token_of.ensures; fits = less }) c.give.ensures.found c.give.ensures.kept
+    (subst AreUnits c.as_slice.ensures c.units_fit.ensures) (c.add_units.ensures.same at.0 at.1) c.add_units.ensures.keeps c.in_ok-index.ensures.holds (record { is = c.token_of.ensures; fits = less }) c.give.ensures.found c.give.ensures.kept
