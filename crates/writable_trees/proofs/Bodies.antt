@@ -29,6 +29,7 @@ use Rattle.image_references.specs.Writable.{CanBeNamed, IsOperandWritable, IsIns
 use Rattle.image_references.specs.declared.references.References.{References}
 use Rattle.image_rows.specs.CodeBytes.{any_token, CanPushBody, CanPushStated}
 use Rattle.writable_trees.specs.Ranges.{IsInRange, IsStatedInRange}
+use Rattle.writable_trees.proofs.Bounds.{types_bounds}
 use Rattle.writable_trees.proofs.Each.{split_three, split_five, each_from, each_true, each_both, each_apart}
 use Rattle.writable_trees.proofs.Members.{method_ref_can, field_ref_can}
 use Rattle.writable_trees.proofs.Operands.{instruction_fits, same_kind, same_size, size_light}
@@ -83,6 +84,7 @@ module _ (a : Assembly) (r : References) (names : (name : TypeName) → IsTrue (
       record {
         locals = types_can a r names b.locals f.locals (omega arith);
         count = omega arith;
+        in_bounds = types_bounds a b.locals f.locals (omega arith) few;
         code = code_can b.code f.operands (omega arith) t;
         clauses = clauses_can b.clauses f.catches (omega arith);
       }

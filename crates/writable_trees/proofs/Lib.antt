@@ -1,12 +1,14 @@
 mod Accessors
 mod Apart
 mod Bodies
-mod Classes
+mod Bounds
+pub mod Classes
 mod Constants
-mod Each
+pub mod Each
 mod Filling
-mod Members
-mod Names
+mod MemberBounds
+pub mod Members
+pub mod Names
 mod Operands
-mod Parts
+pub mod Parts
 mod Types

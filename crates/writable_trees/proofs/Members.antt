@@ -20,8 +20,9 @@ use Rattle.type_terms.specs.declared.term.SigType.{SigType}
 use Rattle.image_references.specs.Texts.{HasNoZero}
 use Rattle.image_references.specs.Writable.{CanBeNamed, IsOwnerWritable, IsMethodWritable, IsPropertyWritable, AreArgumentsWritable, IsMethodRefWritable, IsFieldRefWritable}
 use Rattle.image_references.specs.declared.references.References.{References}
+use Rattle.writable_trees.proofs.Bounds.{type_bounds, signature_bounds, arguments_bounds}
 use Rattle.writable_trees.proofs.Each.{split_three, split_four, each_from, each_true, each_light, each_both}
-use Rattle.writable_trees.proofs.Names.{plain_name}
+use Rattle.writable_trees.proofs.Names.{plain_name, some_name}
 use Rattle.writable_trees.proofs.Types.{type_can, owner_can, types_can, owners_can}
 
 -- ---- parts that meet their conditions and are light
@@ -65,6 +66,7 @@ module _ (a : Assembly) (r : References) (names : (name : TypeName) → IsTrue (
         ret = type_can a r names s.ret f.ret (omega arith);
         params = types_can a r names s.params f.params (omega arith);
         sentinel = sentinel_is s.sentinel s.params f.sentinel;
+        in_bounds = signature_bounds a s h k;
       }
 
   pub property_signature_can : (s : MethodSig) → IsTrue (is_property_signature s) → IsTrue (is_signature a s) → signature_weight s ≤ 2 ^ 26 → IsPropertyWritable r s
@@ -100,8 +102,10 @@ module _ (a : Assembly) (r : References) (names : (name : TypeName) → IsTrue (
       record {
         owner = owner_can a r names m.owner f.owner (omega arith);
         name = plain_name m.name f.name;
+        named = some_name m.name f.name;
         sig = signature_can m.sig f.sig (omega arith);
         args = arguments_can m.sig.generic m.args (leb-true m.sig.generic 65535 s.generic) f.arguments f.args (omega arith);
+        in_bounds = arguments_bounds a m.sig.generic m.args (leb-true m.sig.generic 65535 s.generic) f.arguments f.args (omega arith);
       }
 
   pub plain_ref_can : (m : MethodRef) → IsTrue (is_plain_ref a m) → method_ref_weight m ≤ 2 ^ 26 → IsMethodRefWritable r m
@@ -115,7 +119,9 @@ module _ (a : Assembly) (r : References) (names : (name : TypeName) → IsTrue (
       record {
         owner = owner_can a r names f.owner parts.owner (omega arith);
         name = plain_name f.name parts.name;
+        named = some_name f.name parts.name;
         of = type_can a r names f.of parts.of (omega arith);
+        in_bounds = type_bounds a f.of parts.of (omega arith);
       }
 
   -- ---- attributes and generic parameters

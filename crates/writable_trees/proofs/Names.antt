@@ -1,9 +1,9 @@
 -- The names of a well-formed assembly can be written: a name in this assembly leads to the row of a type, and the number of an
 -- extern is that of a row.
-use Rattle.std.proofs.Common.{◌≡◌, ap, refl, sym, ◌∙◌, subst, ℕ, ◌+◌, ◌-◌, ◌^◌, ◌<◌, true≢false, cond, nat_eq, nat_lt, List, [], ◌∷◌, ◌++◌, map, length, Option, Some, None, inl, inr, arith}
+use Rattle.std.proofs.Common.{◌≡◌, ◌≢◌, ap, refl, sym, ◌∙◌, subst, ℕ, ◌+◌, ◌-◌, ◌^◌, ◌<◌, true≢false, cond, nat_eq, nat_lt, List, [], ◌∷◌, ◌++◌, map, length, Option, Some, None, inl, inr, arith}
 use Rattle.std.specs.Prelude.{IsTrue, slice_get, is_some, codes}
 use Rattle.std.specs.List.{AllByRecursion, list_all}
-use Rattle.std.proofs.lemmas.Bool.{and_parts, or_cases, cases_Bool, eqb-true, ltb-true, cond-true, cond-false}
+use Rattle.std.proofs.lemmas.Bool.{and_parts, or_cases, cases_Bool, eqb-true, ltb-true, leb-true, cond-true, cond-false}
 use Rattle.std.proofs.lemmas.List.{append-nil, append_assoc, length-append, map-append, length-map}
 use Rattle.std.proofs.lemmas.List.Elements.{All-from_recursion}
 use Rattle.std.proofs.lemmas.Option.{same_Some}
@@ -42,6 +42,15 @@ no_zero bytes h = All-from_recursion (λ byte. byte ≡ 0 → ⊥) bytes (zero_f
 
 pub plain_name : (bytes : List ℕ) → IsTrue (is_name bytes) → HasNoZero bytes
 plain_name bytes h = no_zero bytes (and_parts (nat_lt 0 (length bytes)) (has_no_zero bytes) h).1
+
+pub some_name : (bytes : List ℕ) → IsTrue (is_name bytes) → bytes ≢ []
+some_name bytes h e =
+    let some = ltb-true 0 (length bytes) (and_parts (nat_lt 0 (length bytes)) (has_no_zero bytes) h).0 in
+    let none = ap (length {A = ℕ}) e in
+    omega arith
+
+named_id : (id : TypeId) → IsTrue (is_type_id id) → id.name ≢ []
+named_id id h = some_name id.name (and_parts (has_no_zero id.space) (is_name id.name) h).1
 
 pub plain_id : (id : TypeId) → IsTrue (is_type_id id) → IsPlainId id
 plain_id id h =
@@ -273,4 +282,8 @@ module _ (a : Assembly) (classes : List Class) (r : References) (are : AreClasse
         plain = each_from (λ id. IsTrue (is_type_id id)) IsPlainId plain_id name.path (each_true is_type_id name.path parts.1);
         nameable = nameable name.path name.scope parts.2;
         scope = among name.path name.scope parts.2;
+        in_bounds = record {
+          short = leb-true (length name.path) 100 parts.0;
+          named = each_from (λ id. IsTrue (is_type_id id)) (λ id. id.name ≢ []) named_id name.path (each_true is_type_id name.path parts.1);
+        };
       }
