@@ -1,0 +1,10 @@
+pub mod CellLemmas
+pub mod EachLemmas
+pub mod FormedNames
+pub mod FormedParts
+pub mod HeaderLemmas
+pub mod ImageCells
+pub mod OwnedRows
+pub mod PlainRows
+pub mod ReferenceRows
+pub mod TokenRows

@@ -1,0 +1,3 @@
+pub mod NamedRows
+pub mod OnCells
+pub mod OnTables
