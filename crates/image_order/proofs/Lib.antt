@@ -1,0 +1,13 @@
+pub mod FormedMethods
+pub mod ItemRising
+pub mod Levels
+pub mod MapPairs
+pub mod ModuleType
+pub mod Nesting
+pub mod NumberRising
+pub mod Rising
+pub mod RowOrder
+pub mod RunOrder
+pub mod Runs
+pub mod Scopes
+pub mod Sorted

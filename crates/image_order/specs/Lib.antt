@@ -1,0 +1,2 @@
+pub mod OnRows
+pub mod ShortNames
