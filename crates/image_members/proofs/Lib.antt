@@ -1,0 +1,16 @@
+pub mod TypeBounds
+pub mod FormedMembers
+pub mod Items
+pub mod Lists
+pub mod OverrideItems
+pub mod Signatures
+pub mod SignatureDemands
+pub mod TypePlaces
+pub mod DataSizes
+pub mod TypeDemands
+pub mod ConstantDemands
+pub mod FieldDemands
+pub mod MethodDemands
+pub mod AccessorDemands
+pub mod InstanceDemands
+pub mod ValueDemands
