@@ -1,0 +1,17 @@
+pub mod General
+pub mod Bits
+pub mod Nodes
+pub mod Same
+pub mod Texts
+pub mod Rows
+pub mod Formed
+pub mod Headers
+pub mod Attributes
+pub mod Bases
+pub mod Maps
+pub mod MapRuns
+pub mod Accessors
+pub mod OwnAccessors
+pub mod Paths
+pub mod Alike
+pub mod Distinct
