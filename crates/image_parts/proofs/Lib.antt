@@ -1,0 +1,17 @@
+pub mod Attributes
+pub mod Constants
+pub mod Contents
+pub mod DataSizes
+pub mod Entries
+pub mod Fields
+pub mod Generics
+pub mod Interfaces
+pub mod Lists
+pub mod Methods
+pub mod Properties
+pub mod Signatures
+pub mod Sizes
+pub mod Tokens
+pub mod TypePaths
+pub mod Types
+pub mod Whole
