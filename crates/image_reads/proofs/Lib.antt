@@ -1,0 +1,2 @@
+mod AllRules
+mod RowsInBounds
