@@ -1,18 +1,14 @@
 -- What is made of an assembly, laid out.
-use Rattle.std.proofs.Common.{◌≡◌, inl, inr, subst, ℕ, ◌+◌, ◌*◌, ◌<◌, ◌≤◌, ◌^◌, List, length, arith}
+use Rattle.std.proofs.Common.{inl, inr, ℕ, ◌+◌, ◌*◌, ◌<◌, ◌≤◌, ◌^◌, List, length, arith}
 use Rattle.assembly_tree.specs.Weight.{weight_of}
 use Rattle.assembly_tree.specs.declared.assembly.Assembly.{Assembly}
-use Rattle.image_layout.specs.LaidOut.{IsLaidOut}
 use Rattle.image_layout.specs.Sizes.{heap_bytes, stream_bytes}
 use Rattle.image_references.specs.declared.references.References.{References}
-use Rattle.image_rows.specs.Filled.{entry_token}
 use Rattle.image_rows.specs.Pushing.{Tables}
 use Rattle.image_rows.specs.declared.classes.Class.{Class}
 use Rattle.image_writer.specs.Contents.{IsContents}
-use Rattle.image_writer.specs.Made.{IsMade}
 use Rattle.image_writer.proofs.RoomLemmas.{fits}
 use Rattle.pe_layout.specs.Numbers.{IsFileAlignment}
-use Rattle.pe_layout.specs.declared.parts.Kind.{Kind}
 use Rattle.tree_weights.specs.Laws.{WeightIsEnough}
 use Rattle.tree_weights.specs.RowCounts.{FilledIsCounted}
 
@@ -33,13 +29,3 @@ module _ (a : Assembly) (classes : List Class) (r : References) (tables : Tables
       let fit = fits enough counted a classes r tables code h.filled h.room h.long in
       let most = alignment_most a.manifest.file_alignment aligned in
       omega arith
-
-  pub contents_laid_out : (entry : ℕ) (id : List ℕ) (kind : Kind) (image : List ℕ) → entry ≡ entry_token a classes → IsLaidOut a.manifest r tables code entry id kind image → IsMade a id kind image
-  contents_laid_out entry id kind image entry_is laid = record {
-    classes = classes;
-    references = r;
-    tables = tables;
-    code = code;
-    filled = h.filled;
-    laid_out = subst (λ (n : ℕ). IsLaidOut a.manifest r tables code n id kind image) entry_is laid;
-  }

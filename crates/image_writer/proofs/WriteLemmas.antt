@@ -6,7 +6,7 @@ use Rattle.assembly_tree.specs.Weight.{weight_of}
 use Rattle.assembly_tree.specs.declared.assembly.Assembly.{Assembly}
 use Rattle.heaps.specs.Heap.{Heap}
 use Rattle.image_references.specs.Loaded.{AreLoaded}
-use Rattle.image_writer.specs.Made.{HasFullStrings}
+use Rattle.image_writer.specs.Refused.{HasFullStrings}
 
 room_is_that : (a : Assembly) → room a ≡ room_of_texts (texts a)
 unfolding room

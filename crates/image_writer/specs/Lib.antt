@@ -1,3 +1,3 @@
 pub mod Beginning
 pub mod Contents
-pub mod Made
+pub mod Refused

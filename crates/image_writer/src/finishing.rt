@@ -4,12 +4,14 @@ ghost use Rattle.assembly_tree.specs.Room.{texts};
 ghost use Rattle.assembly_tree.specs.Weight.{weight_of};
 ghost use Rattle.assembly_tree.specs.WellFormed.{is_well_formed};
 ghost use Rattle.image_filling.specs.OwnedPart.{IsNothing};
+ghost use Rattle.image_model.specs.Faults.{Reads};
+ghost use Rattle.image_model.specs.Tidy.{IsTidy};
+ghost use Rattle.image_parts.specs.Ranges.{AreInRange};
 ghost use Rattle.image_references.specs.Loaded.{AreLoaded};
 ghost use Rattle.image_rows.specs.Classes.{AreClasses};
 ghost use Rattle.image_rows.specs.Filled.{entry_token};
 ghost use Rattle.image_rows.specs.Ordered.{IsOrdered};
 ghost use Rattle.image_writer.specs.Beginning.{HasBegun, DeclaresAll};
-ghost use Rattle.image_writer.specs.Made.{IsMade};
 
 use crate::beginning::{begin_types, declare_all};
 use crate::contents::fill_all;
@@ -18,6 +20,9 @@ use assembly_tree::Assembly;
 use heaps::UserHeap;
 use il_base::{Bytes, NoMemory};
 use image_filling::owned_part::Nothing;
+use image_parts::ranges::{
+    fields_in_range, params_in_range, properties_in_range, versions_in_range,
+};
 use image_references::references::References;
 use image_rows::classes::{Class, classes_of};
 use image_rows::entry::entry_of;
@@ -42,7 +47,8 @@ pub(crate) fn write_loaded<'a>(
     requires none { IsNothing none.now }
     requires loaded { AreLoaded user (texts a.now) }
     requires room { length user.bytes ≤ 2 ^ 24 }
-    ensures made { IfOk result (IsMade a.now id.now kind) }
+    ensures reads { IfOk result (λ image. Reads image a.now) }
+    ensures tidy { IfOk result (λ image. IsTidy image kind id.now) }
     ensures small { IfOk result (λ image. length image ≤ weight_of a.now) }
 {
     let classes = classes_of(alloc, a)?;
@@ -65,7 +71,8 @@ fn write_classes<'a>(
     requires none { IsNothing none.now }
     requires loaded { AreLoaded user (texts a.now) }
     requires room { length user.bytes ≤ 2 ^ 24 }
-    ensures made { IfOk result (IsMade a.now id.now kind) }
+    ensures reads { IfOk result (λ image. Reads image a.now) }
+    ensures tidy { IfOk result (λ image. IsTidy image kind id.now) }
     ensures small { IfOk result (λ image. length image ≤ weight_of a.now) }
 {
     types_are_declarable();
@@ -90,7 +97,8 @@ fn finish<'a>(
     requires classes { AreClasses 0 2 a.now.types classes.now }
     requires none { IsNothing none.now }
     requires begun { HasBegun a.now classes.now refs.old }
-    ensures made { IfOk result (IsMade a.now id.now kind) }
+    ensures reads { IfOk result (λ image. Reads image a.now) }
+    ensures tidy { IfOk result (λ image. IsTidy image kind id.now) }
     ensures small { IfOk result (λ image. length image ≤ weight_of a.now) }
 {
     let ordered = in_order(alloc, a, classes)?;
@@ -115,10 +123,12 @@ fn finish_declared<'a>(
     requires ordered { IsOrdered a.now classes.now ordered.now }
     requires none { IsNothing none.now }
     requires declared { DeclaresAll a.now classes.now refs.old }
-    ensures made { IfOk result (IsMade a.now id.now kind) }
+    ensures reads { IfOk result (λ image. Reads image a.now) }
+    ensures tidy { IfOk result (λ image. IsTidy image kind id.now) }
     ensures small { IfOk result (λ image. length image ≤ weight_of a.now) }
 {
     let entry = entry_in(a, classes, ordered);
+    numbers_in_range(a, classes, ordered);
     let mut rows = Rows::new(alloc);
     let mut code = Bytes::new(alloc);
     fill_all(alloc, refs, &mut rows, &mut code, a, classes, ordered, none)?;
@@ -134,4 +144,15 @@ fn entry_in<'a>(_a: &Assembly, _classes: &[Class<'a>], ordered: &Ordered<'a>) ->
 {
     rows_are_few();
     entry_of(ordered.methods.as_slice())
+}
+
+/// The numbers of constants are in the ranges of their fields, and versions have four. Nothing is changed.
+fn numbers_in_range<'a>(a: &Assembly, _classes: &[Class<'a>], ordered: &Ordered<'a>)
+    requires ordered { IsOrdered a.now _classes.now ordered.now }
+    ensures { AreInRange a.now _classes.now }
+{
+    versions_in_range(a);
+    fields_in_range(ordered.fields.as_slice());
+    params_in_range(ordered.params.as_slice());
+    properties_in_range(ordered.properties.as_slice());
 }

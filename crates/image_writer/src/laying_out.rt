@@ -2,19 +2,25 @@
 ghost use Rattle.std.specs.Prelude.{◌≡◌, ◌≤◌, ◌^◌, true, length, IfOk};
 ghost use Rattle.assembly_tree.specs.Weight.{weight_of};
 ghost use Rattle.assembly_tree.specs.WellFormed.{is_well_formed};
+ghost use Rattle.image_model.specs.Faults.{Reads};
+ghost use Rattle.image_model.specs.Tidy.{IsTidy};
+ghost use Rattle.image_parts.specs.Ranges.{AreInRange};
 ghost use Rattle.image_rows.specs.Filled.{entry_token};
 ghost use Rattle.image_writer.specs.Contents.{IsContents};
-ghost use Rattle.image_writer.specs.Made.{IsMade};
 
 use assembly_tree::{Assembly, conditions_are_named};
 use il_base::{Bytes, NoMemory};
 use image_indexes::indexes_are_there;
 use image_layout::lay_out;
+use image_reads::images_are_read;
 use image_references::references::References;
 use image_rows::classes::Class;
+use image_tidiness::references_are_distinct;
 use metadata_tables::Rows;
 use pe_layout::Kind;
 use std::alloc::Global;
+use tidy_images::images_are_tidy;
+use tidy_references::references_are_tidy;
 use tree_weights::laws::{filled_is_counted, weight_is_enough};
 use writable_trees::laws::accessors_have_rows;
 
@@ -34,7 +40,9 @@ pub(crate) fn lay_out_filled<'a>(
     requires weight { weight_of a.now ≤ 2 ^ 26 }
     requires contents { IsContents a.now _classes.now refs.now rows.now code }
     requires entry { entry ≡ entry_token a.now _classes.now }
-    ensures made { IfOk result (IsMade a.now id.now kind) }
+    requires ranges { AreInRange a.now _classes.now }
+    ensures reads { IfOk result (λ image. Reads image a.now) }
+    ensures tidy { IfOk result (λ image. IsTidy image kind id.now) }
     ensures small { IfOk result (λ image. length image ≤ weight_of a.now) }
 {
     conditions_are_named();
@@ -42,5 +50,9 @@ pub(crate) fn lay_out_filled<'a>(
     indexes_are_there();
     weight_is_enough();
     filled_is_counted();
+    references_are_distinct(refs);
+    references_are_tidy();
+    images_are_read();
+    images_are_tidy();
     lay_out(alloc, refs, rows, code, entry, id, &a.manifest, kind)
 }

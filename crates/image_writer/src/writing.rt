@@ -3,7 +3,9 @@ ghost use Rattle.std.specs.Prelude.{◌≡◌, ◌⊎◌, ◌≤◌, ◌<◌, �
 ghost use Rattle.assembly_tree.specs.Room.{room};
 ghost use Rattle.assembly_tree.specs.Weight.{weight_of};
 ghost use Rattle.assembly_tree.specs.WellFormed.{is_well_formed};
-ghost use Rattle.image_writer.specs.Made.{IsMade, IsRefused};
+ghost use Rattle.image_model.specs.Faults.{Reads};
+ghost use Rattle.image_model.specs.Tidy.{IsTidy};
+ghost use Rattle.image_writer.specs.Refused.{IsRefused};
 ghost use Rattle.image_writer.specs.declared.fault.WriteFault.TheVariants.{TooLarge, StringsFull, NoMemory};
 
 use crate::fault::WriteFault;
@@ -21,13 +23,14 @@ const LIMIT: u64 = 1 << 26;
 // How many bytes the heap of user strings may have, so that a token has room for each of its indexes (III.1.9).
 const ROOM: u64 = 1 << 24;
 
-/// A PE32 image of a well-formed assembly; `id` is the identifier of its module (ECMA-335 II.22.30).
+/// A tidy PE32 image that reads as the assembly, which is well formed; `id` is the identifier of its module (ECMA-335 II.22.30).
 ///
 /// It answers `TooLarge` exactly where the assembly weighs more than 2^26, and `StringsFull` exactly where it
 /// doesn't, and the texts that it loads take more than 2^24 bytes of the heap of user strings.
 pub fn write(alloc: Global, a: &Assembly, id: [u8; 16], kind: Kind) -> Result<Bytes, WriteFault>
     requires { is_well_formed a.now ≡ true }
-    ensures made { IfOk result (IsMade a.now id kind) }
+    ensures reads { IfOk result (λ image. Reads image a.now) }
+    ensures tidy { IfOk result (λ image. IsTidy image kind id) }
     ensures small { IfOk result (λ image. length image ≤ weight_of a.now) }
     ensures refused { IfErr result (IsRefused a.now) }
 

@@ -1,11 +1,12 @@
-use Rattle.std.proofs.Common.{ℕ, ◌+◌, ◌*◌, ◌≤◌, List, length}
+use Rattle.std.proofs.Common.{subst, ℕ, ◌+◌, ◌*◌, ◌≤◌, List, length}
 use Rattle.std.proofs.lemmas.Result.{IfOk-weaker}
 use Rattle.assembly_tree.specs.Weight.{weight_of}
 use Rattle.image_layout.specs.LaidOut.{IsLaidOut}
 use Rattle.image_layout.specs.Sizes.{heap_bytes, stream_bytes}
-use Rattle.image_writer.specs.Made.{IsMade}
+use Rattle.image_model.specs.Faults.{Reads}
+use Rattle.image_model.specs.Tidy.{IsTidy}
 use Rattle.image_writer.proofs.FormedLemmas.{numbers_formed}
-use Rattle.image_writer.proofs.LayLemmas.{contents_fit, contents_small, contents_laid_out}
+use Rattle.image_writer.proofs.LayLemmas.{contents_fit, contents_small}
 use Rattle.image_writer.proofs.laying_out.lay_out_filled.Goals as goal
 
 pub lay_out-requires-clause-base : goal.lay_out-requires-clause-base
@@ -24,12 +25,36 @@ pub lay_out-requires-clause-size : goal.lay_out-requires-clause-size
 lay_out-requires-clause-size c =
     contents_fit c.args.a.now c.args._classes.now c.args.refs.now c.args.rows.now c.args.code c.requires.contents c.weight_is_enough.ensures c.filled_is_counted.ensures c.requires.weight
 
-pub returns-clause-made : goal.returns-clause-made
-returns-clause-made c =
+pub returns-clause-reads : goal.returns-clause-reads
+returns-clause-reads c =
+    let h = c.requires.contents in
+    let apart = c.references_are_distinct.ensures in
+    let tidy = c.references_are_tidy.ensures c.args.a.now c.args._classes.now c.args.refs.now c.args.rows.now c.args.code c.args.entry c.args.id.now c.args.kind in
     IfOk-weaker c.lay_out.result
     (IsLaidOut c.args.a.now.manifest c.args.refs.now c.args.rows.now c.args.code c.args.entry c.args.id.now c.args.kind)
-    (IsMade c.args.a.now c.args.id.now c.args.kind)
-    (λ image h. contents_laid_out c.args.a.now c.args._classes.now c.args.refs.now c.args.rows.now c.args.code c.requires.contents c.args.entry c.args.id.now c.args.kind image c.requires.entry h)
+    (λ (image : List ℕ). Reads image c.args.a.now)
+    (λ image laid. c.images_are_read.ensures c.args.a.now c.args._classes.now c.args.refs.now c.args.rows.now c.args.code c.args.id.now c.args.kind image
+    (record {
+      filled = h.filled;
+      laid_out = subst (λ (n : ℕ). IsLaidOut c.args.a.now.manifest c.args.refs.now c.args.rows.now c.args.code n c.args.id.now c.args.kind image) c.requires.entry laid;
+      formed = c.requires.formed;
+      light = c.requires.weight;
+      externs = h.externs_are;
+      accessors = c.accessors_have_rows.ensures c.args.a.now c.args._classes.now c.requires.formed c.requires.weight h.filled.classes_are;
+      readable = (tidy image h.filled laid c.requires.formed c.requires.weight apart.contents apart.rows).readable;
+    }) c.requires.ranges)
+    c.lay_out.ensures.laid_out
+
+pub returns-clause-tidy : goal.returns-clause-tidy
+returns-clause-tidy c =
+    let filled = c.requires.contents.filled in
+    let apart = c.references_are_distinct.ensures in
+    let tidy = c.references_are_tidy.ensures c.args.a.now c.args._classes.now c.args.refs.now c.args.rows.now c.args.code c.args.entry c.args.id.now c.args.kind in
+    IfOk-weaker c.lay_out.result
+    (IsLaidOut c.args.a.now.manifest c.args.refs.now c.args.rows.now c.args.code c.args.entry c.args.id.now c.args.kind)
+    (λ (image : List ℕ). IsTidy image c.args.kind c.args.id.now)
+    (λ image laid. c.images_are_tidy.ensures c.args.a.now c.args._classes.now c.args.refs.now c.args.rows.now c.args.code c.args.entry c.args.id.now c.args.kind image filled laid
+    (tidy image filled laid c.requires.formed c.requires.weight apart.contents apart.rows))
     c.lay_out.ensures.laid_out
 
 pub returns-clause-small : goal.returns-clause-small
