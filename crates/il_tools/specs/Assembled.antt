@@ -3,7 +3,8 @@ use Rattle.std.specs.Prelude.{ℕ, ◌^◌, ◌<◌, ◌≤◌, ◌⊎◌, List,
 use Rattle.assembly_tree.specs.Room.{room as room_in}
 use Rattle.assembly_tree.specs.Weight.{weight_of}
 use Rattle.assembly_tree.specs.declared.assembly.Assembly.{Assembly}
-use Rattle.image_writer.specs.Made.{IsMade}
+use Rattle.image_model.specs.Faults.{Reads}
+use Rattle.image_model.specs.Tidy.{IsTidy}
 use Rattle.pe_layout.specs.declared.parts.Kind.{Kind}
 use Rattle.sha2.specs.Sha256.{sha256}
 use Rattle.source_assembly.specs.Reading.{IsAssemblyOf, IsFaultOf}
@@ -21,12 +22,13 @@ pub record Fits (a : Assembly) : Type 0 where
   pub weight : weight_of a ≤ 2 ^ 26
   pub room : room_in a ≤ 2 ^ 24
 
--- the image is made of the assembly that the source denotes
+-- the image reads as the assembly that the source denotes, and is tidy
 pub record IsImageOf (source : List ℕ) (kind : Kind) (image : List ℕ) : Type 0 where
   pub meant : Assembly
   pub denoted : IsAssemblyOf source meant
   pub fits : Fits meant
-  pub made : IsMade meant (identifier_of source) kind image
+  pub reads : Reads image meant
+  pub tidy : IsTidy image kind (identifier_of source)
 
 -- the source has this fault, or denotes an assembly that doesn't fit
 abbrev pub IsContentFault : List ℕ → ContentFault → Type 0

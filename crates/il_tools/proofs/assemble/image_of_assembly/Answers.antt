@@ -1,5 +1,5 @@
 use Rattle.std.proofs.Common.{subst, List, ℕ}
-use Rattle.image_writer.specs.Made.{IsMade}
+use Rattle.image_model.specs.Tidy.{IsTidy}
 use Rattle.il_tools.proofs.FitsLemmas.{fits_made}
 use Rattle.il_tools.proofs.assemble.image_of_assembly.Goals as goal
 
@@ -8,5 +8,6 @@ returns-in-Ok-clause-image c = record {
   meant = c.args.assembly.now;
   denoted = c.requires.denoted;
   fits = fits_made c.args.assembly.now c.write.result c.in-Ok.image c.in-Ok.is c.write.ensures.too_large c.write.ensures.strings_full;
-  made = subst (λ (id : List ℕ). IsMade c.args.assembly.now id c.args.kind c.in-Ok.image) c.identifier_of.ensures c.in-Ok.ensures.made;
+  reads = c.in-Ok.ensures.reads;
+  tidy = subst (λ (id : List ℕ). IsTidy c.in-Ok.image c.args.kind id) c.identifier_of.ensures c.in-Ok.ensures.tidy;
 }
