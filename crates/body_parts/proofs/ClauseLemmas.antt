@@ -6,23 +6,27 @@ use Rattle.std.proofs.lemmas.List.{map-append}
 use Rattle.assembly_tree.specs.declared.body.Clause.{Clause}
 use Rattle.assembly_tree.specs.declared.body.ClauseKind.{ClauseKind}
 use Rattle.assembly_tree.specs.declared.body.ClauseKind.TheVariants as handles
-use Rattle.ilasm_grammar.specs.declared.productions.TheConstants.{CLAUSE_CATCH, CLAUSE_FILTER, CLAUSE_FINALLY, ITEM_TRY}
+use Rattle.ilasm_grammar.specs.declared.productions.TheConstants.{CLAUSE_CATCH, CLAUSE_FILTER, CLAUSE_FINALLY, ITEM_INSTRUCTION, ITEM_TRY}
 use Rattle.ilasm_grammar.specs.declared.tree.TreeNode.{TreeNode}
 use Rattle.ilasm_grammar.specs.declared.tree.TreeNode.TheVariants.{Branch}
-use Rattle.source_model.specs.Clauses.{Guarded, Range, clause, clause_forms, clause_from, clause_kind, filter_start, guarded_in, handler_range, try_range}
+use Rattle.source_model.specs.Clauses.{Guarded, clause, clause_forms, clause_from, clause_kind, filter_start, guarded_in, handler_range, try_range}
 use Rattle.source_model.specs.Forest as tree
-use Rattle.source_model.specs.Forest.{Forest, is_among, joined, part, preorder}
+use Rattle.source_model.specs.Forest.{Forest, is_among, joined, part, parts, preorder}
 use Rattle.source_model.specs.Nodes.{Around}
 use Rattle.source_model.specs.Source.{Source}
 use Rattle.source_model.specs.Types.{the_owner}
-use Rattle.source_reading.specs.Derived.{OfEach}
+use Rattle.source_reading.specs.Derived.{FitsBody, HasBodies, OfEach}
 use Rattle.source_reading.specs.Walk.{Opens, is_of}
 use Rattle.source_reading.specs.declared.walk.Opened.{Opened}
 use Rattle.source_reading.proofs.Collecting.{SoFar, ends, goes_in, starts}
 use Rattle.source_flags.specs.InRange.{AllInRange, IsInRange}
+use Rattle.source_flags.specs.declared.outside.Shut.TheVariants.{Instructions}
+use Rattle.source_flags.proofs.Apart.{same_outside}
+use Rattle.source_flags.proofs.Gathered.{has_bodies}
 use Rattle.body_parts.specs.ClauseNodes.{IsNoClause}
 use Rattle.body_parts.specs.Ranges.{range_of}
 use Rattle.body_parts.specs.declared.clause_ranges.CodeRange.{CodeRange}
+use Rattle.body_parts.proofs.PastLemmas.{clauses_past}
 
 -- ---- a walk past a production that gives something
 
@@ -42,6 +46,10 @@ module _ {X : Type 0} (P : ℕ → Forest → Type 0) (value : Forest → List X
       }
 
 -- ---- which clauses there are
+
+nothing_of : {X : Type 0} (xs ys : List X) → xs ++ ys ≡ [] → (xs ≡ []) × (ys ≡ [])
+nothing_of [] ys e = (refl, e)
+nothing_of (x ∷ xs) ys e = absurd cc
 
 guarded_joined : (t b a : Forest) → guarded_in t (joined b a) ≡ guarded_in t b ++ guarded_in t a
 guarded_joined t tree.none a = refl
@@ -73,6 +81,29 @@ module _ (t : Forest) (p : ℕ) (b a : Forest) where
 guarded_try : (t b a : Forest) → guarded_in t (tree.branch ITEM_TRY b a) ≡ guarded_in b b ++ guarded_in t a
 guarded_try t b a = ap (λ gs. gs ++ guarded_in t a) (append-nil (guarded_in b b))
 
+-- without a clause nothing is guarded
+pub nothing_guarded : (t b : Forest) → parts clause_forms b ≡ [] → guarded_in t b ≡ []
+nothing_guarded t tree.none e = refl
+nothing_guarded t (tree.leaf k a) e = nothing_guarded t a e
+nothing_guarded t (tree.branch p b a) e =
+    go (is_among clause_forms p) refl e (λ u h. nothing_guarded u b h) (λ h. nothing_guarded t a h)
+  where
+    go : (c : Bool) → is_among clause_forms p ≡ c → (if c then part p b ∷ [] else parts clause_forms b) ++ parts clause_forms a ≡ []
+        → ((u : Forest) → parts clause_forms b ≡ [] → guarded_in u b ≡ []) → (parts clause_forms a ≡ [] → guarded_in t a ≡ [])
+        → guarded_in t (tree.branch p b a) ≡ []
+    go true is h below after = absurd cc
+    go false is h below after =
+        let none = nothing_of (parts clause_forms b) (parts clause_forms a) h in
+        ap (at_branch t p b a (p == ITEM_TRY)) is
+        ∙ ap (λ gs. (gs ++ []) ++ guarded_in t a) (below (if p == ITEM_TRY then b else t) none.0)
+        ∙ after none.1
+
+-- no clause stands in an instruction
+instruction_guards : (s : Source) (t b : Forest) → FitsBody s ITEM_INSTRUCTION b → HasBodies s b → guarded_in t b ≡ []
+instruction_guards s t b fits h =
+    nothing_guarded t b
+    (sym (append-nil (parts clause_forms b)) ∙ sym (same_outside Instructions clause_forms clauses_past s (tree.branch ITEM_INSTRUCTION b tree.none) (fits, h, tt)))
+
 -- ---- the walk for them
 
 module _ (s : Source) (a : Around) (f t g : Forest) (before : List Clause) where
@@ -93,6 +124,16 @@ module _ (s : Source) (a : Around) (f t g : Forest) (before : List Clause) where
   pushed_try left x found longer count o is adds =
       goes_on (IsInRange s) (clauses_in t) (before ++ clauses_in t g) (λ b. clauses_in b b) left x found longer ITEM_TRY count o is (λ b e _ h. adds b e h)
       (λ b r. ap (map (clause s a f)) (guarded_try t b r) ∙ map-append (clause s a f) (guarded_in b b) (guarded_in t r))
+
+  pub pushed_past : (left : List TreeNode) (x : Opened) (found : List Clause) (count : ℕ) → Opens left x → x.node ≡ Branch ITEM_INSTRUCTION count
+      → Pushed left found → Pushed x.after.now found
+  pushed_past left x found count o is sf =
+      let b = o.branch sf.rest ITEM_INSTRUCTION count sf.is is in
+      let h : AllInRange s (tree.branch ITEM_INSTRUCTION b.inner b.rest) = subst (AllInRange s) b.is sf.each in
+      let none : guarded_in t b.inner ≡ [] = instruction_guards s t b.inner h.0.fits (has_bodies s b.inner h.1) in
+      let here : clauses_in t (tree.branch ITEM_INSTRUCTION b.inner b.rest) ≡ clauses_in t b.rest =
+      ap (λ gs. map (clause s a f) ((gs ++ []) ++ guarded_in t b.rest)) none in
+      record { rest = b.rest; is = b.rest-is; each = h.2; same = ap (λ cs. found ++ cs) (sym here ∙ ap (clauses_in t) (sym b.is)) ∙ sf.same }
 
   pub pushed_clause : (left : List TreeNode) (x : Opened) (found longer : List Clause) (p count : ℕ) → Opens left x → x.node ≡ Branch p count
       → is_among clause_forms p ≡ true

@@ -1,6 +1,6 @@
 -- The operands of instructions, from their productions.
 use Rattle.std.proofs.Common.{◌≡◌, ℕ, ap, sym, ◌∙◌, refl}
-use Rattle.std.specs.Prelude.{Bool, true, false, pos, ◌==◌, if◌then◌else◌, map}
+use Rattle.std.specs.Prelude.{Bool, true, false, ◌==◌, if◌then◌else◌, map}
 use Rattle.std.proofs.lemmas.Bool.Decides.{Decides-eqb}
 use Rattle.opcode_table.specs.Opcodes as opcodes
 use Rattle.opcode_table.specs.declared.kind.OperandKind.{OperandKind}

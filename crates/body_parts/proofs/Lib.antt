@@ -1,10 +1,12 @@
 pub mod BodyLemmas
 pub mod ClauseLemmas
 pub mod FormLemmas
+pub mod HeldLemmas
 pub mod InstructionLemmas
 pub mod NamedLemmas
 pub mod NumberLemmas
 pub mod Numbering
+pub mod PastLemmas
 pub mod RangeNames
 pub mod RealParts
 pub mod References

@@ -1,5 +1,5 @@
 -- Which instructions hold references, strings and numbers, from the bodies of their productions (ECMA-335 III.1.7, III.4).
-use Rattle.std.proofs.Common.{◌≡◌, ℕ, ◌+◌, ◌⊎◌, inl, inr, List, [], ◌∷◌, Some, refl, ap, subst, arith}
+use Rattle.std.proofs.Common.{◌≡◌, ℕ, ◌+◌, ◌⊎◌, inl, inr, List, [], ◌∷◌, Some, refl, subst, arith}
 use Rattle.std.specs.Prelude.{Bool, true, false, ◌==◌, nat_lt, slice_get}
 use Rattle.std.proofs.lemmas.Bool.{ltb-true}
 use Rattle.std.proofs.lemmas.Bool.Decides.{Decides-eqb}

@@ -1,5 +1,4 @@
 -- Where the parts of a body are written (ECMA-335 II.15.4.1).
-use Rattle.std.specs.Prelude.{◌≡◌}
 use Rattle.source_model.specs.Forest.{Forest}
 use Rattle.source_model.specs.Nodes.{Around}
 use Rattle.source_model.specs.Source.{Source}

@@ -1,5 +1,5 @@
 -- The nodes of exception clauses (ECMA-335 II.19).
-use Rattle.std.specs.Prelude.{◌≡◌, ℕ, Bool, true, false}
+use Rattle.std.specs.Prelude.{◌≡◌, ℕ, true, false}
 use Rattle.ilasm_grammar.specs.declared.tree.TreeNode.{TreeNode}
 use Rattle.ilasm_grammar.specs.declared.tree.TreeNode.TheVariants.{Branch}
 use Rattle.source_model.specs.Clauses.{clause_forms}

@@ -1,5 +1,6 @@
 pub mod BodyPlaces
 pub mod ClauseNodes
+pub mod HeldItems
 pub mod MethodsInRange
 pub mod NamedVariables
 pub mod Operands

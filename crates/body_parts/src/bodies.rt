@@ -1,9 +1,10 @@
 //! The bodies of methods (ECMA-335 II.15.4.1, II.25.4).
 
-ghost use Rattle.std.specs.Prelude.{◌≡◌, ◌<◌, ◌^◌, [], IfOk, length, Some, None};
+ghost use Rattle.std.specs.Prelude.{◌≡◌, ◌<◌, ◌^◌, ◌∷◌, [], IfOk, length, Some, None};
+ghost use Rattle.ilasm_grammar.specs.declared.productions.TheConstants.{LOCAL};
 ghost use Rattle.source_model.specs.Bodies.{body, body_unless_empty, code};
 ghost use Rattle.source_model.specs.BodyNumbers.{body_numbers_out_of_range_in};
-ghost use Rattle.source_model.specs.Forest.{Forest, preorder};
+ghost use Rattle.source_model.specs.Forest.{Forest, parts, preorder};
 ghost use Rattle.source_model.specs.Instructions.{instructions_of};
 ghost use Rattle.source_model.specs.Nodes.{Around, Node};
 ghost use Rattle.source_model.specs.Source.{Source};
@@ -13,38 +14,43 @@ ghost use Rattle.source_reading.specs.Pieces.{ArePieces, AreParts};
 ghost use Rattle.source_reading.specs.Places.{IsAt};
 ghost use Rattle.source_reading.specs.Walk.{IsForest};
 ghost use Rattle.body_parts.specs.BodyPlaces.{IsWithin};
+ghost use Rattle.body_parts.specs.HeldItems.{IsHeld};
 ghost use Rattle.body_parts.specs.MethodsInRange.{IsMethodInRange};
 ghost use Rattle.body_parts.specs.WholeBodies.{IsBodyOf};
 
+use crate::body_labels::labels_of;
 use crate::body_places::BodyPlace;
-use crate::clauses::clauses;
+use crate::held::Held;
+use crate::held_parts::{bound_of, clauses_of, locals_in};
 use crate::instructions::code;
 use crate::locals::local_types;
 use crate::variables::Variables;
 use assembly_tree::Body;
 use il_base::NoMemory;
 use ilasm_grammar::TreeNode;
-use ilasm_grammar::productions::INIT_OPT_SOME;
-use source_parts::bounds::bound;
 use source_parts::code_places::Code;
-use source_reading::label_numbers::Labels;
 use source_reading::pieces::{Piece, Sought, first_tokens, pieces_of};
 use source_reading::place::Place;
-use source_reading::walk::has;
 use std::alloc::Global;
 
-/// The body of a method, from the nodes below its production; a method whose braces hold no instruction has none.
-pub fn body(alloc: Global, place: &Place, nodes: &[TreeNode]) -> Result<Option<Body>, NoMemory>
+/// The body of a method, from the nodes below its production and what the method holds; a method whose braces hold no instruction
+/// has none.
+pub fn body(
+    alloc: Global,
+    place: &Place,
+    nodes: &[TreeNode],
+    held: Held,
+) -> Result<Option<Body>, NoMemory>
     requires forest { IsForest nodes.now }
     requires few { length nodes.now < 2 ^ 32 }
     ensures { (s : Source) (a : Around) (n : Node) → IsAt place.now s a → IsMethod s n → preorder n.below ≡ nodes.now → AllInRange s n.below →
-        body_numbers_out_of_range_in s n ≡ [] → IfOk result (λ b. b ≡ body s a n.below) }
+        body_numbers_out_of_range_in s n ≡ [] → IsHeld held n.below → IfOk result (λ b. b ≡ body s a n.below) }
 {
     let found = pieces_of(alloc, nodes, Sought::Instructions)?;
     if found.is_empty() {
         return Ok(None);
     }
-    let one = body_with(alloc, place, nodes, found.as_slice())?;
+    let one = body_with(alloc, place, nodes, found.as_slice(), held)?;
     Ok(Some(one))
 }
 
@@ -54,16 +60,18 @@ fn body_with(
     place: &Place,
     nodes: &[TreeNode],
     found: &[Piece],
+    held: Held,
 ) -> Result<Body, NoMemory>
     requires forest { IsForest nodes.now }
     requires parts { AreParts nodes.now found.now }
     requires few { length nodes.now < 2 ^ 32 }
     ensures { (s : Source) (a : Around) (f : Forest) → IsAt place.now s a → preorder f ≡ nodes.now → IsMethodInRange s f →
-        ArePieces nodes.now found.now (instructions_of f) → IfOk result (λ b. IsBodyOf s a f b) }
+        ArePieces nodes.now found.now (instructions_of f) → IsHeld held f → IfOk result (λ b. IsBodyOf s a f b) }
 {
-    let labels = Labels::read(alloc, &place.reader, nodes, found)?;
     let starts = first_tokens(alloc, nodes, found)?;
-    let variables = Variables::read(alloc, &place.reader, nodes)?;
+    let labels = labels_of(alloc, &place.reader, nodes, starts.as_slice())?;
+    let locals = locals_in(alloc, nodes, held)?;
+    let variables = Variables::read(alloc, &place.reader, nodes, locals.as_slice())?;
     let at = BodyPlace {
         place: *place,
         code: Code {
@@ -73,7 +81,7 @@ fn body_with(
         },
         variables: &variables,
     };
-    body_at(alloc, &at, nodes, found)
+    body_at(alloc, &at, nodes, found, locals.as_slice(), held)
 }
 
 // The body of the method that a place is within.
@@ -82,20 +90,24 @@ fn body_at(
     at: &BodyPlace,
     nodes: &[TreeNode],
     found: &[Piece],
+    locals: &[Piece],
+    held: Held,
 ) -> Result<Body, NoMemory>
     requires forest { IsForest nodes.now }
     requires parts { AreParts nodes.now found.now }
+    requires locals { AreParts nodes.now locals.now }
     requires few { length nodes.now < 2 ^ 32 }
     ensures { (s : Source) (a : Around) (f : Forest) → IsWithin at.now s a f → preorder f ≡ nodes.now → IsMethodInRange s f →
-        ArePieces nodes.now found.now (instructions_of f) → IfOk result (λ b. IsBodyOf s a f b) }
+        ArePieces nodes.now found.now (instructions_of f) → ArePieces nodes.now locals.now (parts (LOCAL ∷ []) f) →
+        IsHeld held f → IfOk result (λ b. IsBodyOf s a f b) }
 {
-    let bound = bound(alloc, &at.place.reader, nodes)?;
-    let locals = local_types(alloc, &at.place, nodes)?;
+    let bound = bound_of(alloc, &at.place.reader, nodes, held)?;
+    let locals = local_types(alloc, &at.place, nodes, locals)?;
     let code = code(alloc, at, nodes, found)?;
-    let clauses = clauses(alloc, at, nodes)?;
+    let clauses = clauses_of(alloc, at, nodes, held)?;
     Ok(Body {
         bound,
-        init: has(nodes, INIT_OPT_SOME),
+        init: held.init,
         locals,
         code,
         clauses,

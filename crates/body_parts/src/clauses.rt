@@ -48,6 +48,8 @@ fn push_clauses(
         if is_of(x.node, productions::ITEM_TRY) {
             push_clauses(found, alloc, at, x.below, x.below)?;
             left = x.after;
+        } else if is_of(x.node, productions::ITEM_INSTRUCTION) {
+            left = x.after;
         } else if let Some(production) = clause_form(x.node) {
             push_clauses(found, alloc, at, tried, x.below)?;
             let one = clause(alloc, at, tried, production, x.below)?;
@@ -76,7 +78,8 @@ fn clause_form(node: TreeNode) -> Option<u16>
     }
 }
 
-fn is_clause(production: u16) -> bool
+/// Whether a production is a clause.
+pub fn is_clause(production: u16) -> bool
     ensures { result ≡ is_among clause_forms production }
 {
     matches!(

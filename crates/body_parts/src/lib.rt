@@ -3,9 +3,12 @@
 #![tactic(auto)]
 
 pub mod bodies;
+pub mod body_labels;
 pub mod body_places;
 pub mod clause_ranges;
 pub mod clauses;
+pub mod held;
+pub mod held_parts;
 pub mod instructions;
 pub mod locals;
 pub mod numbers;

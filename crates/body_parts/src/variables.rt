@@ -1,9 +1,10 @@
 //! The arguments and the locals of a method by their names (ECMA-335 II.15.3, II.15.4.1.3, III.3.38, III.3.43).
 
-ghost use Rattle.std.specs.Prelude.{◌≡◌, ◌+◌, ◌++◌, List, IfOk, OnOk};
+ghost use Rattle.std.specs.Prelude.{◌≡◌, ◌+◌, ◌++◌, ◌∷◌, [], List, IfOk, OnOk};
 ghost use Rattle.std.specs.List.{enumerate_from, flat_map};
 ghost use Rattle.il_lexer.specs.declared.types.TokenKind.TheVariants.{Name};
-ghost use Rattle.source_model.specs.Forest.{Forest, Part, each, preorder};
+ghost use Rattle.ilasm_grammar.specs.declared.productions.TheConstants.{LOCAL};
+ghost use Rattle.source_model.specs.Forest.{Forest, Part, below_each, parts, preorder};
 ghost use Rattle.source_model.specs.Nodes.{Node};
 ghost use Rattle.source_model.specs.Source.{Source};
 ghost use Rattle.source_model.specs.Variables.{first_argument, is_of_arguments, variable_named};
@@ -17,7 +18,7 @@ ghost use Rattle.body_parts.specs.NamedVariables.{name_of, names_of, number_if_n
 use il_base::{Items, NoMemory};
 use ilasm_grammar::TreeNode;
 use ilasm_grammar::productions::{
-    CALL_CONV, DEF_ARG, DEF_ARGS_OPT_SOME, EXPLICIT_OPT_SOME, INSTANCE, LOCAL, NAME_OPT_SOME,
+    CALL_CONV, DEF_ARG, DEF_ARGS_OPT_SOME, EXPLICIT_OPT_SOME, INSTANCE, NAME_OPT_SOME,
 };
 use opcode_table::Op;
 use source_reading::declared::Declared;
@@ -42,15 +43,23 @@ pub struct Numbered {
 }
 
 impl Variables {
-    /// Those of a method, from the nodes below its production.
-    pub fn read(alloc: Global, reader: &Reader, method: &[TreeNode]) -> Result<Variables, NoMemory>
-        requires { IsForest method.now }
-        ensures { (s : Source) (n : Node) → Reads reader.now s → IsMethod s n → preorder n.below ≡ method.now → IfOk result (λ x. AreVariables x s n.below) }
+    /// Those of a method, from the nodes below its production and the productions of its locals.
+    pub fn read(
+        alloc: Global,
+        reader: &Reader,
+        method: &[TreeNode],
+        locals: &[Piece],
+    ) -> Result<Variables, NoMemory>
+        requires forest { IsForest method.now }
+        requires parts { AreParts method.now locals.now }
+        ensures { (s : Source) (n : Node) → Reads reader.now s → IsMethod s n → preorder n.below ≡ method.now → ArePieces method.now locals.now (parts (LOCAL ∷ []) n.below) →
+            IfOk result (λ x. AreVariables x s n.below) }
     {
         let parameters = child(method, DEF_ARGS_OPT_SOME);
         let first = first_argument(method);
-        let arguments = named_parts(alloc, reader, parameters, DEF_ARG, first)?;
-        let locals = named_parts(alloc, reader, method, LOCAL, 0)?;
+        let found = pieces_of(alloc, parameters, Sought::One(DEF_ARG))?;
+        let arguments = named_parts(alloc, reader, parameters, found.as_slice(), first)?;
+        let locals = named_parts(alloc, reader, method, locals, 0)?;
         Ok(Variables { arguments, locals })
     }
 
@@ -106,22 +115,21 @@ fn first_argument(method: &[TreeNode]) -> u8
     }
 }
 
-// Those of the parts of this production that have names, where the first part has this number.
+// Those of some parts that have names, where the first part has this number.
 fn named_parts(
     alloc: Global,
     reader: &Reader,
     nodes: &[TreeNode],
-    production: u16,
+    found: &[Piece],
     first: u8,
 ) -> Result<Numbered, NoMemory>
-    requires { IsForest nodes.now }
-    ensures { (s : Source) (f : Forest) → Reads reader.now s → AreNames s (names_of (each production f)) → preorder f ≡ nodes.now →
-        IfOk result (λ x. AreNumbered x s first (each production f)) }
+    requires { AreParts nodes.now found.now }
+    ensures { (s : Source) (ps : List Part) → Reads reader.now s → AreNames s (names_of (below_each ps)) → ArePieces nodes.now found.now ps →
+        IfOk result (λ x. AreNumbered x s first (below_each ps)) }
 {
-    let found = pieces_of(alloc, nodes, Sought::One(production))?;
-    let tokens = name_tokens(alloc, nodes, found.as_slice())?;
+    let tokens = name_tokens(alloc, nodes, found)?;
     let names = names_at(alloc, reader, tokens.as_slice())?;
-    let numbers = name_numbers(alloc, nodes, found.as_slice(), first)?;
+    let numbers = name_numbers(alloc, nodes, found, first)?;
     Ok(Numbered { names, numbers })
 }
 

@@ -12,7 +12,7 @@ use Rattle.source_model.specs.Forest as tree
 use Rattle.source_model.specs.Forest.{Forest, Part, is_among, joined, part, preorder}
 use Rattle.source_model.specs.Items.{items_and_ends, plain_items}
 use Rattle.source_model.specs.Laws.{BeginsWithBranch, ForestOpens, ForestsJoin, OneForest}
-use Rattle.source_reading.specs.Pieces.{ArePieces, nodes_of, piece_of, written}
+use Rattle.source_reading.specs.Pieces.{ArePieces, piece_of, written}
 use Rattle.source_reading.specs.Walk.{IsForest}
 use Rattle.source_reading.specs.declared.pieces.Piece.{Piece}
 use Rattle.member_parts.specs.ItemSteps.{branch_step, node_step, step_of, unrolled}

@@ -4,14 +4,29 @@ use Rattle.std.specs.Prelude.{Bool, true, false, bytes_eq, filter, find, if◌th
 use Rattle.std.specs.List.{flat_map}
 use Rattle.std.proofs.lemmas.Option.{slice_get-map}
 use Rattle.std.proofs.lemmas.Slice.Eq.{bytes_eq-Decides}
-use Rattle.ilasm_grammar.specs.declared.productions.TheConstants.{DATA_LABEL}
+use Rattle.ilasm_grammar.specs.Ilasm.{has_bit}
+use Rattle.ilasm_grammar.specs.declared.productions.TheConstants.{DATA, DATA_LABEL}
+use Rattle.ilasm_grammar.proofs.TableCheck.{ilasm_tables}
+use Rattle.source_flags.specs.declared.outside.Shut.TheVariants.{Methods}
+use Rattle.source_flags.proofs.Apart.{is_past, mask_of}
 use Rattle.source_model.specs.Data.{bytes_at, data_bytes, data_named, label_token, labelled}
 use Rattle.source_model.specs.Forest.{Forest, Part, below_each, has}
 use Rattle.source_model.specs.Source.{Source}
 use Rattle.source_model.specs.Values.{name_text}
+use Rattle.ilasm_grammar.specs.declared.tree.TreeNode.{TreeNode}
+use Rattle.source_reading.specs.Pieces.{ArePieces}
 use Rattle.source_reading.proofs.LabelLemmas.{position_first}
 use Rattle.member_parts.specs.Runs.{bytes_of_each, bytes_of_runs}
 use Rattle.member_parts.specs.declared.runs.Run.{Run}
+
+-- data stands in no method
+pub data_past : is_past Methods (DATA ∷ []) ≡ true
+unfolding is_past mask_of ilasm_tables has_bit
+data_past = refl
+
+pub none_found : (nodes : List TreeNode) (ps : List Part) → ArePieces nodes [] ps → ps ≡ []
+none_found nodes [] e = refl
+none_found nodes (p ∷ ps) e = absurd cc
 
 -- ---- the bytes of those with labels
 

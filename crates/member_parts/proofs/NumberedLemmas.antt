@@ -1,19 +1,25 @@
 -- The lines of `.param [n]` by their numbers.
-use Rattle.std.proofs.Common.{◌≡◌, ℕ, zero, suc, ◌+◌, ◌-◌, ◌≤◌, ◌<◌, ◌^◌, List, [], ◌∷◌, ◌++◌, cond, length, min, refl, ap, sym, subst, ◌∙◌, arith, append_assoc, append-nil}
-use Rattle.std.specs.Prelude.{Bool, true, false, ◌==◌, if◌then◌else◌, filter, nat_lt, slice_index_or, slice_set, take_while}
+use Rattle.std.proofs.Common.{◌≡◌, ℕ, zero, suc, ◌-◌, ◌≤◌, ◌<◌, List, [], ◌∷◌, ◌++◌, cond, length, min, refl, ap, sym, subst, ◌∙◌, arith, append_assoc, append-nil, inl, inr}
+use Rattle.std.specs.Prelude.{Bool, true, false, ◌==◌, if◌then◌else◌, filter, nat_lt, slice_index_or, slice_set}
 use Rattle.std.specs.List.{AllByRecursion}
 use Rattle.std.proofs.lemmas.Bool.{lt-ltb, ltb-false, ltb-true}
 use Rattle.std.proofs.lemmas.Bool.Decides.{Decides-eqb}
 use Rattle.std.proofs.lemmas.List.{get_or-set_other, get_or-set_same, length-set}
-use Rattle.ilasm_grammar.specs.declared.productions.TheConstants.{PARAM_OF_BRACKET}
+use Rattle.ilasm_grammar.specs.Ilasm.{has_bit}
+use Rattle.ilasm_grammar.specs.declared.productions.TheConstants.{ITEM_INSTRUCTION, PARAM_OF_BRACKET}
+use Rattle.ilasm_grammar.proofs.TableCheck.{ilasm_tables}
 use Rattle.ilasm_grammar.specs.declared.tree.TreeNode.{TreeNode}
-use Rattle.source_model.specs.Forest.{Part, has}
-use Rattle.source_model.specs.Items.{Run, is_custom, runs}
+use Rattle.source_model.specs.Forest as tree
+use Rattle.source_model.specs.Forest.{Forest, Part, has, is_any_part, parts}
+use Rattle.source_model.specs.Items.{Run, runs}
 use Rattle.source_model.specs.Parameters.{parameter_number, speaks_of_parameter}
 use Rattle.source_model.specs.Source.{Source}
 use Rattle.source_reading.specs.Pieces.{ArePieces, piece_of, written}
 use Rattle.source_reading.specs.declared.pieces.Piece.{Piece}
-use Rattle.source_flags.proofs.Gathered.{all_append}
+use Rattle.source_flags.specs.declared.outside.Shut.TheVariants.{Instructions}
+use Rattle.source_flags.proofs.Apart.{is_past, mask_of, same_outside}
+use Rattle.source_flags.proofs.Gathered.{all_append, has_bodies}
+use Rattle.source_reading.specs.Derived.{FitsBody, HasBodies}
 use Rattle.member_parts.specs.FieldContexts.{run_at}
 use Rattle.member_parts.specs.NumberedLines.{AllLines, AreLines, AreNumbered, AreRuns, IsLine, IsRun, appended, no_lines, own_lines, with_line}
 use Rattle.member_parts.specs.Ranged.{IsBodyItem}
@@ -210,6 +216,7 @@ module _ (s : Source) (nodes : List TreeNode) where
   pub record FirstLine (n : ℕ) (x : Piece) (xs : List Piece) (bs : Buckets) (ps : List Part) : Type 0 where
     pub first : Part
     pub is : piece_of nodes x ≡ written first
+    pub own : IsBodyItem s first
     pub next : (y : NumberedLine) → y.head ≡ x → y.more.now ≡ xs → (cs : Buckets) → cs ≡ with_line s first y bs → NumbersLeft n xs cs ps
 
   pub numbers_begin : (n : ℕ) (x : Piece) (xs : List Piece) (bs : Buckets) (ps : List Part) → NumbersLeft n (x ∷ xs) bs ps → FirstLine n x xs bs ps
@@ -222,6 +229,7 @@ module _ (s : Source) (nodes : List TreeNode) where
           record {
             first = q;
             is = f.0;
+            own = h.0;
             next = λ y head more cs same.
                 let own : piece_of nodes y.head ≡ written q = ap (piece_of nodes) head ∙ f.0 in
                 let rest : ArePieces nodes y.more.now qs = subst (λ zs. ArePieces nodes zs qs) (sym more) f.1 in
@@ -244,3 +252,20 @@ with_own s p x bs cs m some few e is =
 
 pub with_other : (s : Source) (p : Part) (x : NumberedLine) (bs : Buckets) → has PARAM_OF_BRACKET p.below ≡ false → bs ≡ with_line s p x bs
 with_other s p x bs empty = sym (ap (λ (c : Bool). if c then appended bs (parameter_number s p.below) x else bs) empty)
+
+-- ---- an instruction speaks of no parameter
+
+bracket_past : is_past Instructions (PARAM_OF_BRACKET ∷ []) ≡ true
+unfolding is_past mask_of ilasm_tables has_bit
+bracket_past = refl
+
+none_below : (s : Source) (b : Forest) → FitsBody s ITEM_INSTRUCTION b → HasBodies s b → has PARAM_OF_BRACKET b ≡ false
+none_below s b fits h =
+    ap is_any_part
+    (sym (append-nil (parts (PARAM_OF_BRACKET ∷ []) b))
+    ∙ sym (same_outside Instructions (PARAM_OF_BRACKET ∷ []) bracket_past s (tree.branch ITEM_INSTRUCTION b tree.none) (fits, h, tt)))
+
+pub instruction_numbers : (s : Source) (p : Part) → p.production ≡ ITEM_INSTRUCTION → IsBodyItem s p → has PARAM_OF_BRACKET p.below ≡ false
+instruction_numbers s p own (inl (inl e)) = ap (λ (q : Part). has PARAM_OF_BRACKET q.below) e
+instruction_numbers s p own (inl (inr e)) = ap (λ (q : Part). has PARAM_OF_BRACKET q.below) e
+instruction_numbers s p own (inr h) = none_below s p.below (subst (λ q. FitsBody s q p.below) own h.1.0.fits) (has_bodies s p.below h.1.1)

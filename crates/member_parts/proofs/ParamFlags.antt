@@ -1,5 +1,5 @@
 -- The flags of lines of `.param [n]`, and what stands in a parameter, from the bodies of their productions.
-use Rattle.std.proofs.Common.{◌≡◌, ℕ, zero, suc, ◌+◌, ◌-◌, ◌≤◌, ◌<◌, ◌⊎◌, inl, inr, List, [], ◌∷◌, ◌++◌, Option, None, Some, length, drop, refl, ap, sym, subst, ◌∙◌, arith, append-nil}
+use Rattle.std.proofs.Common.{◌≡◌, ℕ, zero, suc, ◌+◌, ◌≤◌, ◌⊎◌, inl, inr, List, [], ◌∷◌, ◌++◌, Option, None, Some, length, drop, refl, ap, sym, subst, ◌∙◌, arith, append-nil}
 use Rattle.std.specs.Prelude.{Bool, true, false, not, ◌==◌, ◌||◌, ◌&&◌, nat_le, nat_lt, slice_get, if◌then◌else◌, ⊤}
 use Rattle.std.specs.List.{AllByRecursion}
 use Rattle.std.proofs.lemmas.Bool.{ltb-true}
@@ -10,27 +10,7 @@ use Rattle.il_lexer.specs.declared.word.TheConstants as word
 use Rattle.ilasm_grammar.specs.Grammar.{Rule, rule_of}
 use Rattle.ilasm_grammar.specs.Ilasm.{ilasm, rule_by}
 use Rattle.ilasm_grammar.specs.declared.nonterminals.TheConstants as n
-use Rattle.ilasm_grammar.specs.declared.productions.TheConstants.{
-  DEF_ARG,
-  DEF_ARGS,
-  DEF_ARGS_OPT_SOME,
-  FLAGS,
-  FLAGS_OPT_SOME,
-  FLAGS_OPT_NONE,
-  ITEM_NAME,
-  ITEM_INSTRUCTION,
-  ITEM_MAXSTACK,
-  ITEM_ENTRYPOINT,
-  ITEM_CUSTOM,
-  ITEM_LOCALS,
-  ITEM_OVERRIDE,
-  ITEM_PARAM,
-  NAME_OPT_SOME,
-  PARAM_ATTR_STAR_MORE,
-  PARAM_ATTR_STAR_END,
-  PARAM_OF_BRACKET,
-  PARAM_OF_TYPE,
-}
+use Rattle.ilasm_grammar.specs.declared.productions.TheConstants.{DEF_ARG, DEF_ARGS, DEF_ARGS_OPT_SOME, FLAGS, FLAGS_OPT_SOME, FLAGS_OPT_NONE, ITEM_PARAM, NAME_OPT_SOME, PARAM_ATTR_STAR_MORE, PARAM_ATTR_STAR_END, PARAM_OF_BRACKET, PARAM_OF_TYPE}
 use Rattle.ilasm_grammar.specs.declared.symbol.Symbol.{Symbol}
 use Rattle.ilasm_grammar.specs.declared.symbol.Symbol.TheVariants.{Nonterminal, Terminal}
 use Rattle.ilasm_grammar.specs.declared.terminals.TheConstants as t
@@ -42,7 +22,7 @@ use Rattle.source_model.specs.Parameters.{parameters}
 use Rattle.source_model.specs.Source.{Source}
 use Rattle.source_model.specs.TypeRules.{arguments_out_of_range, array_out_of_range, first_of, generic_number_out_of_range, index_out_of_range, parameter_flags_out_of_range, second_ellipsis}
 use Rattle.source_model.specs.Values.{int_at}
-use Rattle.source_reading.specs.Derived.{Fits, FitsBody, FitsRule, HasBodies, OfEach, head_of}
+use Rattle.source_reading.specs.Derived.{Fits, FitsBody, FitsRule, HasBodies, head_of}
 use Rattle.source_reading.specs.Places.{node_of}
 use Rattle.source_reading.specs.Readers.{IsOf}
 use Rattle.source_reading.proofs.BodyLemmas.{NowhereBelow, StaysChosen, all_in, closed_rule, enters, goes_on_with, has_child, nowhere_below}

@@ -26,7 +26,7 @@ use Rattle.source_reading.proofs.NameTokens.{key_of_typar_is_name}
 use Rattle.source_reading.proofs.ReferenceLemmas.{sound_part}
 use Rattle.source_reading.proofs.VariableLemmas.{within_in}
 use Rattle.source_reading.proofs.WrittenNames.{fits_rule}
-use Rattle.source_flags.specs.InRange.{AllInRange, IsInRange}
+use Rattle.source_flags.specs.InRange.{IsInRange}
 use Rattle.source_flags.proofs.Gathered.{has_bodies}
 use Rattle.source_parts.proofs.ConstantLemmas.{the_has}
 use Rattle.member_parts.specs.ParamLines.{speaks_of_typar}

@@ -1,11 +1,11 @@
 -- The rows of parameters, from the lines that speak of them.
-use Rattle.std.proofs.Common.{◌≡◌, ℕ, zero, suc, ◌+◌, ◌-◌, ◌≤◌, ◌<◌, inl, inr, List, [], ◌∷◌, ◌++◌, Option, None, Some, length, min, take, refl, ap, sym, subst, ◌∙◌, arith, append_assoc, append-nil}
+use Rattle.std.proofs.Common.{◌≡◌, ℕ, zero, suc, ◌+◌, ◌<◌, inl, inr, List, [], ◌∷◌, ◌++◌, Option, None, Some, length, take, refl, ap, sym, subst, ◌∙◌, arith, append_assoc, append-nil}
 use Rattle.std.specs.Prelude.{Bool, true, false, ◌==◌, ◌||◌, not, nat_lt, filter, fold, if◌then◌else◌, slice_get, slice_index_or}
 use Rattle.std.specs.List.{AllByRecursion, enumerate_from, flat_map}
 use Rattle.assembly_tree.specs.declared.members.Attribute.{Attribute}
 use Rattle.assembly_tree.specs.declared.members.Constant.{Constant}
 use Rattle.assembly_tree.specs.declared.members.Param.{Param}
-use Rattle.ilasm_grammar.specs.declared.productions.TheConstants.{DEF_ARG, DEF_ARGS_OPT_SOME, NAME_OPT_SOME}
+use Rattle.ilasm_grammar.specs.declared.productions.TheConstants.{NAME_OPT_SOME}
 use Rattle.ilasm_grammar.specs.declared.tree.TreeNode.{TreeNode}
 use Rattle.source_model.specs.Flags.{flags_of, parameter_flags_in, parameter_words, without_bits}
 use Rattle.source_model.specs.Forest as tree
@@ -13,18 +13,18 @@ use Rattle.source_model.specs.Forest.{Forest, Part, below_each, child, has, is_a
 use Rattle.source_model.specs.Items.{Run, items_and_ends, plain_items, runs}
 use Rattle.source_model.specs.Manifests.{attributes}
 use Rattle.source_model.specs.Nodes.{Around}
-use Rattle.source_model.specs.Parameters.{attributes_of, has_row, line_constant, parameter_name, parameters, params, row, rows_of, speaks_of_parameter, with_line_flags}
+use Rattle.source_model.specs.Parameters.{attributes_of, has_row, line_constant, parameter_name, parameters, row, rows_of, speaks_of_parameter, with_line_flags}
 use Rattle.source_model.specs.Source.{Source}
 use Rattle.ilasm_grammar.specs.declared.productions.TheConstants.{BLOCK, ITEM_TRY}
 use Rattle.std.proofs.lemmas.Bool.Decides.{Decides-eqb}
-use Rattle.source_flags.specs.InRange.{AllInRange, IsInRange}
+use Rattle.source_flags.specs.InRange.{AllInRange}
 use Rattle.source_flags.proofs.Gathered.{all_append, all_follow}
 use Rattle.source_reading.proofs.PieceLemmas.{take_next}
 use Rattle.std.proofs.lemmas.Bool.{lt-ltb}
 use Rattle.member_parts.proofs.ParamFlags.{not_zero}
-use Rattle.member_parts.specs.NumberedLines.{AreLines, AreRuns, IsLine, IsRun, own_lines}
+use Rattle.member_parts.specs.NumberedLines.{AreLines, AreRuns, IsLine, IsRun}
 use Rattle.member_parts.specs.Parameters.{row_with}
-use Rattle.member_parts.specs.Ranged.{IsBodyItem, IsEnd, IsRanged, IsRangedItem}
+use Rattle.member_parts.specs.Ranged.{IsBodyItem, IsEnd, IsRangedItem}
 use Rattle.member_parts.specs.declared.numbered_lines.NumberedLine.{NumberedLine}
 
 -- ---- the items of a body

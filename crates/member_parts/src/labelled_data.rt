@@ -2,12 +2,12 @@
 
 ghost use Rattle.std.specs.Prelude.{◌≡◌, ◌∷◌, ◌++◌, [], IfOk, List, filter, if◌then◌else◌, map, slice_get};
 ghost use Rattle.std.specs.List.{AllByRecursion};
-ghost use Rattle.ilasm_grammar.specs.declared.productions.TheConstants.{DATA_LABEL};
+ghost use Rattle.ilasm_grammar.specs.declared.productions.TheConstants.{DATA, DATA_LABEL};
 ghost use Rattle.member_parts.specs.LabelledData.{AreData};
 ghost use Rattle.member_parts.specs.Runs.{bytes_of_each, bytes_of_runs};
 ghost use Rattle.source_flags.specs.InRange.{AllInRange};
 ghost use Rattle.source_model.specs.Data.{bytes_at, data_bytes, data_named};
-ghost use Rattle.source_model.specs.Forest.{Forest, Part, below_each, has, preorder};
+ghost use Rattle.source_model.specs.Forest.{Forest, Part, below_each, has, parts, preorder};
 ghost use Rattle.source_model.specs.Source.{Source};
 ghost use Rattle.source_reading.specs.Pieces.{ArePieces, AreParts};
 ghost use Rattle.source_reading.specs.Readers.{Reads};
@@ -18,7 +18,9 @@ use crate::runs::{Run, Runs};
 use il_base::{Items, NoMemory};
 use ilasm_grammar::TreeNode;
 use ilasm_grammar::productions::{DATA, DATA_LABEL};
-use source_flags::gathering::{Kind, parts_of};
+use source_flags::gathering::Kind;
+use source_flags::outside::{Shut, parts_outside};
+use source_reading::declared::Declared;
 use source_reading::name_lists::{Named, Naming, collect};
 use source_reading::pieces::{Piece, nodes_of};
 use source_reading::reader::Reader;
@@ -39,10 +41,26 @@ pub fn collect_data(alloc: Global, reader: &Reader) -> Result<LabelledData, NoMe
     requires { IsForest reader.now.nodes.now }
     ensures { (s : Source) → Reads reader.now s → AllInRange s s.tree → IfOk result (λ d. AreData s d) }
 {
+    let all = parts_outside(alloc, reader.nodes, Shut::Methods, Kind::One(DATA))?;
+    if all.is_empty() {
+        return Ok(no_data(alloc));
+    }
     let labels = collect(alloc, reader, Naming::Label)?;
-    let all = parts_of(alloc, reader.nodes, Kind::One(DATA))?;
     let contents = contents_of(alloc, reader, all.as_slice())?;
     Ok(LabelledData { labels, contents })
+}
+
+// What a source without data has.
+fn no_data(alloc: Global) -> LabelledData
+    ensures { (s : Source) → parts (DATA ∷ []) s.tree ≡ [] → AreData s result }
+{
+    let tokens = Items::new(alloc);
+    let names = Declared::new(alloc);
+    let contents = Items::new(alloc);
+    LabelledData {
+        labels: Named { tokens, names },
+        contents,
+    }
 }
 
 // The bytes of those of these declarations of data that have a label.

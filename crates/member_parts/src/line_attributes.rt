@@ -37,6 +37,9 @@ pub fn line_attributes(
     ensures { (s : Source) (a : Around) → IsAt place.now s a → (ps : List Part) → ArePieces nodes.now found.now ps → AllByRecursion (IsRangedItem s) ps →
         length names.now < 2 ^ 32 → IfOk result (λ bs. AreGiven s a names.now ps bs.items) }
 {
+    if names.len() == 0 {
+        return Ok(Vec::new(alloc));
+    }
     let mut given = empty_lists(alloc, names.len())?;
     let mut rest = found;
     while let Some((head, more)) = next(rest) {

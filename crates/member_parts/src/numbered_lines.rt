@@ -15,7 +15,7 @@ use crate::capped::natural;
 use crate::next_pieces::next;
 use il_base::{Items, NoMemory};
 use ilasm_grammar::TreeNode;
-use ilasm_grammar::productions::PARAM_OF_BRACKET;
+use ilasm_grammar::productions::{ITEM_INSTRUCTION, PARAM_OF_BRACKET};
 use source_reading::pieces::{Piece, nodes_of};
 use source_reading::reader::Reader;
 use source_reading::walk::{has, leaf_at, the};
@@ -73,9 +73,12 @@ fn add_line<'a>(
 ) -> Result<(), NoMemory>
     requires { IsLine nodes.now line }
     ensures lines { AllLines nodes.now (length lines.old.items) lines.old.items → IfOk result (λ _. AllLines nodes.now (length lines.old.items) lines.new.items) }
-    ensures numbered { (s : Source) → Reads reader.now s → (p : Part) → piece_of nodes.now line.entry.head ≡ written p → length lines.old.items < 0x100000000 →
+    ensures numbered { (s : Source) → Reads reader.now s → (p : Part) → piece_of nodes.now line.entry.head ≡ written p → IsBodyItem s p → length lines.old.items < 0x100000000 →
         IfOk result (λ _. lines.new.items ≡ with_line s p line.entry lines.old.items) }
 {
+    if line.head.production == ITEM_INSTRUCTION {
+        return Ok(());
+    }
     let below = nodes_of(nodes, line.head);
     if has(below, PARAM_OF_BRACKET) {
         let number = natural(reader, leaf_at(the(below, PARAM_OF_BRACKET), 1));

@@ -1,5 +1,5 @@
 -- Methods, from their parts.
-use Rattle.std.proofs.Common.{◌≡◌, ℕ, ◌+◌, ◌<◌, ◌≤◌, ◌^◌, List, [], ◌∷◌, ◌++◌, Option, Some, length, map, take, refl, ap, sym, subst, ◌∙◌, arith}
+use Rattle.std.proofs.Common.{◌≡◌, ℕ, ◌+◌, ◌<◌, ◌^◌, List, [], ◌∷◌, ◌++◌, Option, Some, length, map, take, refl, ap, sym, subst, ◌∙◌, arith}
 use Rattle.std.specs.Prelude.{Bool, true, filter, slice_get, if◌then◌else◌}
 use Rattle.std.proofs.lemmas.List.{length-map, map-append}
 use Rattle.std.proofs.lemmas.List.Elements.{filter-append}
@@ -10,7 +10,11 @@ use Rattle.assembly_tree.specs.declared.members.Attribute.{Attribute}
 use Rattle.assembly_tree.specs.declared.members.Generic.{Generic}
 use Rattle.assembly_tree.specs.declared.members.Method.{Method}
 use Rattle.assembly_tree.specs.declared.members.Param.{Param}
-use Rattle.ilasm_grammar.specs.declared.productions.TheConstants.{METHOD, TYPAR, TYPARS_OPT_SOME}
+use Rattle.ilasm_grammar.specs.Ilasm.{has_bit}
+use Rattle.ilasm_grammar.specs.declared.productions.TheConstants.{ITEM_ENTRYPOINT, METHOD, TYPAR, TYPARS_OPT_SOME}
+use Rattle.ilasm_grammar.proofs.TableCheck.{ilasm_tables}
+use Rattle.source_flags.specs.declared.outside.Shut.TheVariants.{Instructions}
+use Rattle.source_flags.proofs.Apart.{is_past, mask_of}
 use Rattle.source_model.specs.Forest.{Forest, Part, child, leaf_at, preorder, the}
 use Rattle.source_model.specs.Members.{in_method, is_method_part, method}
 use Rattle.source_model.specs.Nodes.{Around, typar_names, typars}
@@ -21,6 +25,11 @@ use Rattle.source_reading.specs.Readers.{Reads}
 use Rattle.source_reading.specs.declared.place.Place.{Place}
 use Rattle.source_reading.proofs.PieceLemmas.{take_next}
 use Rattle.source_reading.proofs.SizeLemmas.{child_smaller, few_each}
+
+-- what says that a method is the entry point stands in no instruction
+pub entry_past : is_past Instructions (ITEM_ENTRYPOINT ∷ []) ≡ true
+unfolding is_past mask_of ilasm_tables has_bit
+entry_past = refl
 
 -- ---- the place in a method
 

@@ -25,7 +25,7 @@ use Rattle.source_reading.specs.Derived.{FitsBody, FitsRule, head_of}
 use Rattle.source_reading.proofs.BodyLemmas.{fits_has, goes_on_with}
 use Rattle.source_reading.proofs.ReferenceLemmas.{sound_part}
 use Rattle.source_reading.proofs.WrittenNames.{one_in}
-use Rattle.source_flags.specs.InRange.{AllInRange, IsInRange}
+use Rattle.source_flags.specs.InRange.{AllInRange}
 use Rattle.source_flags.proofs.Gathered.{has_bodies}
 use Rattle.source_parts.specs.Laws.{AllAreInRange}
 use Rattle.method_parts.specs.SoundMethods.{AllWhole, IsSoundAt, IsWhole, IsWholePart}

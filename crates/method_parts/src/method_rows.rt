@@ -1,11 +1,14 @@
 //! The generic parameters, parameters, overrides and attributes of a method (ECMA-335 II.10.3.2, II.15.4.1, II.21).
 
-ghost use Rattle.std.specs.Prelude.{◌≡◌, ◌<◌, ◌^◌, IfOk, length};
+ghost use Rattle.std.specs.Prelude.{◌≡◌, ◌<◌, ◌^◌, ◌∷◌, [], IfOk, length, map};
+ghost use Rattle.body_parts.specs.HeldItems.{IsHeld};
+ghost use Rattle.ilasm_grammar.specs.declared.productions.TheConstants.{OVERRIDDEN_METHOD, OVERRIDDEN_SPEC};
 ghost use Rattle.method_parts.specs.MethodParts.{AreRows};
 ghost use Rattle.source_flags.specs.InRange.{AllInRange};
-ghost use Rattle.source_model.specs.Forest.{Forest, preorder};
+ghost use Rattle.source_model.specs.Forest.{Forest, parts, preorder};
 ghost use Rattle.source_model.specs.Items.{items_and_ends, own_customs};
 ghost use Rattle.source_model.specs.Manifests.{attributes};
+ghost use Rattle.source_model.specs.Members.{overridden};
 ghost use Rattle.source_model.specs.Nodes.{Around};
 ghost use Rattle.source_model.specs.Source.{Source};
 ghost use Rattle.source_reading.specs.Pieces.{ArePieces, AreParts};
@@ -13,7 +16,8 @@ ghost use Rattle.source_reading.specs.Places.{IsAt};
 ghost use Rattle.source_reading.specs.Walk.{IsForest};
 
 use assembly_tree::{Attributes, Generics, Params};
-use il_base::NoMemory;
+use body_parts::held::Held;
+use il_base::{Items, NoMemory};
 use ilasm_grammar::TreeNode;
 use member_parts::generics::generics;
 use member_parts::item_walks::items_and_ends;
@@ -35,16 +39,22 @@ pub struct Rows {
     pub attributes: Attributes,
 }
 
-/// What belongs to the method that a place is in, from what stands below its production.
-pub fn read_rows(alloc: Global, place: &Place, nodes: &[TreeNode]) -> Result<Rows, NoMemory>
+/// What belongs to the method that a place is in, from what stands below its production and what the method holds.
+pub fn read_rows(
+    alloc: Global,
+    place: &Place,
+    nodes: &[TreeNode],
+    held: Held,
+) -> Result<Rows, NoMemory>
     requires forest { IsForest nodes.now }
     requires few { length nodes.now < 2 ^ 32 }
-    ensures { (s : Source) (a : Around) → IsAt place.now s a → (f : Forest) → a.method ≡ f → preorder f ≡ nodes.now → AllInRange s f → IfOk result (λ x. AreRows s a f x) }
+    ensures { (s : Source) (a : Around) → IsAt place.now s a → (f : Forest) → a.method ≡ f → preorder f ≡ nodes.now → AllInRange s f → IsHeld held f →
+        IfOk result (λ x. AreRows s a f x) }
 {
     let found = items_and_ends(alloc, nodes)?;
     let generics = generics(alloc, place, place.method, nodes, found.as_slice())?;
     let params = params(alloc, place, nodes, found.as_slice())?;
-    let overrides = overrides(alloc, place, nodes)?;
+    let overrides = overrides_of(alloc, place, nodes, held)?;
     let attributes = own_attributes(alloc, place, nodes, found.as_slice())?;
     Ok(Rows {
         generics,
@@ -52,6 +62,25 @@ pub fn read_rows(alloc: Global, place: &Place, nodes: &[TreeNode]) -> Result<Row
         overrides,
         attributes,
     })
+}
+
+// The methods that a method overrides, which are looked for only where it overrides some.
+fn overrides_of(
+    alloc: Global,
+    place: &Place,
+    nodes: &[TreeNode],
+    held: Held,
+) -> Result<MethodRefs, NoMemory>
+    requires forest { IsForest nodes.now }
+    requires few { length nodes.now < 2 ^ 32 }
+    ensures { (s : Source) (a : Around) → IsAt place.now s a → (f : Forest) → preorder f ≡ nodes.now → AllInRange s f → IsHeld held f →
+        IfOk result (λ all. all ≡ map (overridden s a f) (parts (OVERRIDDEN_METHOD ∷ OVERRIDDEN_SPEC ∷ []) f)) }
+{
+    if held.overrides {
+        overrides(alloc, place, nodes)
+    } else {
+        Ok(Items::new(alloc))
+    }
 }
 
 // The attributes of a method itself.

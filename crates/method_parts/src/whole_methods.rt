@@ -16,12 +16,11 @@ use crate::method_heads::{Head, read_head};
 use crate::method_rows::{Rows, read_rows};
 use assembly_tree::{Body, Method};
 use body_parts::bodies::body;
+use body_parts::held::held_in;
 use il_base::NoMemory;
 use ilasm_grammar::TreeNode;
-use ilasm_grammar::productions::ITEM_ENTRYPOINT;
 use source_reading::name_lists::typar_names;
 use source_reading::place::Place;
-use source_reading::walk::has;
 use std::alloc::Global;
 
 /// A method, from what stands below its production and a place outside of it.
@@ -47,10 +46,11 @@ fn method_at(alloc: Global, place: &Place, nodes: &[TreeNode]) -> Result<Method,
     ensures { (s : Source) (a : Around) (n : Node) → IsAt place.now s a → a.method ≡ n.below → preorder n.below ≡ nodes.now → IsSoundMethod s n →
         IfOk result (λ m. m ≡ method_from s a n.below) }
 {
+    let held = held_in(nodes);
     let head = read_head(alloc, place, nodes)?;
-    let rows = read_rows(alloc, place, nodes)?;
-    let code = body(alloc, place, nodes)?;
-    Ok(put_together(head, rows, has(nodes, ITEM_ENTRYPOINT), code))
+    let rows = read_rows(alloc, place, nodes, held)?;
+    let code = body(alloc, place, nodes, held)?;
+    Ok(put_together(head, rows, held.entry, code))
 }
 
 fn put_together(head: Head, rows: Rows, entry: bool, code: Option<Body>) -> Method

@@ -69,8 +69,8 @@ pub fn parts_of(alloc: Global, nodes: &[TreeNode], kind: Kind) -> Result<Items<P
     Ok(found)
 }
 
-// Whether a production is one of a kind.
-fn is_of_kind(kind: Kind, production: u16) -> bool
+/// Whether a production is one of a kind.
+pub fn is_of_kind(kind: Kind, production: u16) -> bool
     ensures { result ≡ is_among (productions_of kind) production }
 {
     match kind {

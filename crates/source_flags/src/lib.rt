@@ -8,3 +8,4 @@ pub mod flags;
 pub mod gathering;
 pub mod lines;
 pub mod naturals;
+pub mod outside;

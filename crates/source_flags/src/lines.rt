@@ -32,8 +32,8 @@ pub fn last_line<'a>(
     Ok(last_of(nodes, found.as_slice()))
 }
 
-// The last of some parts.
-fn last_of<'a>(nodes: &'a [TreeNode], found: &[Piece]) -> Option<Line<'a>>
+/// The last of some parts.
+pub fn last_of<'a>(nodes: &'a [TreeNode], found: &[Piece]) -> Option<Line<'a>>
     ensures { (ps : List Part) → ArePieces nodes.now found.now ps → IsLast result ps }
 {
     match last_piece(found) {

@@ -6,6 +6,7 @@ pub mod ExternLemmas
 pub mod KeyLemmas
 pub mod ManifestLemmas
 pub mod OverrideLemmas
+pub mod PastLemmas
 pub mod PlaceLemmas
 pub mod RangeOfAll
 pub mod RunLemmas

@@ -16,8 +16,9 @@ use assembly_tree::{ExternAssembly, Externs};
 use il_base::{Bytes, Items, NoMemory, Text};
 use ilasm_grammar::TreeNode;
 use ilasm_grammar::productions::{ASSEMBLY_EXTERN, TEXT};
-use source_flags::gathering::{Kind, parts_of};
+use source_flags::gathering::Kind;
 use source_flags::lines::last_line;
+use source_flags::outside::{Shut, parts_outside};
 use source_reading::pieces::nodes_of;
 use source_reading::reader::Reader;
 use source_reading::walk::{leaf_at, the};
@@ -28,7 +29,7 @@ pub fn extern_assemblies(alloc: Global, reader: &Reader) -> Result<Externs, NoMe
     requires { IsForest reader.now.nodes.now }
     ensures { (s : Source) → Reads reader.now s → AllInRange s s.tree → IfOk result (λ all. all ≡ extern_assemblies s) }
 {
-    let found = parts_of(alloc, reader.nodes, Kind::One(ASSEMBLY_EXTERN))?;
+    let found = parts_outside(alloc, reader.nodes, Shut::Types, Kind::One(ASSEMBLY_EXTERN))?;
     let mut all = Items::new(alloc);
     for piece in found.as_slice() {
         let one = extern_assembly(alloc, reader, nodes_of(reader.nodes, *piece))?;

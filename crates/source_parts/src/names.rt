@@ -11,7 +11,7 @@ ghost use Rattle.source_reading.specs.Walk.{IsForest};
 use il_base::{NoMemory, Text};
 use ilasm_grammar::productions::{ASSEMBLY_ASSEMBLY_ATTR_STAR, DECL_MODULE};
 use source_flags::gathering::Kind;
-use source_flags::lines::last_line;
+use source_flags::outside::{Shut, last_outside};
 use source_reading::derived::derivations_have_bodies;
 use source_reading::reader::Reader;
 use source_reading::walk::{leaf_at, the};
@@ -33,7 +33,7 @@ pub fn module_name(alloc: Global, reader: &Reader, assembly: &Text) -> Result<Te
     ensures { (s : Source) → Reads reader.now s → assembly.now ≡ assembly_name s → IfOk result (λ name. name ≡ module_name s) }
 {
     derivations_have_bodies();
-    let said = last_line(alloc, reader.nodes, Kind::One(DECL_MODULE))?;
+    let said = last_outside(alloc, reader.nodes, Shut::Types, Kind::One(DECL_MODULE))?;
     match said {
         Some(line) => reader.name_text(alloc, leaf_at(line.below, 1)),
         None => {

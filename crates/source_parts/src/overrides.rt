@@ -15,7 +15,8 @@ ghost use Rattle.source_reading.specs.Walk.{IsForest};
 use il_base::{Items, NoMemory};
 use ilasm_grammar::TreeNode;
 use ilasm_grammar::productions::{METHOD_REF, OVERRIDDEN_METHOD};
-use source_flags::gathering::{Kind, parts_of};
+use source_flags::gathering::Kind;
+use source_flags::outside::{Shut, parts_outside};
 use source_reading::pieces::nodes_of;
 use source_reading::place::Place;
 use source_reading::references::method_name;
@@ -30,7 +31,7 @@ pub fn overrides(alloc: Global, place: &Place, nodes: &[TreeNode]) -> Result<Met
     ensures { (s : Source) (a : Around) → IsAt place.now s a → (f : Forest) → preorder f ≡ nodes.now → AllInRange s f →
         IfOk result (λ all. all ≡ map (overridden s a f) (parts (productions_of Overrides) f)) }
 {
-    let found = parts_of(alloc, nodes, Kind::Overrides)?;
+    let found = parts_outside(alloc, nodes, Shut::Instructions, Kind::Overrides)?;
     let mut all = Items::new(alloc);
     for piece in found.as_slice() {
         let below = nodes_of(nodes, *piece);

@@ -11,7 +11,7 @@ ghost use Rattle.source_reading.specs.Walk.{IsForest};
 use il_base::NoMemory;
 use ilasm_grammar::{TreeNode, productions};
 use source_flags::gathering::Kind;
-use source_flags::lines::last_line;
+use source_flags::outside::{Shut, last_outside};
 use source_reading::reader::Reader;
 use source_reading::walk::leaf_at;
 use std::alloc::Global;
@@ -78,7 +78,7 @@ pub fn setting_said(
     requires { IsForest nodes.now }
     ensures { (s : Source) (f : Forest) → Reads reader.now s → preorder f ≡ nodes.now → AllInRange s f → IfOk result (λ said. said ≡ setting_said s setting f) }
 {
-    let said = last_line(alloc, nodes, Kind::One(setting.production()))?;
+    let said = last_outside(alloc, nodes, Shut::Types, Kind::One(setting.production()))?;
     match said {
         Some(line) => Ok(reader.natural(leaf_at(line.below, setting.place()))),
         None => Ok(setting.default()),

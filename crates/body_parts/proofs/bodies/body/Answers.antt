@@ -5,16 +5,16 @@ use Rattle.body_parts.proofs.BodyLemmas.{method_in_range, no_body, nothing_found
 use Rattle.body_parts.proofs.bodies.body.Goals as goal
 
 pub returns-then-is_empty : goal.returns-then-is_empty
-returns-then-is_empty c s a n x m e each h =
+returns-then-is_empty c s a n x m e each h held =
     let f = n.below in
     let none : c.in_ok-found.found ≡ [] = search rules in
     no_body s a f (nothing_found c.args.nodes.now c.in_ok-found.found (instructions_of f) (c.in_ok-found.ensures f e) none)
 
 pub returns : goal.returns
-returns c s a n x m e each h =
+returns c s a n x m e each h held =
     let f = n.below in
     let are = c.in_ok-found.ensures f e in
     let some : c.in_ok-found.found ≡ [] → ⊥ = λ none. search (rules, none) in
     some_body s a f c.in_ok-one.one (something_found c.args.nodes.now c.in_ok-found.found (instructions_of f) are some)
     (c.in_ok-one.ensures s a f x e (method_in_range s n m each h)
-    (subst (λ xs. ArePieces c.args.nodes.now xs (instructions_of f)) (sym c.as_slice.ensures) are))
+    (subst (λ xs. ArePieces c.args.nodes.now xs (instructions_of f)) (sym c.as_slice.ensures) are) held)

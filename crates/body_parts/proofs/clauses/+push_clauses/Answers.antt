@@ -1,9 +1,9 @@
-use Rattle.std.proofs.Common.{◌≡◌, ◌<◌, ◌++◌, ◌∷◌, [], length, ap, sym, ◌∙◌, append_assoc, arith, rules}
+use Rattle.std.proofs.Common.{◌<◌, ◌++◌, ◌∷◌, [], length, ap, sym, ◌∙◌, append_assoc, arith, rules}
 use Rattle.source_model.specs.Clauses.{clause}
-use Rattle.ilasm_grammar.specs.declared.productions.TheConstants.{ITEM_TRY}
+use Rattle.ilasm_grammar.specs.declared.productions.TheConstants.{ITEM_INSTRUCTION, ITEM_TRY}
 use Rattle.source_reading.specs.Walk.{IsForest}
 use Rattle.source_reading.proofs.Collecting.{after_is, behind_is, below_is, is_branch}
-use Rattle.body_parts.proofs.ClauseLemmas.{clauses_in, guarded_by, pushed_clause, pushed_end, pushed_other, pushed_start, pushed_try}
+use Rattle.body_parts.proofs.ClauseLemmas.{clauses_in, guarded_by, pushed_clause, pushed_end, pushed_other, pushed_past, pushed_start, pushed_try}
 use Rattle.body_parts.proofs.clauses.+push_clauses.Goals as goal
 
 pub loop-x-init : goal.loop-x-init
@@ -31,6 +31,18 @@ loop-x-preserved-then-is_of t c =
       so_far = λ s a f u g within et ht eg hg.
           pushed_try s a f u g c.args.found.now left x c.loop-x.found c.push_clauses.new.found b.0 c.in-Some.ensures b.1
           (λ d e h. c.in_ok-push_clauses.ensures s a f d d within e h e h) (c.loop-x.invariant.so_far s a f u g within et ht eg hg);
+    }
+
+pub loop-x-preserved-then-is_of-2 : goal.loop-x-preserved-then-is_of-2
+loop-x-preserved-then-is_of-2 t c =
+    let left = c.loop-x.left.now in
+    let x = c.in-Some.x in
+    let b = is_branch ITEM_INSTRUCTION x.node (sym c.is_of-else-is_of.ensures ∙ c.if-is_of-2.true) in
+    record {
+      forest = after_is left x ITEM_INSTRUCTION b.0 c.in-Some.ensures b.1 c.loop-x.invariant.forest;
+      shorter = omega (arith, c.in-Some.ensures.later, c.loop-x.invariant.shorter);
+      so_far = λ s a f u g within et ht eg hg.
+          pushed_past s a f u g c.args.found.now left x c.loop-x.found b.0 c.in-Some.ensures b.1 (c.loop-x.invariant.so_far s a f u g within et ht eg hg);
     }
 
 pub push_clauses-requires-in-Some-clause_form : goal.push_clauses-requires-in-Some-clause_form

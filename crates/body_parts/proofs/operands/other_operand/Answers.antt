@@ -3,7 +3,6 @@ use Rattle.std.specs.Prelude.{IfOk}
 use Rattle.il_lexer.specs.declared.types.TokenKind.TheVariants.{Name}
 use Rattle.assembly_tree.specs.declared.body.Operand.TheVariants as operand
 use Rattle.ilasm_grammar.specs.declared.productions.TheConstants.{INSTRUCTION_LDSTR, INSTRUCTION_OP_BRANCH, INSTRUCTION_SWITCH}
-use Rattle.source_model.specs.Forest.{leaf_at}
 use Rattle.source_model.specs.Instructions.{label_number}
 use Rattle.source_reading.specs.Derived.{FitsBody}
 use Rattle.source_reading.specs.Readers.{IsOf}

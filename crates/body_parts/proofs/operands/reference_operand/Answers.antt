@@ -2,7 +2,7 @@ use Rattle.std.proofs.Common.{◌≡◌, ap, sym, subst, ◌∙◌, arith}
 use Rattle.std.specs.Prelude.{IfOk}
 use Rattle.assembly_tree.specs.declared.body.Operand.TheVariants as operand
 use Rattle.ilasm_grammar.specs.declared.productions.TheConstants.{INSTRUCTION_OP_FIELD, INSTRUCTION_OP_METHOD, INSTRUCTION_OP_TYPE}
-use Rattle.source_model.specs.Forest.{Forest, none}
+use Rattle.source_model.specs.Forest.{none}
 use Rattle.source_reading.specs.Derived.{FitsBody}
 use Rattle.source_flags.proofs.Gathered.{readable}
 use Rattle.body_parts.proofs.FormLemmas.{other_form, refers_at, refers_else}

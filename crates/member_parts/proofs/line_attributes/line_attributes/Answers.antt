@@ -9,7 +9,7 @@ pub loop-head-init : goal.loop-head-init
 loop-head-init c = record {
   parts = c.requires.parts;
   so_far = λ s a x ps are each few.
-      lines_start s a c.args.names.now c.args.nodes.now c.args.found.now c.in_ok-given.given.items ps are each (c.in_ok-given.ensures ∙ ap none_given c.len.ensures);
+      lines_start s a c.args.names.now c.args.nodes.now c.args.found.now c.in_ok-given.given.items ps are each (c.in_ok-given.ensures ∙ ap none_given c.len-2.ensures);
 }
 
 pub add_line-requires-clause-head : goal.add_line-requires-clause-head

@@ -1,14 +1,20 @@
-use Rattle.std.proofs.Common.{◌≡◌, ℕ, List, length, ap, sym, subst, ◌∙◌}
+use Rattle.std.proofs.Common.{◌≡◌, ℕ, List, length, ap, sym, subst, ◌∙◌, arith}
 use Rattle.std.proofs.lemmas.Result.{IfOk-weaker}
-use Rattle.ilasm_grammar.specs.declared.productions.TheConstants.{PARAM_OF_BRACKET}
+use Rattle.ilasm_grammar.specs.declared.productions.TheConstants.{ITEM_INSTRUCTION, PARAM_OF_BRACKET}
 use Rattle.ilasm_grammar.specs.declared.tree.TreeNode.{TreeNode}
 use Rattle.source_model.specs.Forest.{preorder, the}
 use Rattle.source_model.specs.Shapes.{natural}
 use Rattle.source_model.specs.Values.{int_at}
 use Rattle.std.specs.Prelude.{min}
 use Rattle.member_parts.specs.NumberedLines.{AllLines}
-use Rattle.member_parts.proofs.NumberedLemmas.{appended_lines, with_other, with_own}
+use Rattle.member_parts.proofs.NumberedLemmas.{appended_lines, instruction_numbers, with_other, with_own}
 use Rattle.member_parts.proofs.numbered_lines.add_line.Goals as goal
+
+pub returns-then-line-eq-ITEM_INSTRUCTION-clause-numbered : goal.returns-then-line-eq-ITEM_INSTRUCTION-clause-numbered
+returns-then-line-eq-ITEM_INSTRUCTION-clause-numbered c s r p is item few =
+    let made : c.args.line.head.production ≡ p.production = ap (λ (w : ℕ × List TreeNode). w.0) is in
+    let own : p.production ≡ ITEM_INSTRUCTION = omega (arith, made, c.if-line-eq-ITEM_INSTRUCTION.true) in
+    with_other s p c.args.line c.args.lines.now.items (instruction_numbers s p own item)
 
 pub returns-then-has-clause-lines : goal.returns-then-has-clause-lines
 returns-then-has-clause-lines c all =
@@ -17,7 +23,7 @@ returns-then-has-clause-lines c all =
     c.append_to.ensures
 
 pub returns-then-has-clause-numbered : goal.returns-then-has-clause-numbered
-returns-then-has-clause-numbered c s r p is few =
+returns-then-has-clause-numbered c s r p is item few =
     let below : preorder p.below ≡ c.nodes_of-below.result.now = ap (λ (w : ℕ × List TreeNode). w.1) (sym is) ∙ sym c.nodes_of-below.ensures in
     let token = c.leaf_at.ensures (the PARAM_OF_BRACKET p.below) (sym (c.the.ensures p.below below)) in
     let number = c.natural-number.ensures.number s r ∙ ap (λ k. min (natural (int_at s k)) 0x100000000) token in
@@ -26,6 +32,6 @@ returns-then-has-clause-numbered c s r p is few =
     c.append_to.ensures
 
 pub returns-else-has-clause-numbered : goal.returns-else-has-clause-numbered
-returns-else-has-clause-numbered c s r p is few =
+returns-else-has-clause-numbered c s r p is item few =
     let below : preorder p.below ≡ c.nodes_of-below.result.now = ap (λ (w : ℕ × List TreeNode). w.1) (sym is) ∙ sym c.nodes_of-below.ensures in
     with_other s p c.args.line c.args.lines.now.items (sym (c.has.ensures p.below below) ∙ c.if-has.false)

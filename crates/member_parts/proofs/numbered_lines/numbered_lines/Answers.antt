@@ -23,7 +23,7 @@ loop-head-preserved c =
           let l = subst (λ xs. NumbersLeft s c.args.nodes.now (1 + c.args.count) xs c.loop-head.lines.items ps) c.in-Some.ensures (c.loop-head.invariant.so_far s r ps are each few) in
           let b = numbers_begin s c.args.nodes.now (1 + c.args.count) c.in-Some.head c.in-Some.more.now c.loop-head.lines.items ps l in
           b.next (record { head = c.in-Some.head; more = c.in-Some.more }) refl refl c.add_line.new.lines.items
-          (c.in_ok-add_line.ensures.numbered s r b.first b.is (omega (arith, many, few)));
+          (c.in_ok-add_line.ensures.numbered s r b.first b.is b.own (omega (arith, many, few)));
     }
 
 pub returns-clause-lines : goal.returns-clause-lines

@@ -1,5 +1,4 @@
 use Rattle.std.proofs.Common.{◌≡◌, ℕ, List, ◌<◌, ◌^◌, length, ap, sym, subst, ◌∙◌}
-use Rattle.source_model.specs.Forest.{Forest, preorder}
 use Rattle.source_model.specs.Items.{items_and_ends}
 use Rattle.source_model.specs.Nodes.{typar_names}
 use Rattle.source_reading.specs.Pieces.{ArePieces}
@@ -26,7 +25,7 @@ own_attributes-requires-clause-parts c =
     (items_and_ends f.0, subst (λ xs. ArePieces c.args.nodes.now xs (items_and_ends f.0)) (sym c.as_slice-3.ensures) (c.in_ok-found.ensures f.0 f.1))
 
 pub returns : goal.returns
-returns c s a x f in_it e each =
+returns c s a x f in_it e each held =
     let nodes = c.args.nodes.now in
     let ps = items_and_ends f in
     let found = c.in_ok-found.ensures f e in
@@ -36,6 +35,6 @@ returns c s a x f in_it e each =
     record {
       generics-are = c.in_ok-generics.ensures s a x f ps e each names few (subst (λ xs. ArePieces nodes xs ps) (sym c.as_slice.ensures) found) ranged;
       parameters-are = c.in_ok-params.ensures s a x f e each (subst (λ xs. ArePieces nodes xs ps) (sym c.as_slice-2.ensures) found);
-      overrides-are = c.in_ok-overrides.ensures s a x f e each;
+      overrides-are = c.in_ok-overrides.ensures s a x f e each held;
       attributes-are = c.in_ok-attributes.ensures s a x f each (subst (λ xs. ArePieces nodes xs ps) (sym c.as_slice-3.ensures) found);
     }

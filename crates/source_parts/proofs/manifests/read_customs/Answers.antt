@@ -1,4 +1,4 @@
-use Rattle.std.proofs.Common.{◌≡◌, ◌<◌, ◌^◌, [], ◌∷◌, length, ap, sym, subst, ◌∙◌, arith}
+use Rattle.std.proofs.Common.{[], ◌∷◌, length, ap, sym, subst, arith}
 use Rattle.std.specs.Prelude.{false}
 use Rattle.std.specs.List.{AllByRecursion}
 use Rattle.ilasm_grammar.specs.declared.productions.TheConstants.{ASSEMBLY_ASSEMBLY_ATTR_STAR, ASSEMBLY_ITEM_CUSTOM}

@@ -1,10 +1,8 @@
 use Rattle.ilasm_grammar.specs.declared.productions.TheConstants.{ASSEMBLY_ASSEMBLY_ATTR_STAR}
 use Rattle.source_model.specs.Forest.{the}
-use Rattle.std.proofs.Common.{◌≡◌, ◌<◌, ◌^◌, ap, sym, subst, ◌∙◌}
+use Rattle.std.proofs.Common.{◌<◌, ◌^◌, ap, sym, subst, ◌∙◌}
 use Rattle.source_model.specs.Flags.{without_bits}
 use Rattle.source_model.specs.Manifests.{this_assembly}
-use Rattle.source_parts.specs.Settings.{setting_said}
-use Rattle.source_parts.specs.declared.settings.Setting.TheVariants.{Subsystem}
 use Rattle.source_parts.proofs.ManifestLemmas.{declaration_in_range, subsystem_fits}
 use Rattle.source_parts.proofs.manifests.read_numbers.Goals as goal
 

@@ -1,4 +1,4 @@
-use Rattle.std.proofs.Common.{◌≡◌, ◌++◌, ap, subst}
+use Rattle.std.proofs.Common.{◌≡◌, ◌++◌, subst}
 use Rattle.std.specs.Prelude.{IfOk}
 use Rattle.il_lexer.specs.declared.types.TokenKind.TheVariants.{QString}
 use Rattle.source_model.specs.Values.{between_quotes, unescaped}

@@ -1,4 +1,4 @@
-use Rattle.std.proofs.Common.{◌≡◌, ◌∙◌, sym}
+use Rattle.std.proofs.Common.{◌∙◌, sym}
 use Rattle.ilasm_grammar.specs.declared.productions.TheConstants.{PLUS_STRING}
 use Rattle.source_reading.proofs.Collecting.{after_is, behind_is, below_is, is_branch}
 use Rattle.source_parts.proofs.TextLemmas.{joined_end, joined_go_in, joined_start, joined_take}

@@ -1,0 +1,22 @@
+use Rattle.std.proofs.Common.{map, ap, sym, subst, ◌∙◌}
+use Rattle.std.specs.List.Sorted.{IsNonDecreasing}
+use Rattle.source_model.specs.Instructions.{number_at}
+use Rattle.source_model.specs.Values.{name_text}
+use Rattle.source_reading.specs.Methods.{AreNames}
+use Rattle.source_reading.proofs.LabelTokens.{labels_are_names}
+use Rattle.source_reading.proofs.OpTokens.{instructions_have_tokens}
+use Rattle.source_reading.proofs.OrderLemmas.{numbers_are, starts_never_fall}
+use Rattle.body_parts.proofs.body_labels.labels_of.Goals as goal
+
+pub returns : goal.returns
+returns c s n r m e starts =
+    let f = n.below in
+    let tokens = c.in_ok-tokens.ensures s f e m.bodies in
+    let once = c.as_slice.ensures ∙ tokens in
+    let again = c.as_slice-2.ensures ∙ tokens in
+    let sorted =
+    subst IsNonDecreasing (sym starts) (starts_never_fall f m.first m.count m.in-order (instructions_have_tokens s f m.bodies)) in
+    record {
+      names-are = c.in_ok-names.ensures s r (subst (AreNames s) (sym once) (labels_are_names s f m.bodies)) ∙ ap (map (name_text s)) once;
+      numbers-are = c.in_ok-numbers.ensures sorted ∙ numbers_are f c.args.starts.now c.as_slice-2.result.now starts ∙ ap (map (number_at f)) again;
+    }

@@ -1,0 +1,28 @@
+-- Which items a method has, and what stands in them (ECMA-335 II.15.4.1).
+use Rattle.std.specs.Prelude.{◌≡◌, ◌||◌, ℕ, List, [], ◌∷◌, Bool}
+use Rattle.ilasm_grammar.specs.declared.productions.TheConstants.{INIT_OPT_SOME, ITEM_ENTRYPOINT, ITEM_INSTRUCTION, ITEM_MAXSTACK, LOCAL, OVERRIDDEN_METHOD, OVERRIDDEN_SPEC}
+use Rattle.source_model.specs.Clauses.{clause_forms}
+use Rattle.source_model.specs.Forest.{Forest, is_among, is_any_part, parts_outside}
+use Rattle.body_parts.specs.declared.held.Held.{Held}
+
+-- one of these productions stands in a forest, outside of all instructions
+abbrev pub holds : List ℕ → Forest → Bool
+holds sought f = is_any_part (parts_outside (ITEM_INSTRUCTION ∷ []) sought f)
+
+-- what is known of a method is so, from what stands below its production
+pub record IsHeld (x : Held) (f : Forest) : Type 0 where
+  pub overrides : x.overrides ≡ holds (OVERRIDDEN_METHOD ∷ OVERRIDDEN_SPEC ∷ []) f
+  pub entry : x.entry ≡ holds (ITEM_ENTRYPOINT ∷ []) f
+  pub bound : x.bound ≡ holds (ITEM_MAXSTACK ∷ []) f
+  pub local : x.local ≡ holds (LOCAL ∷ []) f
+  pub init : x.init ≡ holds (INIT_OPT_SOME ∷ []) f
+  pub clause : x.clause ≡ holds clause_forms f
+
+-- what was known, and what a production is
+pub record AddsTo (x : Held) (p : ℕ) (y : Held) : Type 0 where
+  pub overrides : y.overrides ≡ (x.overrides || is_among (OVERRIDDEN_METHOD ∷ OVERRIDDEN_SPEC ∷ []) p)
+  pub entry : y.entry ≡ (x.entry || is_among (ITEM_ENTRYPOINT ∷ []) p)
+  pub bound : y.bound ≡ (x.bound || is_among (ITEM_MAXSTACK ∷ []) p)
+  pub local : y.local ≡ (x.local || is_among (LOCAL ∷ []) p)
+  pub init : y.init ≡ (x.init || is_among (INIT_OPT_SOME ∷ []) p)
+  pub clause : y.clause ≡ (x.clause || is_among clause_forms p)

@@ -1,0 +1,86 @@
+//! Which items a method has, and what stands in them (ECMA-335 II.15.4.1), so that nothing is looked for that isn't there.
+
+ghost use Rattle.std.specs.Prelude.{◌≡◌, ◌∷◌, []};
+ghost use Rattle.ilasm_grammar.specs.declared.productions.TheConstants.{OVERRIDDEN_METHOD, OVERRIDDEN_SPEC};
+ghost use Rattle.body_parts.specs.HeldItems.{AddsTo, IsHeld};
+ghost use Rattle.source_model.specs.Forest.{Forest, is_among, preorder};
+ghost use Rattle.source_reading.specs.Walk.{IsForest};
+
+use crate::clauses::is_clause;
+use ilasm_grammar::{TreeNode, productions};
+use source_model::{derivations_are_forests, forests_join, forests_open};
+use source_reading::walk::next;
+
+/// Whether a method has methods that it overrides, a line that makes it the entry point, a bound of its stack, a local, `init`, and
+/// a clause.
+#[derive(Debug, Clone, Copy, PartialEq, Eq, Drop)]
+pub struct Held {
+    pub overrides: bool,
+    pub entry: bool,
+    pub bound: bool,
+    pub local: bool,
+    pub init: bool,
+    pub clause: bool,
+}
+
+impl Held {
+    // The same with what a production is.
+    fn with(self, production: u16) -> Held
+        ensures { AddsTo self production result }
+    {
+        Held {
+            overrides: self.overrides || is_override(production),
+            entry: self.entry || production == productions::ITEM_ENTRYPOINT,
+            bound: self.bound || production == productions::ITEM_MAXSTACK,
+            local: self.local || production == productions::LOCAL,
+            init: self.init || production == productions::INIT_OPT_SOME,
+            clause: self.clause || is_clause(production),
+        }
+    }
+}
+
+fn is_override(production: u16) -> bool
+    ensures { result ≡ is_among (OVERRIDDEN_METHOD ∷ OVERRIDDEN_SPEC ∷ []) production }
+{
+    matches!(
+        production,
+        productions::OVERRIDDEN_METHOD | productions::OVERRIDDEN_SPEC
+    )
+}
+
+/// Which of them a method has, from the nodes below its production.
+pub fn held_in(nodes: &[TreeNode]) -> Held
+    requires { IsForest nodes.now }
+    ensures { (f : Forest) → preorder f ≡ nodes.now → IsHeld result f }
+{
+    derivations_are_forests();
+    forests_open();
+    forests_join();
+    let mut held = Held {
+        overrides: false,
+        entry: false,
+        bound: false,
+        local: false,
+        init: false,
+        clause: false,
+    };
+    let mut left = nodes;
+    while let Some((node, rest)) = next(left) {
+        match node {
+            TreeNode::Branch {
+                production,
+                nodes: count,
+            } => {
+                if production == productions::ITEM_INSTRUCTION {
+                    let (_, after) = rest.split_at(count as usize);
+                    left = after;
+                } else {
+                    held = held.with(production);
+                    left = rest;
+                }
+            }
+            TreeNode::Leaf { .. } => left = rest,
+        }
+    }
+    held
+}
