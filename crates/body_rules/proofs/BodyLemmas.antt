@@ -1,18 +1,15 @@
 -- All rules of bodies at once, and methods without lines that say depths of stacks, locals or clauses.
-use Rattle.std.proofs.Common.{◌≡◌, ℕ, List, [], ◌∷◌, ◌++◌, map, ap, sym, ◌∙◌, refl, append-nil}
-use Rattle.std.specs.Prelude.{Bool, true, false, not, ◌==◌, ◌||◌, ◌&&◌, Option, None, if◌then◌else◌}
-use Rattle.std.specs.List.{enumerate_from, flat_map, list_all, list_any}
+use Rattle.std.proofs.Common.{◌≡◌, ℕ, List, [], ◌∷◌, ◌++◌, ap, ◌∙◌, refl}
+use Rattle.std.specs.Prelude.{Bool, true, false, not, ◌==◌, ◌||◌, ◌&&◌, if◌then◌else◌}
+use Rattle.std.specs.List.{flat_map}
 use Rattle.ilasm_grammar.specs.declared.productions.TheConstants.{ITEM_MAXSTACK, ITEM_TRY, LOCAL}
 use Rattle.ilasm_grammar.specs.declared.tree.TreeNode.{TreeNode}
-use Rattle.ilasm_grammar.specs.declared.tree.TreeNode.TheVariants.{Branch, Leaf}
-use Rattle.source_model.specs.BodyFaults.{all_methods, body_numbers_out_of_range, branches_too_far, clause_backwards, clauses_backwards, branches_to_the_end, labels_twice, labels_undeclared, variables_undeclared}
-use Rattle.source_model.specs.BodyNumbers.{body_numbers_out_of_range_in, bounds_out_of_range, clause_forests, local_misnumbered}
+use Rattle.source_model.specs.BodyFaults.{all_methods, body_numbers_out_of_range, branches_too_far, clauses_backwards, branches_to_the_end, labels_twice, labels_undeclared, variables_undeclared}
+use Rattle.source_model.specs.BodyNumbers.{body_numbers_out_of_range_in}
 use Rattle.source_model.specs.Clauses.{clause_forms, guarded_in}
 use Rattle.source_model.specs.Forest as tree
 use Rattle.source_model.specs.Forest.{Forest, each, is_among, parts, preorder}
-use Rattle.source_model.specs.Nodes.{Node}
 use Rattle.source_model.specs.Source.{Source}
-use Rattle.source_model.specs.TypeRules.{past_count}
 use Rattle.source_model.specs.Variables.{locals}
 use Rattle.source_reading.specs.Least.{least}
 use Rattle.body_rules.specs.AllOfBodies.{backwards_in, broken_in, broken_in_bodies, ends_in, far_in, twice_in, undeclared_in, variables_in}

@@ -4,11 +4,15 @@ pub mod BranchLemmas
 pub mod ClauseCountLemmas
 pub mod ClauseLemmas
 pub mod CodeLemmas
+pub mod EndLemmas
 pub mod NamedLemmas
+pub mod NamingLemmas
 pub mod OffsetLemmas
 pub mod OperandLemmas
 pub mod RangeNames
 pub mod RealParts
 pub mod ShortBranchLemmas
+pub mod ShortCodeLemmas
 pub mod SizeLemmas
 pub mod VariableParts
+pub mod WantedLemmas

@@ -50,7 +50,7 @@ offset_at offsets code k are less =
 -- ---- branches
 
 -- an operand that reaches in the short form does so in each
-reaches_by : (c : List Ins) (k : ℕ) (K : OperandKind) (o : Operand) → reaches_at c k kind.Branch8 o ≡ true → reaches_at c k K o ≡ true
+pub reaches_by : (c : List Ins) (k : ℕ) (K : OperandKind) (o : Operand) → reaches_at c k kind.Branch8 o ≡ true → reaches_at c k K o ≡ true
 reaches_by c k kind.Branch8 o h = h
 reaches_by c k kind.Nothing o h = refl
 reaches_by c k kind.Var8 o h = refl

@@ -3,7 +3,9 @@ pub mod ClauseCounts
 pub mod CodeParts
 pub mod CodePlaces
 pub mod NamedVariables
+pub mod NamingNodes
 pub mod OperandRanges
 pub mod PlainBodies
 pub mod Ranges
+pub mod ShortCode
 pub mod Sizes

@@ -1,9 +1,10 @@
 -- Parameters and locals that have names, each with its number (ECMA-335 II.15.4.1.3, III.3.38, III.3.43).
-use Rattle.std.specs.Prelude.{◌≡◌, ℕ, ◌+◌, ◌==◌, if◌then◌else◌, List, [], ◌∷◌, map}
+use Rattle.std.specs.Prelude.{◌≡◌, ℕ, ◌+◌, ◌==◌, if◌then◌else◌, List, [], ◌∷◌, map, slice_get, Some}
 use Rattle.std.specs.List.{enumerate_from, flat_map}
 use Rattle.ilasm_grammar.specs.declared.productions.TheConstants.{INSTRUCTION_OP_VAR, NAME_OPT_SOME}
 use Rattle.source_model.specs.BodyFaults.{variable_undeclared}
 use Rattle.source_model.specs.Forest.{Forest, Part, child, has, leaf_at}
+use Rattle.source_model.specs.Instructions.{instructions_of}
 use Rattle.source_model.specs.Parameters.{parameters}
 use Rattle.source_model.specs.Source.{Source}
 use Rattle.source_model.specs.Values.{name_text}
@@ -35,6 +36,10 @@ pub record AreNumbered (x : Numbered) (s : Source) (first : ℕ) (fs : List Fore
 pub record AreVariables (x : Variables) (s : Source) (f : Forest) : Type 0 where
   pub arguments-are : AreNumbered x.arguments s (first_argument f) (parameters f)
   pub locals-are : AreNumbered x.locals s 0 (locals f)
+
+-- and these are so wherever the method has an instruction of variables
+abbrev pub ServesVariables : Variables → Source → Forest → Type 0
+ServesVariables x s f = (k : ℕ) (p : Part) → slice_get (instructions_of f) k ≡ Some p → p.production ≡ INSTRUCTION_OP_VAR → AreVariables x s f
 
 -- the name of a variable in an instruction that isn't declared, where it has such an operand
 abbrev pub undeclared_at : Source → Forest → Part → List ℕ

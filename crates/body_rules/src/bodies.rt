@@ -1,12 +1,12 @@
 //! All rules of bodies, asked of each method at once: what several of them ask for is found once (ECMA-335 II.5.4, II.15.4.1,
 //! II.19, III.1.7.2).
 
-ghost use Rattle.std.specs.Prelude.{◌≡◌, ◌++◌, IfOk};
-ghost use Rattle.std.specs.List.{flat_map};
+ghost use Rattle.std.specs.Prelude.{◌≡◌, ◌==◌, IfOk, length};
+ghost use Rattle.std.specs.List.{flat_map, list_any};
 ghost use Rattle.source_model.specs.BodyNumbers.{body_numbers_out_of_range_in};
 ghost use Rattle.source_model.specs.Bodies.{code};
 ghost use Rattle.source_model.specs.Forest.{preorder};
-ghost use Rattle.source_model.specs.Instructions.{instructions_of};
+ghost use Rattle.source_model.specs.Instructions.{instructions_of, targets};
 ghost use Rattle.source_model.specs.Nodes.{Node};
 ghost use Rattle.source_model.specs.Source.{Source};
 ghost use Rattle.source_reading.specs.Labels.{AreLabels};
@@ -15,8 +15,8 @@ ghost use Rattle.source_reading.specs.Methods.{IsMethod};
 ghost use Rattle.source_reading.specs.Pieces.{ArePieces, AreParts};
 ghost use Rattle.source_reading.specs.Readers.{Reads};
 ghost use Rattle.source_reading.specs.Walk.{IsForest};
-ghost use Rattle.body_rules.specs.AllOfBodies.{backwards_in, broken_in, broken_in_bodies, ends_in, far_in, twice_in, undeclared_in, variables_in};
-ghost use Rattle.body_rules.specs.NamedVariables.{AreVariables};
+ghost use Rattle.body_rules.specs.AllOfBodies.{backwards_in, broken_in, broken_in_bodies, ends_in, far_in, variables_in};
+ghost use Rattle.body_rules.specs.NamedVariables.{ServesVariables};
 ghost use Rattle.body_rules.specs.OperandRanges.{operand_at_fault};
 ghost use Rattle.body_rules.specs.PlainBodies.{is_plain};
 
@@ -26,10 +26,11 @@ use crate::clause_counts::clause_past_most;
 use crate::clause_rules::first_backwards;
 use crate::code_places::CodePlaces;
 use crate::instruction_rules::first_in_code;
-use crate::label_rules::first_missing;
+use crate::label_faults::label_fault;
 use crate::operand_ranges::OperandRanges;
 use crate::plain_bodies::is_plain;
 use crate::short_branches::Reach;
+use crate::short_code::is_short_code;
 use crate::sizes::offsets_of;
 use crate::variable_rules::AmongVariables;
 use crate::variables::Variables;
@@ -38,10 +39,8 @@ use ilasm_grammar::{TreeNode, productions};
 use rule_steps::counts::local_past_most;
 use rule_steps::ranges::{Limit, beyond_in_each};
 use source_reading::label_numbers::Labels;
-use source_reading::labels::{label_names, label_tokens};
 use source_reading::least::sooner;
 use source_reading::methods::{MethodRule, first_in_methods};
-use source_reading::name_lists::again;
 use source_reading::pieces::{Piece, Sought, pieces_of};
 use source_reading::reader::Reader;
 use std::alloc::Global;
@@ -69,38 +68,48 @@ impl MethodRule for AllOfBodies {
     ) -> Result<Option<u32>, NoMemory> {
         let code = pieces_of(alloc, below, Sought::Instructions)?;
         let labels = Labels::read(alloc, reader, below, code.as_slice())?;
-        let variables = Variables::read(alloc, reader, below)?;
-        let plain = is_plain(below);
-        let label = label_fault(alloc, reader, below, &labels)?;
-        let variable = variable_fault(alloc, reader, below, code.as_slice(), &variables)?;
-        let number = number_fault(alloc, reader, below, code.as_slice(), &variables, plain)?;
-        let far = branch_fault(alloc, reader, below, code.as_slice(), &labels)?;
-        let clause = clause_fault(alloc, reader, below, plain)?;
-        let end = end_fault(alloc, reader, below, code.as_slice(), &labels)?;
-        let to_variable = sooner(label, variable);
-        let to_number = sooner(to_variable, number);
-        let to_branch = sooner(to_number, far);
-        let to_clause = sooner(to_branch, clause);
-        Ok(sooner(to_clause, end))
+        let targets = all_targets(alloc, below, code.as_slice())?;
+        let variables = Variables::read_for(alloc, reader, below, code.as_slice())?;
+        first_of_all(
+            alloc,
+            reader,
+            below,
+            code.as_slice(),
+            targets.as_slice(),
+            &labels,
+            &variables,
+        )
     }
 }
 
-// The least label of a method that has the name of an earlier one, or name that no label of it has.
-fn label_fault(
+// The same, from a method's instructions, the names that they branch to, its labels and its variables.
+fn first_of_all(
     alloc: Global,
     reader: &Reader,
     method: &[TreeNode],
+    code: &[Piece],
+    tokens: &[u32],
     labels: &Labels,
+    variables: &Variables,
 ) -> Result<Option<u32>, NoMemory>
-    requires { IsForest method.now }
-    ensures { (s : Source) (n : Node) → Reads reader.now s → IsMethod s n → preorder n.below ≡ method.now → AreLabels labels.now s n.below →
-        IfOk result (λ k. k ≡ least (twice_in s n ++ undeclared_in s n)) }
+    requires forest { IsForest method.now }
+    requires parts { AreParts method.now code.now }
+    ensures { (s : Source) (n : Node) → Reads reader.now s → IsMethod s n → preorder n.below ≡ method.now → ArePieces method.now code.now (instructions_of n.below) →
+        tokens.now ≡ flat_map targets (instructions_of n.below) → AreLabels labels.now s n.below → ServesVariables variables.now s n.below →
+        IfOk result (λ k. k ≡ least (broken_in s n)) }
 {
-    let tokens = label_tokens(alloc, method)?;
-    let named = label_names(alloc, method)?;
-    let twice = again(&labels.names, tokens.as_slice());
-    let missing = first_missing(alloc, reader, &labels.names, named.as_slice())?;
-    Ok(sooner(twice, missing))
+    let plain = is_plain(method);
+    let label = label_fault(alloc, reader, method, code, tokens, labels)?;
+    let variable = variable_fault(alloc, reader, method, code, variables)?;
+    let number = number_fault(alloc, reader, method, code, variables, plain)?;
+    let far = branch_fault(alloc, reader, method, code, labels)?;
+    let clause = clause_fault(alloc, reader, method, plain)?;
+    let end = end_fault(alloc, reader, code, tokens, labels)?;
+    let to_variable = sooner(label, variable);
+    let to_number = sooner(to_variable, number);
+    let to_branch = sooner(to_number, far);
+    let to_clause = sooner(to_branch, clause);
+    Ok(sooner(to_clause, end))
 }
 
 // The least name in an instruction that none of these variables has.
@@ -113,7 +122,7 @@ fn variable_fault(
 ) -> Result<Option<u32>, NoMemory>
     requires { AreParts method.now code.now }
     ensures { (s : Source) (n : Node) → Reads reader.now s → IsMethod s n → ArePieces method.now code.now (instructions_of n.below) →
-        AreVariables variables.now s n.below → IfOk result (λ k. k ≡ least (variables_in s n)) }
+        ServesVariables variables.now s n.below → IfOk result (λ k. k ≡ least (variables_in s n)) }
 {
     let rule = AmongVariables { variables };
     let first = first_in_code(&rule, alloc, reader, method, code)?;
@@ -132,7 +141,7 @@ fn number_fault(
     requires forest { IsForest method.now }
     requires parts { AreParts method.now code.now }
     ensures { (s : Source) (n : Node) → Reads reader.now s → IsMethod s n → preorder n.below ≡ method.now →
-        ArePieces method.now code.now (instructions_of n.below) → AreVariables variables.now s n.below → plain ≡ is_plain method.now →
+        ArePieces method.now code.now (instructions_of n.below) → ServesVariables variables.now s n.below → plain ≡ is_plain method.now →
         IfOk result (λ k. k ≡ least (body_numbers_out_of_range_in s n)) }
 {
     let operand = operand_fault(alloc, reader, method, code, variables)?;
@@ -164,7 +173,7 @@ fn operand_fault(
 ) -> Result<Option<u32>, NoMemory>
     requires { AreParts method.now code.now }
     ensures { (s : Source) (n : Node) → Reads reader.now s → IsMethod s n → ArePieces method.now code.now (instructions_of n.below) →
-        AreVariables variables.now s n.below → IfOk result (λ k. k ≡ least (flat_map (operand_at_fault s n.below) (instructions_of n.below))) }
+        ServesVariables variables.now s n.below → IfOk result (λ k. k ≡ least (flat_map (operand_at_fault s n.below) (instructions_of n.below))) }
 {
     let rule = OperandRanges { variables };
     let first = first_in_code(&rule, alloc, reader, method, code)?;
@@ -183,6 +192,9 @@ fn branch_fault(
     ensures { (s : Source) (n : Node) → Reads reader.now s → IsMethod s n → preorder n.below ≡ method.now →
         ArePieces method.now code.now (instructions_of n.below) → AreLabels labels.now s n.below → IfOk result (λ k. k ≡ least (far_in s n)) }
 {
+    if is_short_code(code) {
+        return Ok(None);
+    }
     let offsets = offsets_of(alloc, reader, method, code)?;
     let reach = Reach {
         labels,
@@ -210,18 +222,26 @@ fn clause_fault(
     first_backwards(&places, alloc, reader, &[], method)
 }
 
-// The least label behind a branch that no instruction follows.
+// The least of these names behind branches that no instruction follows.
 fn end_fault(
     alloc: Global,
     reader: &Reader,
-    method: &[TreeNode],
     code: &[Piece],
+    tokens: &[u32],
     labels: &Labels,
 ) -> Result<Option<u32>, NoMemory>
-    requires { AreParts method.now code.now }
-    ensures { (s : Source) (n : Node) → Reads reader.now s → IsMethod s n → ArePieces method.now code.now (instructions_of n.below) →
-        AreLabels labels.now s n.below → IfOk result (λ k. k ≡ least (ends_in s n)) }
+    ensures { (s : Source) (n : Node) → Reads reader.now s → IsMethod s n → length code.now ≡ length (instructions_of n.below) →
+        tokens.now ≡ flat_map targets (instructions_of n.below) → AreLabels labels.now s n.below → IfOk result (λ k. k ≡ least (ends_in s n)) }
 {
-    let tokens = all_targets(alloc, method, code)?;
-    first_at(alloc, reader, labels, tokens.as_slice(), code.len())
+    if !is_among(labels.numbers.as_slice(), code.len()) {
+        return Ok(None);
+    }
+    first_at(alloc, reader, labels, tokens, code.len())
+}
+
+// Whether a number is one of these.
+fn is_among(numbers: &[usize], number: usize) -> bool
+    ensures { result ≡ list_any (λ n. n == number) numbers.now }
+{
+    numbers.iter().any(|n| *n == number)
 }

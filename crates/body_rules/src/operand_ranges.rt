@@ -12,7 +12,7 @@ ghost use Rattle.source_reading.specs.Derived.{FitsBody, HasBodies};
 ghost use Rattle.source_reading.specs.Least.{least};
 ghost use Rattle.source_reading.specs.Readers.{Reads};
 ghost use Rattle.source_reading.specs.Walk.{IsForest};
-ghost use Rattle.body_rules.specs.NamedVariables.{AreVariables};
+ghost use Rattle.body_rules.specs.NamedVariables.{AreVariables, ServesVariables};
 ghost use Rattle.rule_steps.specs.NumberTests.{bits_in};
 ghost use Rattle.body_rules.specs.OperandRanges.{operand_at_fault, real_size};
 
@@ -37,7 +37,7 @@ pub struct OperandRanges<'a> {
 impl<'a> InstructionRule for OperandRanges<'a> {
     ghost broken = { λ _ s n k. operand_at_fault s n.below k.1 };
 
-    ghost knows = { λ rule s n. AreVariables rule.variables.now s n.below };
+    ghost knows = { λ rule s n. ServesVariables rule.variables.now s n.below };
 
     fn first(
         &self,

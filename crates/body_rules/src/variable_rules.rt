@@ -11,7 +11,7 @@ ghost use Rattle.source_reading.specs.Derived.{FitsBody, HasBodies};
 ghost use Rattle.source_reading.specs.Least.{least};
 ghost use Rattle.source_reading.specs.Readers.{Reads};
 ghost use Rattle.source_reading.specs.Walk.{IsForest};
-ghost use Rattle.body_rules.specs.NamedVariables.{undeclared_at, AreVariables};
+ghost use Rattle.body_rules.specs.NamedVariables.{undeclared_at, AreVariables, ServesVariables};
 
 use crate::instruction_rules::{InstructionRule, first_in_code};
 use crate::variables::Variables;
@@ -65,7 +65,7 @@ pub struct AmongVariables<'a> {
 impl<'a> InstructionRule for AmongVariables<'a> {
     ghost broken = { λ _ s n k. undeclared_at s n.below k.1 };
 
-    ghost knows = { λ rule s n. AreVariables rule.variables.now s n.below };
+    ghost knows = { λ rule s n. ServesVariables rule.variables.now s n.below };
 
     fn first(
         &self,

@@ -1,9 +1,10 @@
 //! The arguments and the locals of a method by their names (ECMA-335 II.15.3, II.15.4.1.3, III.3.38, III.3.43).
 
-ghost use Rattle.std.specs.Prelude.{◌≡◌, ◌+◌, ◌++◌, List, IfOk, OnOk};
-ghost use Rattle.std.specs.List.{enumerate_from, flat_map};
+ghost use Rattle.std.specs.Prelude.{◌≡◌, ◌==◌, ◌+◌, ◌++◌, List, IfOk, OnOk};
+ghost use Rattle.std.specs.List.{enumerate_from, flat_map, list_any};
 ghost use Rattle.il_lexer.specs.declared.types.TokenKind.TheVariants.{Name};
 ghost use Rattle.source_model.specs.Forest.{Forest, Part, each, preorder};
+ghost use Rattle.source_model.specs.Instructions.{instructions_of};
 ghost use Rattle.source_model.specs.Nodes.{Node};
 ghost use Rattle.source_model.specs.Source.{Source};
 ghost use Rattle.source_model.specs.Variables.{first_argument, is_of_arguments, variable_named};
@@ -12,12 +13,13 @@ ghost use Rattle.source_reading.specs.Methods.{AreNames, IsMethod};
 ghost use Rattle.source_reading.specs.Pieces.{ArePieces, AreParts};
 ghost use Rattle.source_reading.specs.Readers.{IsOf, Reads};
 ghost use Rattle.source_reading.specs.Walk.{IsForest};
-ghost use Rattle.body_rules.specs.NamedVariables.{name_of, names_of, number_if_named, AreNumbered, AreVariables};
+ghost use Rattle.body_rules.specs.NamedVariables.{name_of, names_of, number_if_named, AreNumbered, AreVariables, ServesVariables};
 
 use il_base::{Items, NoMemory};
 use ilasm_grammar::TreeNode;
 use ilasm_grammar::productions::{
-    CALL_CONV, DEF_ARG, DEF_ARGS_OPT_SOME, EXPLICIT_OPT_SOME, INSTANCE, LOCAL, NAME_OPT_SOME,
+    CALL_CONV, DEF_ARG, DEF_ARGS_OPT_SOME, EXPLICIT_OPT_SOME, INSTANCE, INSTRUCTION_OP_VAR, LOCAL,
+    NAME_OPT_SOME,
 };
 use opcode_table::Op;
 use source_reading::declared::Declared;
@@ -54,6 +56,27 @@ impl Variables {
         Ok(Variables { arguments, locals })
     }
 
+    /// Those of a method of which an instruction is one of variables; of another method none are read.
+    pub fn read_for(
+        alloc: Global,
+        reader: &Reader,
+        method: &[TreeNode],
+        code: &[Piece],
+    ) -> Result<Variables, NoMemory>
+        requires { IsForest method.now }
+        ensures { (s : Source) (n : Node) → Reads reader.now s → IsMethod s n → preorder n.below ≡ method.now →
+            ArePieces method.now code.now (instructions_of n.below) → IfOk result (λ x. ServesVariables x s n.below) }
+    {
+        if !has_form(code, INSTRUCTION_OP_VAR) {
+            return Ok(Variables {
+                arguments: no_names(alloc),
+                locals: no_names(alloc),
+            });
+        }
+        let variables = Variables::read(alloc, reader, method)?;
+        Ok(variables)
+    }
+
     /// The number of the first argument, or for another opcode of the first local, that has this name.
     pub fn number_of(
         &self,
@@ -70,6 +93,20 @@ impl Variables {
         } else {
             Ok(number_named(&self.locals, name.as_bytes()))
         }
+    }
+}
+
+// Whether one of these instructions has this form.
+fn has_form(code: &[Piece], form: u16) -> bool
+    ensures { result ≡ list_any (λ x. x.production == form) code.now }
+{
+    code.iter().any(|piece| piece.production == form)
+}
+
+fn no_names(alloc: Global) -> Numbered {
+    Numbered {
+        names: Declared::new(alloc),
+        numbers: Items::new(alloc),
     }
 }
 

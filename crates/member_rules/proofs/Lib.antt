@@ -3,6 +3,7 @@ pub mod AccessorParts
 pub mod AccessorWalks
 pub mod BrokenLemmas
 pub mod KeepLemmas
+pub mod LoneLemmas
 pub mod MemberLemmas
 pub mod MemberParts
 pub mod MemberWalks

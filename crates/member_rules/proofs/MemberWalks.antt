@@ -29,13 +29,13 @@ declared_is Method p b = grind arith
 declared_is Property p b = grind arith
 declared_is Event p b = grind arith
 
-forests_own : (kind : Kind) (p : ℕ) (b : Forest) (ps : List Part) → is_among (declarers kind) p ≡ true
+pub forests_own : (kind : Kind) (p : ℕ) (b : Forest) (ps : List Part) → is_among (declarers kind) p ≡ true
     → forests_of kind (part p b ∷ ps) ≡ the (production_of kind) b ∷ forests_of kind ps
 forests_own kind p b ps e =
     ap (λ (c : Bool). map (λ (q : Part). the (production_of kind) q.below) (if c then part p b ∷ filter (declares kind) ps else filter (declares kind) ps))
     (declared_is kind p b ∙ e)
 
-forests_other : (kind : Kind) (p : ℕ) (b : Forest) (ps : List Part) → is_among (declarers kind) p ≡ false → forests_of kind (part p b ∷ ps) ≡ forests_of kind ps
+pub forests_other : (kind : Kind) (p : ℕ) (b : Forest) (ps : List Part) → is_among (declarers kind) p ≡ false → forests_of kind (part p b ∷ ps) ≡ forests_of kind ps
 forests_other kind p b ps e =
     ap (λ (c : Bool). map (λ (q : Part). the (production_of kind) q.below) (if c then part p b ∷ filter (declares kind) ps else filter (declares kind) ps))
     (declared_is kind p b ∙ e)

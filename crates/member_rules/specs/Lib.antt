@@ -1,4 +1,5 @@
 pub mod BrokenSignatures
+pub mod LoneMembers
 pub mod MemberHashes
 pub mod MemberKinds
 pub mod MemberReading

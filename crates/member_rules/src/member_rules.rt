@@ -18,6 +18,7 @@ ghost use Rattle.member_rules.specs.MemberKinds.{again_in, class_around, parts_a
 ghost use Rattle.member_rules.specs.MemberReading.{Serves};
 ghost use Rattle.rule_steps.specs.Surroundings.{HasParameters, IsSurrounding};
 
+use crate::lone_members::has_two;
 use crate::member_kinds::{Kind, Level};
 use crate::member_reading::Signatures;
 use crate::member_sets::{Member, Members};
@@ -121,6 +122,10 @@ impl<'a, R: Rule> Signatures<'a, R> {
             depth ≡ min (length (class_around s path f).path) 101 → preorder f ≡ class.now → HasBodies s f →
             IfOk result (λ k. k ≡ least (members_twice_in s (class_around s path f) (members f))) }
     {
+        orders_are_total();
+        if !has_two(Level::Class, class) {
+            return Ok(None);
+        }
         let typars = typar_names(alloc, reader, class)?;
         let none = Declared::new(alloc);
         let place = Surrounding {

@@ -1,10 +1,11 @@
 -- What rules find at a production of which none of them speaks: nothing.
-use Rattle.std.proofs.Common.{◌≡◌, ℕ, List, [], ◌∷◌, ◌++◌, ap, sym, ◌∙◌, refl}
-use Rattle.std.specs.Prelude.{Bool, true, false, ◌==◌, ◌||◌, ◌&&◌, Option, None, Some, if◌then◌else◌}
+use Rattle.std.proofs.Common.{◌≡◌, ℕ, List, [], ◌∷◌, ◌++◌, ap, sym, subst, ◌∙◌, refl, append-nil}
+use Rattle.std.specs.List.{AllByRecursion}
+use Rattle.std.specs.Prelude.{Bool, true, false, ◌==◌, ◌||◌, ◌&&◌, None, if◌then◌else◌}
 use Rattle.std.proofs.lemmas.Bool.Decides.{Decides-eqb}
 use Rattle.ilasm_grammar.specs.declared.productions.TheConstants.{ASSEMBLY_ATTR_FLAGS, ASSEMBLY_ITEM_HASH, AT_NAME, CLASS, CLASS_ATTR_FLAGS, CONST_CHAR, CONST_FLOAT32, CONST_FLOAT64, CONST_INT_TYPE, DATA, DATA_ITEM_DATA_NUM, DECL_CORFLAGS, DECL_FILE, DECL_IMAGEBASE, DECL_STACKRESERVE, DECL_SUBSYSTEM, DEF_ARGS, FIELD, FIELD_TARGET_NAME, FIELD_TARGET_SCOPE, GEN_ARGS_BRACKET, GEN_ARGS_TYPE, IMPL_ATTR_FLAGS, KEY_VER, MEMBER_PACK, MEMBER_PARAM, MEMBER_SIZE, PARAM_ATTR_FLAGS, PARAM_OF_BRACKET, PARAM_OF_TYPE, PROPERTY, SIGNATURE, TARGET_NAME, TARGET_SCOPE, TYPARS, TYPE_BASE_BANG, TYPE_BASE_DOUBLE_BANG, TYPE_NAME_PATH, TYPE_NAME_SCOPE, TYPE_SUFFIX_BRACKET}
 use Rattle.source_model.specs.Forest.{Forest, is_among}
-use Rattle.source_model.specs.Names.{Written, written_name}
+use Rattle.source_model.specs.Names.{written_name}
 use Rattle.source_model.specs.Nodes.{Node}
 use Rattle.source_model.specs.OutOfRange.{barred_arguments, barred_in_property, class_too_deep, constant_out_of_range, data_number_out_of_range, data_too_long, flags_of_16_bits, flags_out_of_range, layout_number_out_of_range, manifest_number_out_of_range, param_out_of_range, without_arguments}
 use Rattle.source_model.specs.Source.{Source}
@@ -13,7 +14,7 @@ use Rattle.source_model.specs.Undeclared.{param_type_undeclared}
 use Rattle.source_reading.specs.Least.{least}
 use Rattle.source_reading.specs.declared.class_paths.ClassName.{ClassName}
 use Rattle.source_rules.specs.AllOfParts.{broken_at, name_broken}
-use Rattle.source_rules.specs.ArrayNumbers.{array_number, declared_number, number_at, number_in_type}
+use Rattle.source_rules.specs.ArrayNumbers.{array_number, number_at}
 use Rattle.source_rules.specs.Asked.{barred, constants, flags, generic, is_asked, laid_out, named, of_manifest, shaped}
 use Rattle.source_rules.specs.Missing.{label_missing}
 use Rattle.source_rules.specs.NamedTypes.{scope_missing_in, type_missing_in}
@@ -57,10 +58,9 @@ and_not true b e = absurd cc
 both : (xs ys : List ℕ) → xs ≡ [] → ys ≡ [] → xs ++ ys ≡ []
 both xs ys e h = ap (λ zs. zs ++ ys) e ∙ h
 
--- ---- a production that is none of these
+-- ---- a production that is none of these, save that it may begin with a name
 
 record IsQuiet (p : ℕ) : Type 0 where
-  named : is_among named p ≡ false
   generic : is_among generic p ≡ false
   manifest : is_among of_manifest p ≡ false
   flags : is_among flags p ≡ false
@@ -69,7 +69,7 @@ record IsQuiet (p : ℕ) : Type 0 where
   barred : is_among barred p ≡ false
   shaped : is_among shaped p ≡ false
 
-is_quiet : (p : ℕ) → is_asked p ≡ false → IsQuiet p
+is_quiet : (p : ℕ) → is_asked p ≡ false → IsQuiet p × (is_among named p ≡ false)
 is_quiet p e =
     let a7 = not_or (is_among named p || is_among generic p || is_among of_manifest p || is_among flags p || is_among constants p || is_among laid_out p || is_among barred p) (is_among shaped p) e in
     let a6 = not_or (is_among named p || is_among generic p || is_among of_manifest p || is_among flags p || is_among constants p || is_among laid_out p) (is_among barred p) a7.0 in
@@ -78,8 +78,8 @@ is_quiet p e =
     let a3 = not_or (is_among named p || is_among generic p || is_among of_manifest p) (is_among flags p) a4.0 in
     let a2 = not_or (is_among named p || is_among generic p) (is_among of_manifest p) a3.0 in
     let a1 = not_or (is_among named p) (is_among generic p) a2.0 in
+    let quiet : IsQuiet p =
     record {
-      named = a1.0;
       generic = a1.1;
       manifest = a2.1;
       flags = a3.1;
@@ -87,7 +87,40 @@ is_quiet p e =
       laid-out = a5.1;
       barred = a6.1;
       shaped = a7.1;
-    }
+    } in
+    (quiet, a1.0)
+
+-- what holds of each of some productions holds of one among them
+of_one : (P : ℕ → Type 0) (qs : List ℕ) (p : ℕ) → AllByRecursion P qs → is_among qs p ≡ true → P p
+of_one P [] p h e = absurd cc
+of_one P (q ∷ qs) p h e = go (q == p) refl (of_one P qs p h.1) e
+  where
+    go : (c : Bool) → (q == p) ≡ c → (is_among qs p ≡ true → P p) → (c || is_among qs p) ≡ true → P p
+    go true is rest among = subst P ((Decides-eqb q p).0 is) h.0
+    go false is rest among = rest among
+
+named_quiet : (p : ℕ) → is_among named p ≡ true → IsQuiet p
+named_quiet p e =
+    of_one IsQuiet named p (
+      record { generic = refl; manifest = refl; flags = refl; constants = refl; laid-out = refl; barred = refl; shaped = refl },
+      (
+        record { generic = refl; manifest = refl; flags = refl; constants = refl; laid-out = refl; barred = refl; shaped = refl },
+        (
+          record { generic = refl; manifest = refl; flags = refl; constants = refl; laid-out = refl; barred = refl; shaped = refl },
+          (
+            record { generic = refl; manifest = refl; flags = refl; constants = refl; laid-out = refl; barred = refl; shaped = refl },
+            (
+              record { generic = refl; manifest = refl; flags = refl; constants = refl; laid-out = refl; barred = refl; shaped = refl },
+              (
+                record { generic = refl; manifest = refl; flags = refl; constants = refl; laid-out = refl; barred = refl; shaped = refl },
+                tt,
+              ),
+            ),
+          ),
+        ),
+      ),
+    )
+    e
 
 -- ---- what rules find there
 
@@ -276,13 +309,32 @@ module _ (s : Source) (n : Node) (quiet : IsQuiet n.production) where
       (both _ _ (both _ _ (both _ _ (both _ _ (both _ _ no_index no_array) no_generic) no_arguments) no_ellipsis) no_parameter_flags))
       no_typars
 
-  nothing : (keys own : List (List ℕ)) (cs : List ClassName) (labels : List (List ℕ)) → broken_at keys own cs labels s n ≡ []
-  nothing keys own cs labels =
-      let unnamed = no_name p n.below quiet.named in
+  nothing : is_among named p ≡ false → (keys own : List (List ℕ)) (cs : List ClassName) (labels : List (List ℕ)) → broken_at keys own cs labels s n ≡ []
+  nothing none keys own cs labels =
+      let unnamed = no_name p n.below none in
       let named : name_broken keys own cs s n ≡ [] = ap (λ w. type_missing_in keys own cs s w ++ scope_missing_in keys own s w) unnamed in
       let path : path_too_long n ≡ [] = ap path_too_long_in unnamed in
       both _ _ (both _ _ (both _ _ (both _ _ named (both _ _ no_typar no_param_type)) (no_label labels)) no_number) (both _ _ no_class path)
 
 pub nothing_asked : (s : Source) (n : Node) (keys own : List (List ℕ)) (cs : List ClassName) (labels : List (List ℕ)) → is_asked n.production ≡ false
     → None ≡ least (broken_at keys own cs labels s n)
-nothing_asked s n keys own cs labels e = sym (ap least (nothing s n (is_quiet n.production e) keys own cs labels))
+nothing_asked s n keys own cs labels e =
+    let quiet = is_quiet n.production e in
+    sym (ap least (nothing s n quiet.0 quiet.1 keys own cs labels))
+
+-- at a type's name no rule but those of names and of paths finds anything
+pub names_asked : (s : Source) (n : Node) (keys own : List (List ℕ)) (cs : List ClassName) (labels : List (List ℕ)) → is_among named n.production ≡ true
+    → broken_at keys own cs labels s n ≡ name_broken keys own cs s n ++ path_too_long n
+names_asked s n keys own cs labels e =
+    let quiet = named_quiet n.production e in
+    let name = name_broken keys own cs s n in
+    let label = label_missing labels s n in
+    let number = number_at s n in
+    let nesting = class_too_deep n ++ path_too_long n in
+    ap (λ xs. ((name ++ xs) ++ label ++ number) ++ nesting) (both _ _ (no_typar s n quiet) (no_param_type s n quiet))
+    ∙ ap (λ xs. (xs ++ label ++ number) ++ nesting) (append-nil name)
+    ∙ ap (λ xs. ((name ++ xs) ++ number) ++ nesting) (no_label s n quiet labels)
+    ∙ ap (λ xs. (xs ++ number) ++ nesting) (append-nil name)
+    ∙ ap (λ xs. (name ++ xs) ++ nesting) (no_number s n quiet)
+    ∙ ap (λ xs. xs ++ nesting) (append-nil name)
+    ∙ ap (λ xs. name ++ (xs ++ path_too_long n)) (no_class s n quiet)

@@ -1,5 +1,6 @@
 pub mod ArrayLemmas
 pub mod AskedLemmas
+pub mod AskedTable
 pub mod BarredLemmas
 pub mod ClassSizes
 pub mod ClassWalks

@@ -20,7 +20,7 @@ use Rattle.source_reading.specs.declared.name_lists.Naming.TheVariants.{Assembly
 use Rattle.source_reading.specs.declared.reader.Reader.{Reader}
 use Rattle.source_reading.proofs.NamingLemmas.{labels_are}
 use Rattle.rule_steps.proofs.LeastOfRules.{and_rule}
-use Rattle.source_rules.specs.AllOfParts.{broken_at, broken_in_parts, name_broken}
+use Rattle.source_rules.specs.AllOfParts.{broken_at, broken_in_parts}
 use Rattle.source_rules.specs.ArrayNumbers.{number_at}
 use Rattle.source_rules.specs.DeclaredClasses.{AreClasses}
 use Rattle.source_rules.specs.Missing.{label_missing}

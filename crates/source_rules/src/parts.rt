@@ -1,8 +1,8 @@
 //! All rules that are asked of each production by itself, in one pass over a source (ECMA-335 II.5.8, II.6.2, II.7.3, II.10,
 //! II.15, II.16.3, II.23.2).
 
-ghost use Rattle.std.specs.Prelude.{◌≡◌, IfOk};
-ghost use Rattle.source_model.specs.Forest.{preorder};
+ghost use Rattle.std.specs.Prelude.{◌≡◌, IfOk, true};
+ghost use Rattle.source_model.specs.Forest.{is_among, preorder};
 ghost use Rattle.source_model.specs.Nodes.{Node};
 ghost use Rattle.source_model.specs.Source.{Source};
 ghost use Rattle.source_reading.specs.Derived.{FitsBody, HasBodies};
@@ -11,13 +11,15 @@ ghost use Rattle.source_reading.specs.Namings.{AreNames};
 ghost use Rattle.source_reading.specs.Readers.{Reads};
 ghost use Rattle.source_reading.specs.Walk.{IsForest};
 ghost use Rattle.source_reading.specs.declared.name_lists.Naming.TheVariants as naming;
+ghost use Rattle.source_rules.specs.Asked.{named};
 ghost use Rattle.source_rules.specs.AllOfParts.{broken_at, broken_in_parts, name_broken};
 ghost use Rattle.source_rules.specs.DeclaredClasses.{AreClasses};
+ghost use Rattle.rule_steps.specs.Surroundings.{IsDerived, IsNode};
 
-use crate::asked::is_asked;
+use crate::asked::{is_asked, is_named};
 use crate::class_rules::Classes;
 use crate::named_types::{Scopes, Types, missing, unless_known};
-use crate::nestings::Nestings;
+use crate::nestings::{Nestings, long_path};
 use crate::out_of_range::Numbers;
 use crate::undeclared::{Labels, Typars};
 use crate::written::written_name;
@@ -83,6 +85,45 @@ impl<'a> Rule for AllOfParts<'a> {
         if !is_asked(production) {
             return Ok(None);
         }
+        if is_named(production) {
+            return self.first_named(alloc, reader, production, below);
+        }
+        self.first_asked(alloc, reader, place, production, below)
+    }
+}
+
+impl<'a> AllOfParts<'a> {
+    // The same of one that begins with a type's name: only the rules of names and of paths speak of it.
+    fn first_named(
+        &self,
+        alloc: Global,
+        reader: &Reader,
+        production: u16,
+        below: &[TreeNode],
+    ) -> Result<Option<u32>, NoMemory>
+        requires { IsForest below.now }
+        ensures { (s : Source) (n : Node) → Reads reader.now s → n.production ≡ production → preorder n.below ≡ below.now →
+            FitsBody s n.production n.below → HasBodies s n.below → is_among named production ≡ true →
+            IfOk result (λ k. k ≡ least (broken_at self.now.types.scopes.keys.now self.now.types.scopes.own.now self.now.types.classes.now self.now.labels.names.now s n)) }
+    {
+        let name = name_fault(&self.types, alloc, reader, production, below)?;
+        let path = long_path(alloc, production, below)?;
+        Ok(sooner(name, path))
+    }
+
+    // The least token at which a production breaks one of them.
+    fn first_asked(
+        &self,
+        alloc: Global,
+        reader: &Reader,
+        place: &Surrounding,
+        production: u16,
+        below: &[TreeNode],
+    ) -> Result<Option<u32>, NoMemory>
+        requires { IsForest below.now }
+        ensures { (s : Source) (n : Node) → Reads reader.now s → IsNode place.now production below.now n → IsDerived s place.now n →
+            IfOk result (λ k. k ≡ least (broken_at self.now.types.scopes.keys.now self.now.types.scopes.own.now self.now.types.classes.now self.now.labels.names.now s n)) }
+    {
         let name = name_fault(&self.types, alloc, reader, production, below)?;
         let typar = Typars.first(alloc, reader, place, production, below)?;
         let label = self.labels.first(alloc, reader, place, production, below)?;

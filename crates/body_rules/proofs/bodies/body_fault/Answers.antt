@@ -1,4 +1,4 @@
-use Rattle.std.proofs.Common.{refl, ◌∙◌}
+use Rattle.std.proofs.Common.{◌∙◌}
 use Rattle.body_rules.proofs.BodyLemmas.{all_bodies}
 use Rattle.body_rules.proofs.bodies.body_fault.Goals as goal
 

@@ -1,7 +1,13 @@
-use Rattle.std.proofs.Common.{sym, subst}
+use Rattle.std.proofs.Common.{ap, sym, subst, ◌∙◌}
 use Rattle.source_model.specs.Bodies.{code}
+use Rattle.source_reading.specs.Least.{least}
 use Rattle.body_rules.specs.Sizes.{AreOffsets}
+use Rattle.body_rules.proofs.ShortCodeLemmas.{near_enough}
 use Rattle.body_rules.proofs.bodies.branch_fault.Goals as goal
+
+pub returns-then-is_short_code : goal.returns-then-is_short_code
+returns-then-is_short_code c s n r m e are labels =
+    ap least (sym (near_enough s n c.args.method.now c.args.code.now are (sym c.is_short_code.ensures ∙ c.if-is_short_code.true)))
 
 pub returns : goal.returns
 returns c s n r m e are labels =

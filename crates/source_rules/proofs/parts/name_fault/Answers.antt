@@ -1,4 +1,4 @@
-use Rattle.std.proofs.Common.{◌≡◌, ◌++◌, ◌∙◌, ap, subst, sym}
+use Rattle.std.proofs.Common.{◌++◌, ◌∙◌, ap, subst, sym}
 use Rattle.std.specs.Prelude.{All, Some}
 use Rattle.il_lexer.specs.declared.types.TokenKind.TheVariants as kind
 use Rattle.source_reading.specs.Least.{least}

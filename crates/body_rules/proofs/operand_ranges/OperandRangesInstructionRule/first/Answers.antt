@@ -19,4 +19,4 @@ pub returns-in-315 : goal.returns-in-315
 returns-in-315 c s n p r knows is =
     let form = is.production-is ∙ c.in-315.is in
     subst (λ ks. IfOk c.variable.result (λ k. k ≡ least ks)) (sym (at_variable s n.below p form))
-    (c.variable.ensures s n.below p r knows (subst (λ q. FitsBody s q p.below) form is.fits) is.bodies is.below-is)
+    (c.variable.ensures s n.below p r (knows _ p is.at form) (subst (λ q. FitsBody s q p.below) form is.fits) is.bodies is.below-is)

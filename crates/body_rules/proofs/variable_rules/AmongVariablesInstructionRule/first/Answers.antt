@@ -13,4 +13,4 @@ returns-in-315 c s n p r knows is =
     let own : (p.production == INSTRUCTION_OP_VAR) ≡ true = (Decides-eqb p.production INSTRUCTION_OP_VAR).1 form in
     subst (λ ks. IfOk c.undeclared.result (λ k. k ≡ least ks))
     (sym (ap (λ (b : Bool). if b then variable_undeclared s n.below p else []) own))
-    (c.undeclared.ensures s n.below p r knows (subst (λ q. FitsBody s q p.below) form is.fits) is.bodies is.below-is)
+    (c.undeclared.ensures s n.below p r (knows _ p is.at form) (subst (λ q. FitsBody s q p.below) form is.fits) is.bodies is.below-is)

@@ -13,5 +13,5 @@ returns c s n r m e =
     let f = n.below in
     let ps = instructions_of f in
     let code = subst (λ xs. ArePieces c.args.below.now xs ps) (sym c.as_slice.ensures) (c.in_ok-code.ensures f e) in
-    c.in_ok-first.ensures s n r m.bodies (c.in_ok-variables.ensures s n r m e) code
+    c.in_ok-first.ensures s n r m.bodies (λ _ _ _ _. c.in_ok-variables.ensures s n r m e) code
     ∙ ap least (without_numbers (undeclared_at s f) 0 ps ∙ of_one_form (variable_undeclared s f) INSTRUCTION_OP_VAR ps)

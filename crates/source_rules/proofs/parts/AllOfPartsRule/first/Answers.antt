@@ -1,13 +1,6 @@
-use Rattle.std.proofs.Common.{◌≡◌, ◌++◌, ◌∙◌, ap, sym}
+use Rattle.std.proofs.Common.{◌≡◌, ◌∙◌, ap, sym}
 use Rattle.std.specs.Prelude.{false}
-use Rattle.source_model.specs.OutOfRange.{class_too_deep}
-use Rattle.source_model.specs.TypeRules.{path_too_long, typar_undeclared}
-use Rattle.source_model.specs.Undeclared.{param_type_undeclared}
-use Rattle.rule_steps.proofs.LeastOfRules.{then_rule}
-use Rattle.source_rules.specs.AllOfParts.{name_broken}
-use Rattle.source_rules.specs.ArrayNumbers.{number_at}
 use Rattle.source_rules.specs.Asked.{is_asked}
-use Rattle.source_rules.specs.Missing.{label_missing}
 use Rattle.source_rules.proofs.AskedLemmas.{nothing_asked}
 use Rattle.source_rules.proofs.parts.AllOfPartsRule.first.Goals as goal
 
@@ -18,21 +11,9 @@ returns-then-not-is_asked c s n r node derived =
     let quiet : is_asked n.production ≡ false = ap is_asked node.production-is ∙ sym c.is_asked.ensures ∙ c.if-not-is_asked.true in
     nothing_asked s n keys own c.args.self.now.types.classes.now c.args.self.now.labels.names.now quiet
 
+pub returns-then-is_named : goal.returns-then-is_named
+returns-then-is_named c s n r node derived =
+    c.first_named.ensures s n r node.production-is node.below-is derived.fits derived.bodies (sym c.is_named.ensures ∙ c.if-is_named.true)
+
 pub returns : goal.returns
-returns c s n r node derived =
-    let keys = c.args.self.now.types.scopes.keys.now in
-    let own = c.args.self.now.types.scopes.own.now in
-    let named = name_broken keys own c.args.self.now.types.classes.now s n in
-    let typars = typar_undeclared s n ++ param_type_undeclared s n in
-    let labels = label_missing c.args.self.now.labels.names.now s n in
-    let numbers = number_at s n in
-    let nestings = class_too_deep n ++ path_too_long n in
-    then_rule c.sooner.result c.sooner-to_number.result c.in_ok-nesting.nesting (named ++ typars ++ labels ++ numbers) nestings c.sooner.ensures
-    (then_rule c.sooner-to_number.result c.sooner-to_label.result c.in_ok-number.number (named ++ typars ++ labels) numbers c.sooner-to_number.ensures
-    (then_rule c.sooner-to_label.result c.sooner-to_typar.result c.in_ok-label.label (named ++ typars) labels c.sooner-to_label.ensures
-    (then_rule c.sooner-to_typar.result c.in_ok-name.name c.in_ok-typar.typar named typars c.sooner-to_typar.ensures
-    (c.in_ok-name.ensures s n r node.production-is node.below-is derived.fits derived.bodies)
-    (c.in_ok-typar.ensures s n r node derived))
-    (c.in_ok-label.ensures s n r node derived))
-    (c.in_ok-number.ensures s n r node derived))
-    (c.in_ok-nesting.ensures s n r node derived)
+returns c s n r node derived = c.first_asked.ensures s n r node derived
