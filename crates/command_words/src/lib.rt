@@ -10,6 +10,3 @@ mod sorts;
 pub use command::Command;
 pub use fault::WordFault;
 pub use parsing::parse_words;
-
-#[cfg(test)]
-mod tests;

@@ -4,6 +4,4 @@
 
 pub mod declared_sizes;
 pub mod mapped_fields;
-#[cfg(test)]
-mod tests;
 pub mod type_sizes;

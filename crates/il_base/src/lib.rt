@@ -18,8 +18,6 @@ mod std_console;
 mod steps;
 mod stored;
 mod stored_files;
-#[cfg(test)]
-mod tests;
 
 pub use console::Console;
 pub use disk_shelf::DiskShelf;

@@ -22,6 +22,3 @@ pub use laws::{
 pub use scan::{end_place, tokens};
 pub use types::{LexFault, Lexeme, Token, TokenKind};
 pub use words::{WORDS, word_number, word_text};
-
-#[cfg(test)]
-mod tests;

@@ -16,8 +16,6 @@ mod stack;
 mod symbol;
 mod table;
 pub mod terminals;
-#[cfg(test)]
-mod tests;
 mod tree;
 
 pub use fault::{LEFT_OUT, SyntaxFault};

@@ -1,7 +1,8 @@
 //! Tests alone: cases of the layers below the image, with answers that were taken from the standard's rules
-//! and not from the program: heaps, signatures, pools, trees and bodies. They stand apart from the cases of whole
-//! programs, so that a change above these layers doesn't prove them again, and share one crate, since each crate of tests
-//! proves again how the trees are let go that it builds.
+//! and not from the program: files and console, opcodes, tokens, tables, frames, heaps, signatures, pools, trees and
+//! bodies. They stand apart from the cases of whole programs, so that a change above these layers doesn't prove them
+//! again, and share one crate, since a crate is proved once more for its tests, and each crate of tests proves again how
+//! the trees are let go that it builds.
 #![tactic(auto)]
 
 #[cfg(test)]
@@ -15,6 +16,10 @@ mod decode_rows;
 #[cfg(test)]
 mod encode_rows;
 #[cfg(test)]
+mod frame_rows;
+#[cfg(test)]
+mod grammar_rows;
+#[cfg(test)]
 mod heaps_rows;
 #[cfg(test)]
 mod manifests;
@@ -24,6 +29,12 @@ mod members;
 mod methods;
 #[cfg(test)]
 mod nameless;
+#[cfg(test)]
+mod opcode_rows;
+#[cfg(test)]
+mod order_rows;
+#[cfg(test)]
+mod outside_rows;
 #[cfg(test)]
 mod parts;
 #[cfg(test)]
@@ -37,6 +48,12 @@ mod signature_rows;
 #[cfg(test)]
 mod sums;
 #[cfg(test)]
+mod table_rows;
+#[cfg(test)]
 mod terms;
 #[cfg(test)]
+mod token_rows;
+#[cfg(test)]
 mod types;
+#[cfg(test)]
+mod word_rows;

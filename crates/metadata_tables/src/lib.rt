@@ -25,6 +25,3 @@ pub use order::sort_columns;
 pub use rows::Rows;
 pub use schema::{Column, PROFILE, TABLES, columns};
 pub use view::TableView;
-
-#[cfg(test)]
-mod tests;

@@ -14,6 +14,3 @@ pub use lookup::candidate;
 pub use mnemonic::op_of_word;
 pub use op::Op;
 pub use table::{bytes_of, kind_of, word_of};
-
-#[cfg(test)]
-mod tests;

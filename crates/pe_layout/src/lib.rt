@@ -17,6 +17,3 @@ pub use fault::PeFault;
 pub use parts::{Kind, ManifestNumbers, Parts};
 pub use view::{PeView, open};
 pub use writer::{code_rva, write};
-
-#[cfg(test)]
-mod tests;

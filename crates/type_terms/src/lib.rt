@@ -10,8 +10,6 @@ mod name;
 mod path;
 mod reference;
 mod term;
-#[cfg(test)]
-mod tests;
 
 pub use compare::{compare_owners, compare_terms};
 pub use depth::{MAX_DEPTH, fits};

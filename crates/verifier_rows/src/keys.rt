@@ -105,15 +105,19 @@ fn interfaces_hold(w: &mut World, alloc: Global) -> Result<bool, NoMemory> {
     Ok(is_one && names_class(w, alloc, &interface, "I")?)
 }
 
+fn all_hold(w: &mut World, alloc: Global) -> Result<bool, NoMemory> {
+    Ok(
+        box_holds(w, alloc)?
+            && pointer_holds(w, alloc)?
+            && element_holds(w, alloc)?
+            && twice_holds(w, alloc)?
+            && interfaces_hold(w, alloc)?,
+    )
+}
+
 fn keys_hold(alloc: Global) -> Result<bool, NoMemory> {
     match small_world(alloc)? {
-        Some(mut w) => Ok(
-            box_holds(&mut w, alloc)?
-                && pointer_holds(&mut w, alloc)?
-                && element_holds(&mut w, alloc)?
-                && twice_holds(&mut w, alloc)?
-                && interfaces_hold(&mut w, alloc)?,
-        ),
+        Some(mut w) => all_hold(&mut w, alloc),
         None => Ok(false),
     }
 }

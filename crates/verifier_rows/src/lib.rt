@@ -1,7 +1,9 @@
-//! Tests alone: what no checked method shows of the world of types, and the worklist of the checker of bodies. Answers were
-//! taken from the standard's rules and not from the program.
+//! Tests alone: what no checked method shows of the world of types, the worklist of the checker of bodies, and fields
+//! with data. Answers were taken from the standard's rules and not from the program.
 #![tactic(auto)]
 
+#[cfg(test)]
+mod data_rows;
 #[cfg(test)]
 mod keys;
 #[cfg(test)]

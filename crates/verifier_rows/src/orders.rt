@@ -58,14 +58,18 @@ fn object_holds(w: &mut World) -> Result<bool, NoMemory> {
     Ok(above.is_none())
 }
 
+fn all_hold(w: &mut World, alloc: Global) -> Result<bool, NoMemory> {
+    Ok(
+        base_holds(w, alloc)?
+            && interface_holds(w, alloc)?
+            && vector_holds(w, alloc)?
+            && object_holds(w)?,
+    )
+}
+
 fn orders_hold(alloc: Global) -> Result<bool, NoMemory> {
     match small_world(alloc)? {
-        Some(mut w) => Ok(
-            base_holds(&mut w, alloc)?
-                && interface_holds(&mut w, alloc)?
-                && vector_holds(&mut w, alloc)?
-                && object_holds(&mut w)?,
-        ),
+        Some(mut w) => all_hold(&mut w, alloc),
         None => Ok(false),
     }
 }

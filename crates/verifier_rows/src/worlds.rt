@@ -1,6 +1,9 @@
 //! A world of three types, and names of types in it.
 
-use assembly_tree::weight;
+ghost use Rattle.std.specs.Prelude.{IsTrue};
+ghost use Rattle.assembly_tree.specs.WellFormed.{is_well_formed};
+
+use assembly_tree::{Assembly, weight};
 use assignability::types::World;
 use assignability::{WorldFault, world};
 use il_lists::{Boxed, Items, NoMemory, Text};
@@ -13,17 +16,22 @@ static SMALL: &str = ".assembly extern mscorlib { } .assembly Small { }\n\
 .class interface public abstract I { } .class public A implements I { } .class public B extends A { }";
 
 /// The world of these classes, or None where there is none.
-pub fn small_world(alloc: Global) -> Result<Option<World>, NoMemory> {
-    let a = match assembly_of(alloc, SMALL.as_bytes()) {
-        Ok(a) => a,
-        Err(ReadFault::NoMemory) => return Err(NoMemory),
-        Err(ReadFault::Faulty(_)) => return Ok(None),
-    };
-    if weight(&a) > 0x400_0000 {
+pub fn small_world(alloc: Global) -> Result<Option<Box<World>>, NoMemory> {
+    match assembly_of(alloc, SMALL.as_bytes()) {
+        Ok(a) => world_of(alloc, &a),
+        Err(ReadFault::NoMemory) => Err(NoMemory),
+        Err(ReadFault::Faulty(_)) => Ok(None),
+    }
+}
+
+fn world_of(alloc: Global, a: &Assembly) -> Result<Option<Box<World>>, NoMemory>
+    requires { IsTrue (is_well_formed a.now) }
+{
+    if weight(a) > 0x400_0000 {
         return Ok(None);
     }
-    match world(alloc, &a, &Items::new(alloc)) {
-        Ok(w) => Ok(Some(w)),
+    match world(alloc, a, &Items::new(alloc)) {
+        Ok(w) => Ok(Some(Box::new(alloc, w)?)),
         Err(WorldFault::NoMemory) => Err(NoMemory),
         Err(WorldFault::Cyclic { .. }) => Ok(None),
     }
