@@ -6,3 +6,4 @@ pub mod CoreLemmas
 pub mod Elaborated
 pub mod InterfaceLemmas
 pub mod SizeLemmas
+pub mod SizelessLemmas

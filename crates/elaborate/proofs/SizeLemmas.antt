@@ -93,7 +93,7 @@ all_nodes s a (tree.branch p b f) h =
     all_append (λ (n : Node). AllInRange s n.below) (record { production = p; below = b; around = inner } ∷ nodes_in s inner b) (nodes_in s a f)
     (h.1, all_nodes s inner b h.1) (all_nodes s a f h.2)
 
-all_chosen : {X : Type 0} (P : X → Type 0) (test : X → Bool) (xs : List X) → AllByRecursion P xs → AllByRecursion P (filter test xs)
+pub all_chosen : {X : Type 0} (P : X → Type 0) (test : X → Bool) (xs : List X) → AllByRecursion P xs → AllByRecursion P (filter test xs)
 all_chosen P test [] h = tt
 all_chosen P test (x ∷ xs) h = go (test x) (all_chosen P test xs h.1)
   where

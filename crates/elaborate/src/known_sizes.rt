@@ -1,22 +1,52 @@
 //! The sizes of a source's classes in data, by their paths (ECMA-335 II.10.7, II.16.3, II.22.8).
 
-ghost use Rattle.std.specs.Prelude.{◌≡◌, IfOk, map, min};
+ghost use Rattle.std.specs.Prelude.{◌≡◌, ◌∷◌, [], IfOk, map, min};
 ghost use Rattle.elaborate.specs.KnownSizes.{in_word};
+ghost use Rattle.ilasm_grammar.specs.declared.productions.TheConstants.{MEMBER_SIZE};
 ghost use Rattle.member_parts.specs.ClassSizes.{AreSizes};
 ghost use Rattle.source_flags.specs.InRange.{AllInRange};
+ghost use Rattle.source_model.specs.Forest.{parts};
 ghost use Rattle.source_model.specs.Source.{Source};
 ghost use Rattle.source_reading.specs.Readers.{Reads};
 ghost use Rattle.source_reading.specs.Walk.{IsForest};
 
 use data_rules::declared_sizes::collect_sizes;
 use il_base::{Items, NoMemory};
+use ilasm_grammar::productions::MEMBER_SIZE;
 use member_parts::class_sizes::ClassSizes;
+use source_flags::gathering::Kind;
+use source_flags::outside::{Shut, has_outside};
+use source_reading::class_paths::ClassPaths;
 use source_reading::reader::Reader;
 use source_rules::class_rules::collect_classes;
 use std::alloc::Global;
 
 /// The sizes of the classes of a source.
 pub fn read_sizes(alloc: Global, reader: &Reader) -> Result<ClassSizes, NoMemory>
+    requires { IsForest reader.now.nodes.now }
+    ensures { (s : Source) → Reads reader.now s → AllInRange s s.tree → IfOk result (λ sizes. AreSizes s sizes) }
+{
+    if has_outside(alloc, reader.nodes, Shut::Methods, Kind::One(MEMBER_SIZE))? {
+        let sizes = stated_sizes(alloc, reader)?;
+        Ok(sizes)
+    } else {
+        Ok(no_sizes(alloc))
+    }
+}
+
+// What a source has in which no class states a size.
+fn no_sizes(alloc: Global) -> ClassSizes
+    ensures { (s : Source) → parts (MEMBER_SIZE ∷ []) s.tree ≡ [] → AreSizes s result }
+{
+    let sizes = Items::new(alloc);
+    ClassSizes {
+        paths: ClassPaths::new(alloc),
+        sizes,
+    }
+}
+
+// What any source has.
+fn stated_sizes(alloc: Global, reader: &Reader) -> Result<ClassSizes, NoMemory>
     requires { IsForest reader.now.nodes.now }
     ensures { (s : Source) → Reads reader.now s → AllInRange s s.tree → IfOk result (λ sizes. AreSizes s sizes) }
 {

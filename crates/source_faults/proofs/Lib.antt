@@ -1,1 +1,4 @@
+pub mod CensusLemmas
+pub mod DepthBounds
 pub mod PassLemmas
+pub mod SomeNames

@@ -1,13 +1,19 @@
 -- What a source declares, as the code holds it.
+use Rattle.std.specs.Prelude.{◌≡◌}
+use Rattle.std.specs.List.{list_any}
+use Rattle.source_model.specs.Forest.{preorder}
 use Rattle.source_model.specs.Source.{Source}
 use Rattle.source_reading.specs.Namings.{AreNames}
 use Rattle.source_reading.specs.declared.name_lists.Naming.TheVariants.{Assembly, Label, Own}
 use Rattle.source_rules.specs.DeclaredClasses.{AreClasses}
+use Rattle.source_faults.specs.Census.{IsCensus, is_long}
 use Rattle.source_faults.specs.declared.all_declared.Declarations.{Declarations}
 
--- the data, the assemblies and the classes of a source
+-- the data, the assemblies and the classes of a source, and how many nodes each production has there
 pub record AreDeclarations (s : Source) (d : Declarations) : Type 0 where
   pub labels : AreNames s Label d.labels
   pub externs : AreNames s Assembly d.externs
   pub own : AreNames s Own d.own
   pub classes : AreClasses s d.classes
+  pub census : IsCensus (preorder s.tree) d.census
+  pub long-types : d.census.long_types ≡ list_any is_long (preorder s.tree)

@@ -1,3 +1,4 @@
 pub mod AllDeclared
+pub mod Census
 pub mod Passes
 pub mod SourceFaults

@@ -6,8 +6,11 @@ ghost use Rattle.source_reading.specs.Readers.{Reads};
 ghost use Rattle.source_reading.specs.Walk.{IsForest};
 ghost use Rattle.source_faults.specs.AllDeclared.{AreDeclarations};
 
+use crate::census::{Census, census_of};
+use crate::declared_names::collect_some;
 use il_base::NoMemory;
-use source_reading::name_lists::{Named, Naming, collect};
+use ilasm_grammar::productions::{ASSEMBLY_ASSEMBLY_ATTR_STAR, ASSEMBLY_EXTERN, DATA};
+use source_reading::name_lists::{Named, Naming};
 use source_reading::reader::Reader;
 use source_rules::class_rules::{Classes, collect_classes};
 use std::alloc::Global;
@@ -23,6 +26,8 @@ pub struct Declarations {
     pub own: Named,
     /// Classes, by their paths.
     pub classes: Classes,
+    /// How many nodes each production has.
+    pub census: Census,
 }
 
 /// All that a source declares.
@@ -30,10 +35,25 @@ pub fn collect_declarations(alloc: Global, reader: &Reader) -> Result<Declaratio
     requires { IsForest reader.now.nodes.now }
     ensures { (s : Source) → Reads reader.now s → IfOk result (AreDeclarations s) }
 {
+    let census = census_of(reader.nodes);
+    let data = census.count(DATA);
+    let others = census.count(ASSEMBLY_EXTERN);
+    let owns = census.count(ASSEMBLY_ASSEMBLY_ATTR_STAR);
+    let labels = collect_some(alloc, reader, Naming::Label, DATA, data)?;
+    let externs = collect_some(alloc, reader, Naming::Assembly, ASSEMBLY_EXTERN, others)?;
+    let own = collect_some(
+        alloc,
+        reader,
+        Naming::Own,
+        ASSEMBLY_ASSEMBLY_ATTR_STAR,
+        owns,
+    )?;
+    let classes = collect_classes(alloc, reader)?;
     Ok(Declarations {
-        labels: collect(alloc, reader, Naming::Label)?,
-        externs: collect(alloc, reader, Naming::Assembly)?,
-        own: collect(alloc, reader, Naming::Own)?,
-        classes: collect_classes(alloc, reader)?,
+        labels,
+        externs,
+        own,
+        classes,
+        census,
     })
 }

@@ -1,8 +1,10 @@
 //! The rules on what a source declares twice (ECMA-335 II.5.4, II.6.2, II.6.3, II.10, II.15.4.1.2, II.16.3, II.22).
 
 ghost use Rattle.std.specs.Prelude.{◌≡◌, ◌<◌, ◌^◌, IfOk, length};
+ghost use Rattle.source_model.specs.DeclaredTwice.{entries_twice, manifests_twice};
 ghost use Rattle.source_model.specs.Denotes.{broken_d};
 ghost use Rattle.source_model.specs.Faults.{earliest};
+ghost use Rattle.source_model.specs.Forest.{preorder};
 ghost use Rattle.source_model.specs.Source.{Source};
 ghost use Rattle.source_reading.specs.Least.{least};
 ghost use Rattle.source_reading.specs.Readers.{Reads};
@@ -10,11 +12,14 @@ ghost use Rattle.source_reading.specs.Walk.{IsForest};
 ghost use Rattle.source_rules.specs.Breaches.{any_broken};
 ghost use Rattle.source_rules.specs.Leasts.{AreTwice};
 ghost use Rattle.source_faults.specs.AllDeclared.{AreDeclarations};
+ghost use Rattle.source_faults.specs.Census.{IsCensus};
 ghost use Rattle.source_faults.specs.Passes.{KeepsPasses, broken_in_passes};
 
 use crate::all_declared::Declarations;
+use crate::census::Census;
 use body_rules::label_rules::label_twice;
 use il_base::NoMemory;
+use ilasm_grammar::productions::{ASSEMBLY_ASSEMBLY_ATTR_STAR, DECL_MODULE, ITEM_ENTRYPOINT};
 use member_rules::broken_signatures::signatures_of;
 use member_rules::member_rules::member_twice;
 use rule_steps::repeats::{entry_twice, manifest_twice};
@@ -69,8 +74,8 @@ fn other_twice(alloc: Global, reader: &Reader, declared: &Declarations) -> Resul
         members: member_twice(&rule, alloc, reader, &declared.externs)?,
         externs: assembly_again(&declared.externs),
         labels: None,
-        entries: entry_twice(reader),
-        manifests: manifest_twice(reader),
+        entries: entry_again(reader, &declared.census),
+        manifests: manifest_again(reader, &declared.census),
         data_labels: label_again(&declared.labels),
     })
 }
@@ -86,8 +91,36 @@ fn each_twice(alloc: Global, reader: &Reader, declared: &Declarations) -> Result
         members: member_twice(&rule, alloc, reader, &declared.externs)?,
         externs: assembly_again(&declared.externs),
         labels: label_twice(alloc, reader)?,
-        entries: entry_twice(reader),
-        manifests: manifest_twice(reader),
+        entries: entry_again(reader, &declared.census),
+        manifests: manifest_again(reader, &declared.census),
         data_labels: label_again(&declared.labels),
     })
+}
+
+// The least `.entrypoint` after the first.
+fn entry_again(reader: &Reader, census: &Census) -> Option<u32>
+    requires { IsForest reader.now.nodes.now }
+    ensures { (s : Source) → Reads reader.now s → IsCensus (preorder s.tree) census.now → result ≡ least (entries_twice s) }
+{
+    let entries = census.count(ITEM_ENTRYPOINT);
+    if entries > 1 {
+        return entry_twice(reader);
+    }
+    None
+}
+
+// The least name of a second `.assembly` or `.module`.
+fn manifest_again(reader: &Reader, census: &Census) -> Option<u32>
+    requires { IsForest reader.now.nodes.now }
+    ensures { (s : Source) → Reads reader.now s → IsCensus (preorder s.tree) census.now → result ≡ least (manifests_twice s) }
+{
+    let assemblies = census.count(ASSEMBLY_ASSEMBLY_ATTR_STAR);
+    let modules = census.count(DECL_MODULE);
+    if assemblies > 1 {
+        return manifest_twice(reader);
+    }
+    if modules > 1 {
+        return manifest_twice(reader);
+    }
+    None
 }

@@ -2,6 +2,8 @@
 #![tactic(auto)]
 
 pub mod all_declared;
+pub mod census;
+pub mod declared_names;
 pub mod declared_twice;
 pub mod faults;
 pub mod not_declared;

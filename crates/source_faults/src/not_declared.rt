@@ -1,26 +1,39 @@
 //! The rules on what a source names and doesn't declare (ECMA-335 II.6.2, II.7.3, II.10.1.7, II.15.4.1, II.16.3, II.17, II.18).
 
-ghost use Rattle.std.specs.Prelude.{◌≡◌, ◌<◌, ◌++◌, ◌^◌, IfOk, None, length};
+ghost use Rattle.std.specs.Prelude.{◌≡◌, ◌<◌, ◌++◌, ◌^◌, IfOk, List, None, false, length};
+ghost use Rattle.std.specs.List.{list_any};
+ghost use Rattle.ilasm_grammar.specs.declared.tree.TreeNode.{TreeNode};
+ghost use Rattle.member_rules.specs.OwnMethods.{is_owner};
 ghost use Rattle.source_model.specs.Denotes.{broken_n};
 ghost use Rattle.source_model.specs.Faults.{earliest};
+ghost use Rattle.source_model.specs.Forest.{preorder};
+ghost use Rattle.source_model.specs.Nodes.{Node};
 ghost use Rattle.source_model.specs.Source.{Source};
-ghost use Rattle.source_model.specs.Undeclared.{objects_undeclared, scopes_undeclared};
+ghost use Rattle.source_model.specs.TypeRules.{breaks_signature, is_nothing};
+ghost use Rattle.source_model.specs.Undeclared.{accessors_undeclared, objects_undeclared, scopes_undeclared};
 ghost use Rattle.source_reading.specs.Least.{least};
+ghost use Rattle.source_reading.specs.Namings.{AreNames};
 ghost use Rattle.source_reading.specs.Readers.{Reads};
+ghost use Rattle.source_reading.specs.declared.name_lists.Naming.TheVariants as naming;
+ghost use Rattle.member_rules.specs.BrokenSignatures.{part_broken};
 ghost use Rattle.source_reading.specs.Walk.{IsForest};
 ghost use Rattle.source_rules.specs.Breaches.{any_broken};
 ghost use Rattle.source_rules.specs.DeclaredClasses.{AreClasses};
 ghost use Rattle.source_rules.specs.Leasts.{AreUndeclared};
 ghost use Rattle.source_faults.specs.AllDeclared.{AreDeclarations};
+ghost use Rattle.source_faults.specs.Census.{IsCensus};
 ghost use Rattle.source_faults.specs.Passes.{KeepsPasses, broken_in_passes};
 
 use crate::all_declared::Declarations;
+use crate::census::Census;
 use body_rules::label_rules::label_undeclared;
 use body_rules::variable_rules::variable_undeclared;
 use il_base::NoMemory;
+use ilasm_grammar::productions::{EVENT, PROPERTY};
 use member_rules::accessor_rules::accessor_undeclared;
-use member_rules::broken_signatures::signatures_of;
+use member_rules::broken_signatures::{BrokenSignatures, signatures_of};
 use rule_steps::repeats::without_assembly;
+use source_reading::name_lists::Named;
 use source_reading::reader::Reader;
 use source_rules::class_rules::Classes;
 use source_rules::extern_rules::extern_undeclared;
@@ -81,6 +94,7 @@ fn other_undeclared(
         externs,
         own,
         classes,
+        census,
         ..
     } = declared;
     let rule = signatures_of(externs, own, classes);
@@ -90,7 +104,7 @@ fn other_undeclared(
         labels: None,
         variables: None,
         typars: None,
-        accessors: accessor_undeclared(&rule, alloc, reader, externs)?,
+        accessors: accessor_absent(&rule, alloc, reader, externs, census)?,
         assembly: without_assembly(reader),
         data_labels: None,
     })
@@ -122,6 +136,7 @@ fn each_undeclared(
         externs,
         own,
         classes,
+        census,
     } = declared;
     let rule = signatures_of(externs, own, classes);
     Ok(Undeclared {
@@ -130,8 +145,44 @@ fn each_undeclared(
         labels: label_undeclared(alloc, reader)?,
         variables: variable_undeclared(alloc, reader)?,
         typars: typar_undeclared(alloc, reader)?,
-        accessors: accessor_undeclared(&rule, alloc, reader, externs)?,
+        accessors: accessor_absent(&rule, alloc, reader, externs, census)?,
         assembly: without_assembly(reader),
         data_labels: data_undeclared(alloc, reader, labels)?,
     })
+}
+
+// The least token of a directive that names an accessor which is no method of its class.
+fn accessor_absent(
+    rule: &BrokenSignatures,
+    alloc: Global,
+    reader: &Reader,
+    externs: &Named,
+    census: &Census,
+) -> Result<Option<u32>, NoMemory>
+    requires forest { IsForest reader.now.nodes.now }
+    requires few { length reader.now.nodes.now < 2 ^ 32 }
+    ensures { (s : Source) → Reads reader.now s → AreNames s naming.Assembly externs.now → IsCensus (preorder s.tree) census.now →
+        ((n : Node) → is_nothing (part_broken rule.now.types.scopes.keys.now rule.now.types.scopes.own.now rule.now.types.classes.now s n) ≡ is_nothing (breaks_signature s n)) →
+        IfOk result (λ k. k ≡ least (accessors_undeclared s)) }
+{
+    if !has_owners(census) {
+        return Ok(None);
+    }
+    let absent = accessor_undeclared(rule, alloc, reader, externs)?;
+    Ok(absent)
+}
+
+// Whether there is a property or an event.
+fn has_owners(census: &Census) -> bool
+    ensures { (nodes : List TreeNode) → IsCensus nodes census.now → result ≡ false → list_any is_owner nodes ≡ false }
+{
+    let properties = census.count(PROPERTY);
+    let events = census.count(EVENT);
+    if properties > 0 {
+        return true;
+    }
+    if events > 0 {
+        return true;
+    }
+    false
 }

@@ -1,26 +1,32 @@
 //! The rules on what is out of its bounds in a source (ECMA-335 II.15.4.1, II.19, II.22, II.23, III.1.7.2).
 
-ghost use Rattle.std.specs.Prelude.{◌≡◌, ◌++◌, IfOk};
+ghost use Rattle.std.specs.Prelude.{◌≡◌, ◌++◌, IfOk, None};
+ghost use Rattle.std.specs.List.{list_any};
 ghost use Rattle.source_model.specs.BodyFaults.{body_numbers_out_of_range};
 ghost use Rattle.source_model.specs.Denotes.{broken_b};
 ghost use Rattle.source_model.specs.Faults.{earliest};
-ghost use Rattle.source_model.specs.OutOfRange.{numbers_out_of_range};
+ghost use Rattle.source_model.specs.Forest.{preorder};
+ghost use Rattle.source_model.specs.OutOfRange.{numbers_out_of_range, types_too_deep};
 ghost use Rattle.source_model.specs.Source.{Source};
 ghost use Rattle.source_reading.specs.Least.{least};
 ghost use Rattle.source_reading.specs.Readers.{Reads};
 ghost use Rattle.source_reading.specs.Walk.{IsForest};
 ghost use Rattle.source_rules.specs.Breaches.{any_broken};
 ghost use Rattle.source_rules.specs.Leasts.{AreUnbounded};
+ghost use Rattle.data_rules.specs.FieldFaults.{AreDataFaults};
 ghost use Rattle.source_faults.specs.AllDeclared.{AreDeclarations};
+ghost use Rattle.source_faults.specs.Census.{is_long};
 ghost use Rattle.source_faults.specs.Passes.{KeepsPasses, broken_in_passes};
 
 use crate::all_declared::Declarations;
+use crate::census::Census;
 use body_rules::body_numbers::body_number;
 use body_rules::branch_rules::branch_to_the_end;
 use body_rules::clause_rules::clause_backwards;
 use body_rules::short_branches::branch_too_far;
-use data_rules::mapped_fields::data_faults;
+use data_rules::mapped_fields::{DataFaults, data_faults};
 use il_base::NoMemory;
+use ilasm_grammar::productions::AT_NAME;
 use source_reading::least::sooner;
 use source_reading::reader::Reader;
 use source_rules::firsts::{Unbounded, first_unbounded};
@@ -70,18 +76,12 @@ fn other_unbounded(
     requires { IsForest reader.now.nodes.now }
     ensures { (s : Source) → Reads reader.now s → AreDeclarations s declared.now → KeepsPasses s → IfOk result (AreUnbounded s) }
 {
-    let Declarations {
-        labels,
-        externs,
-        classes,
-        ..
-    } = declared;
-    let data = data_faults(alloc, reader, externs, classes, labels)?;
+    let data = mapped_faults(alloc, reader, declared)?;
     Ok(Unbounded {
         numbers: None,
         branches: None,
         clauses: None,
-        types: type_too_deep(reader),
+        types: deep_type(reader, &declared.census),
         ends: None,
         nestings: None,
         short: data.short,
@@ -97,18 +97,12 @@ fn each_unbounded(
     requires { IsForest reader.now.nodes.now }
     ensures { (s : Source) → Reads reader.now s → AreDeclarations s declared.now → IfOk result (AreUnbounded s) }
 {
-    let Declarations {
-        labels,
-        externs,
-        classes,
-        ..
-    } = declared;
-    let data = data_faults(alloc, reader, externs, classes, labels)?;
+    let data = mapped_faults(alloc, reader, declared)?;
     Ok(Unbounded {
         numbers: any_number(alloc, reader)?,
         branches: branch_too_far(alloc, reader)?,
         clauses: clause_backwards(alloc, reader)?,
-        types: type_too_deep(reader),
+        types: deep_type(reader, &declared.census),
         ends: branch_to_the_end(alloc, reader)?,
         nestings: nesting_too_deep(alloc, reader)?,
         short: data.short,
@@ -124,4 +118,49 @@ fn any_number(alloc: Global, reader: &Reader) -> Result<Option<u32>, NoMemory>
     let outside = number_out_of_range(alloc, reader)?;
     let inside = body_number(alloc, reader)?;
     Ok(sooner(outside, inside))
+}
+
+// The least labels of the source's fields that break the rules of data.
+fn mapped_faults(
+    alloc: Global,
+    reader: &Reader,
+    declared: &Declarations,
+) -> Result<DataFaults, NoMemory>
+    requires { IsForest reader.now.nodes.now }
+    ensures { (s : Source) → Reads reader.now s → AreDeclarations s declared.now → IfOk result (AreDataFaults s) }
+{
+    let Declarations {
+        labels,
+        externs,
+        classes,
+        census,
+        ..
+    } = declared;
+    let mapped = census.count(AT_NAME);
+    if mapped == 0 {
+        return Ok(no_faults());
+    }
+    let faults = data_faults(alloc, reader, externs, classes, labels)?;
+    Ok(faults)
+}
+
+fn no_faults() -> DataFaults
+    ensures short { result.short ≡ None }
+    ensures without_size { result.without_size ≡ None }
+{
+    DataFaults {
+        short: None,
+        without_size: None,
+    }
+}
+
+// The least first token of a type that is deeper than 100.
+fn deep_type(reader: &Reader, census: &Census) -> Option<u32>
+    requires { IsForest reader.now.nodes.now }
+    ensures { (s : Source) → Reads reader.now s → census.now.long_types ≡ list_any is_long (preorder s.tree) → result ≡ least (types_too_deep s) }
+{
+    if census.long_types {
+        return type_too_deep(reader);
+    }
+    None
 }

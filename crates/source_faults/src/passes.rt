@@ -30,6 +30,7 @@ pub fn pass_fault(
         externs,
         own,
         classes,
+        ..
     } = declared;
     let bodies = body_fault(alloc, reader)?;
     let parts = part_fault(alloc, reader, externs, own, classes, labels)?;

@@ -1,15 +1,13 @@
-use Rattle.std.proofs.Common.{◌≡◌, List, Option, ℕ, ap, sym, subst, ◌∙◌, map}
-use Rattle.source_reading.specs.ClassNumbers.{class_numbered}
-use Rattle.member_parts.specs.ClassSizes.{size_numbered}
-use Rattle.elaborate.specs.KnownSizes.{in_word}
-use Rattle.elaborate.proofs.SizeLemmas.{sizes_are}
+use Rattle.std.proofs.Common.{[], ◌∷◌, ◌∙◌, sym}
+use Rattle.ilasm_grammar.specs.declared.productions.TheConstants.{MEMBER_SIZE}
+use Rattle.source_flags.specs.declared.outside.Shut.TheVariants.{Methods}
+use Rattle.source_flags.proofs.Apart.{same_outside}
+use Rattle.source_flags.proofs.Gathered.{has_bodies}
+use Rattle.elaborate.proofs.SizelessLemmas.{none_of_any, sizes_past}
 use Rattle.elaborate.proofs.known_sizes.read_sizes.Goals as goal
 
-pub returns : goal.returns
-returns c s r h =
-    let counted = c.in_ok-counted.ensures s r (c.in_ok-classes.ensures s r) in
-    let words = c.in_ok-sizes.ensures ∙ ap (map in_word) c.as_slice.ensures in
-    record {
-      are = λ path. ap (λ sizes. size_numbered sizes (class_numbered c.in_ok-classes.classes.paths path)) words
-          ∙ sizes_are s c.in_ok-classes.classes.paths c.in_ok-counted.counted h counted path;
-    }
+pub returns-else-branch : goal.returns-else-branch
+returns-else-branch c s r h =
+    let same = same_outside Methods (MEMBER_SIZE ∷ []) sizes_past s s.tree (has_bodies s s.tree h) in
+    let none = none_of_any _ (sym (c.in_ok-has_outside.ensures s.tree r.nodes) ∙ c.if-branch.false) in
+    c.no_sizes.ensures s (sym same ∙ none)
