@@ -1,5 +1,5 @@
 -- The counts that are made from a derivation's nodes are its own.
-use Rattle.std.proofs.Common.{◌≡◌, ℕ, zero, suc, ◌≤◌, List, [], ◌∷◌, ◌++◌, length, Some, take, drop, sum, refl, sym, ap, ◌∙◌, append_assoc, append-nil, length-append, arith}
+use Rattle.std.proofs.Common.{◌≡◌, ℕ, zero, suc, ◌+◌, ◌≤◌, List, [], ◌∷◌, ◌++◌, length, Some, None, take, drop, sum, refl, sym, ap, ◌∙◌, append_assoc, append-nil, length-append, arith}
 use Rattle.std.specs.Prelude.{slice_get, slice_set}
 use Rattle.std.proofs.Math.Seq.{take-append_seam, drop-append_seam}
 use Rattle.std.proofs.lemmas.List.Sums.{sum_by-cons, sum_by-take-drop}
@@ -7,7 +7,7 @@ use Rattle.ilasm_grammar.specs.declared.symbol.Symbol.{Symbol}
 use Rattle.ilasm_grammar.specs.declared.tree.TreeNode.{TreeNode}
 use Rattle.ilasm_grammar.specs.declared.tree.TreeNode.TheVariants.{Branch, Leaf}
 use Rattle.ilasm_grammar.specs.Grammar.{Grammar, Derives, Derives.none, Derives.leaf, Derives.branch}
-use Rattle.ilasm_grammar.specs.Counts.{arity_of, sizes_of, counted}
+use Rattle.ilasm_grammar.specs.Counts.{arity_of, sizes_of, counted, hops}
 use Rattle.ilasm_grammar.specs.Leftmost.{erased}
 use Rattle.ilasm_grammar.proofs.LeftmostLemmas.{erased-++}
 
@@ -124,3 +124,95 @@ module _ (g : Grammar) where
             ap (λ x. take j raw ++ (Branch production x ∷ Y)) b1 ∙ ap (λ x. take j raw ++ counted g x) (sym r.0),
         ap (λ x. suc x ∷ drop (arity_of (g production)) sizes) b1 ∙ ap (λ x. suc (sum (take (arity_of (g production)) (sizes_of g (drop (suc j) raw)))) ∷ drop (arity_of (g production)) x) s ∙ ap (sizes_of g) (sym r.0),
       )
+
+-- ---- sizes, found by going from tree to tree
+
+drop-counted : (g : Grammar) (n : ℕ) (raw : List TreeNode) → drop n (counted g raw) ≡ counted g (drop n raw)
+unfolding counted
+drop-counted g zero raw = refl
+drop-counted g (suc n) [] = refl
+drop-counted g (suc n) (Leaf token ∷ raw) = drop-counted g n raw
+drop-counted g (suc n) (Branch production count ∷ raw) = drop-counted g n raw
+
+-- a sum that computes
+abbrev past : ℕ → ℕ → ℕ
+past zero m = m
+past (suc a) m = suc (past a m)
+
+sum_parts : (a m : ℕ) (xs : List ℕ) → sum (take (past a m) xs) ≡ sum (take a xs) + sum (take m (drop a xs))
+sum_parts zero m xs = omega arith
+sum_parts (suc a) zero [] = refl
+sum_parts (suc a) (suc m) [] = refl
+sum_parts (suc a) m (x ∷ xs) =
+    omega (arith, sum_parts a m xs, sum_by-cons (λ x. x) x (take (past a m) xs), sum_by-cons (λ x. x) x (take a xs))
+
+drop_parts : (a m : ℕ) (xs : List ℕ) → drop (past a m) xs ≡ drop m (drop a xs)
+drop_parts zero m xs = refl
+drop_parts (suc a) zero [] = refl
+drop_parts (suc a) (suc m) [] = refl
+drop_parts (suc a) m (x ∷ xs) = drop_parts a m xs
+
+-- behind so many trees stand the others
+sizes_behind : (g : Grammar) (m : ℕ) (raw : List TreeNode) → sizes_of g (drop (sum (take m (sizes_of g raw))) raw) ≡ drop m (sizes_of g raw)
+unfolding sizes_of
+sizes_behind g zero raw = refl
+sizes_behind g (suc m) [] = refl
+sizes_behind g (suc m) (Leaf token ∷ raw) =
+    let total : sum (1 ∷ take m (sizes_of g raw)) ≡ suc (sum (take m (sizes_of g raw))) =
+    omega (arith, sum_by-cons (λ x. x) 1 (take m (sizes_of g raw))) in
+    ap (λ (x : ℕ). sizes_of g (drop x (Leaf token ∷ raw))) total ∙ sizes_behind g m raw
+sizes_behind g (suc m) (Branch production count ∷ raw) =
+    let a = arity_of (g production) in let sizes = sizes_of g raw in
+    let total : sum (suc (sum (take a sizes)) ∷ take m (drop a sizes)) ≡ suc (sum (take (past a m) sizes)) =
+    omega (arith, sum_by-cons (λ x. x) (suc (sum (take a sizes))) (take m (drop a sizes)), sum_parts a m sizes) in
+    ap (λ (x : ℕ). sizes_of g (drop x (Branch production count ∷ raw))) total ∙ sizes_behind g (past a m) raw ∙ drop_parts a m sizes
+
+pub hops-counted : (g : Grammar) (m : ℕ) (raw : List TreeNode) → hops m (counted g raw) ≡ sum (take m (sizes_of g raw))
+unfolding counted sizes_of
+hops-counted g zero raw = refl
+hops-counted g (suc m) [] = refl
+hops-counted g (suc m) (Leaf token ∷ raw) =
+    omega (arith, hops-counted g m raw, sum_by-cons (λ x. x) 1 (take m (sizes_of g raw)))
+hops-counted g (suc m) (Branch production count ∷ raw) =
+    let a = arity_of (g production) in let below = sum (take a (sizes_of g raw)) in
+    let e : hops m (drop below (counted g raw)) ≡ sum (take m (drop a (sizes_of g raw))) =
+    ap (hops m) (drop-counted g below raw) ∙ hops-counted g m (drop below raw) ∙ ap (λ (x : List ℕ). sum (take m x)) (sizes_behind g a raw) in
+    omega (arith, e, sum_by-cons (λ x. x) (suc below) (take m (drop a (sizes_of g raw))))
+
+drop_front : (raw Y : List TreeNode) (k : ℕ) → k ≤ length raw → drop k (take k raw ++ Y) ≡ Y
+drop_front raw Y zero le = refl
+drop_front [] Y (suc k) le = absurd (omega arith)
+drop_front (x ∷ raw) Y (suc k) le = drop_front raw Y k (omega arith)
+
+-- the trees from a place on, of which all are counted
+pub hops_here : (g : Grammar) (raw nodes : List TreeNode) (k x m : ℕ) → k ≤ length raw → x ≡ k → nodes ≡ take k raw ++ counted g (drop k raw) →
+    hops m (drop x nodes) ≡ sum (take m (sizes_of g (drop k raw)))
+hops_here g raw nodes k x m le same e =
+    ap (λ (y : ℕ). hops m (drop y nodes)) same ∙ ap (λ (y : List TreeNode). hops m (drop k y)) e ∙
+    ap (hops m) (drop_front raw (counted g (drop k raw)) k le) ∙ hops-counted g m (drop k raw)
+
+-- one tree more
+pub hop_branch : (nodes : List TreeNode) (end m production below : ℕ) → slice_get nodes end ≡ Some (Branch production below) →
+    hops (suc m) (drop end nodes) ≡ suc (below + hops m (drop below (drop (suc end) nodes)))
+hop_branch [] zero m production below e = cc
+hop_branch [] (suc end) m production below e = cc
+hop_branch (x ∷ nodes) zero m production below e =
+    let h : x ≡ Branch production below = cc in ap (λ (y : TreeNode). hops (suc m) (y ∷ nodes)) h
+hop_branch (x ∷ nodes) (suc end) m production below e = hop_branch nodes end m production below e
+
+pub hop_leaf : (nodes : List TreeNode) (end m token : ℕ) → slice_get nodes end ≡ Some (Leaf token) →
+    hops (suc m) (drop end nodes) ≡ suc (hops m (drop (suc end) nodes))
+hop_leaf [] zero m token e = cc
+hop_leaf [] (suc end) m token e = cc
+hop_leaf (x ∷ nodes) zero m token e =
+    let h : x ≡ Leaf token = cc in ap (λ (y : TreeNode). hops (suc m) (y ∷ nodes)) h
+hop_leaf (x ∷ nodes) (suc end) m token e = hop_leaf nodes end m token e
+
+-- no tree is left
+pub hop_none : (nodes : List TreeNode) (end m : ℕ) → slice_get nodes end ≡ None → hops (suc m) (drop end nodes) ≡ hops m (drop end nodes)
+hop_none [] zero zero e = refl
+hop_none [] zero (suc m) e = refl
+hop_none [] (suc end) zero e = refl
+hop_none [] (suc end) (suc m) e = refl
+hop_none (x ∷ nodes) zero m e = cc
+hop_none (x ∷ nodes) (suc end) m e = hop_none nodes end m e

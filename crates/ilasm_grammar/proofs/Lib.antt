@@ -7,7 +7,5 @@ pub mod Tables
 pub mod TableFacts
 pub mod TableLemmas
 pub mod IlasmFacts
-pub mod StackLemmas
-pub mod SizesLemmas
 pub mod NodesLemmas
 pub mod LawLemmas

@@ -1,5 +1,5 @@
 -- The counts of a derivation's branches, from its nodes in preorder: from the last node to the first.
-use Rattle.std.specs.Prelude.{ℕ, suc, List, [], ◌∷◌, length, take, drop, sum, Option, Some, None}
+use Rattle.std.specs.Prelude.{ℕ, zero, suc, ◌+◌, List, [], ◌∷◌, length, take, drop, sum, Option, Some, None}
 use Rattle.ilasm_grammar.specs.declared.tree.TreeNode.{TreeNode}
 use Rattle.ilasm_grammar.specs.declared.tree.TreeNode.TheVariants.{Branch, Leaf}
 use Rattle.ilasm_grammar.specs.Grammar.{Rule, Grammar}
@@ -22,3 +22,10 @@ counted g [] = []
 counted g (Leaf token ∷ nodes) = Leaf token ∷ counted g nodes
 counted g (Branch production count ∷ nodes) =
     Branch production (sum (take (arity_of (g production)) (sizes_of g nodes))) ∷ counted g nodes
+
+-- the number of nodes in so many trees that stand one after another, or in all where they are fewer, if their branches are counted
+abbrev pub hops : ℕ → List TreeNode → ℕ
+hops zero nodes = 0
+hops (suc trees) [] = 0
+hops (suc trees) (Leaf token ∷ nodes) = suc (hops trees nodes)
+hops (suc trees) (Branch production count ∷ nodes) = suc (count + hops trees (drop count nodes))

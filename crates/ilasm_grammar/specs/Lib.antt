@@ -7,4 +7,5 @@ pub mod Ilasm
 pub mod Laws
 pub mod Leftmost
 pub mod Parsing
+pub mod Stacked
 pub mod Terminals

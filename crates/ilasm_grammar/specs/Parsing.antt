@@ -1,5 +1,5 @@
 -- What the parser's parts answer.
-use Rattle.std.specs.Prelude.{◌≡◌, ℕ, ◌==◌, List, [], ◌∷◌, map, drop, Option, Some, None, Bool, slice_get, if◌then◌else◌}
+use Rattle.std.specs.Prelude.{◌≡◌, ℕ, suc, ◌<◌, ◌==◌, List, [], ◌∷◌, ◌++◌, map, drop, Option, Some, None, Bool, slice_get, if◌then◌else◌}
 use Rattle.std.specs.List.{list_any}
 use Rattle.il_base.specs.declared.pos.Pos.{Pos}
 use Rattle.il_lexer.specs.declared.types.Token.{Token}
@@ -11,10 +11,15 @@ use Rattle.ilasm_grammar.specs.declared.fault.SyntaxFault.{SyntaxFault}
 use Rattle.ilasm_grammar.specs.declared.fault.SyntaxFault.TheVariants.{Bad, NoMemory}
 use Rattle.ilasm_grammar.specs.declared.leftmost.Outcome.{Outcome}
 use Rattle.ilasm_grammar.specs.declared.leftmost.Outcome.TheVariants.{Whole, Stops}
+use Rattle.ilasm_grammar.specs.declared.leftmost.Step.{Step}
+use Rattle.ilasm_grammar.specs.declared.leftmost.Step.TheVariants.{Makes, Ends as StepEnds, Stops as StepStops}
+use Rattle.ilasm_grammar.specs.declared.leftmost.Turn.{Turn}
+use Rattle.ilasm_grammar.specs.declared.leftmost.Turn.TheVariants.{Takes, Ends as TurnEnds, Stops as TurnStops}
 use Rattle.ilasm_grammar.specs.declared.symbol.Symbol.{Symbol}
-use Rattle.ilasm_grammar.specs.declared.symbol.Symbol.TheVariants.{Nonterminal}
+use Rattle.ilasm_grammar.specs.declared.symbol.Symbol.TheVariants.{Terminal, Nonterminal}
 use Rattle.ilasm_grammar.specs.declared.tree.TreeNode.{TreeNode}
-use Rattle.ilasm_grammar.specs.Grammar.{Derives, IsFaultAt}
+use Rattle.ilasm_grammar.specs.declared.tree.TreeNode.TheVariants.{Branch, Leaf}
+use Rattle.ilasm_grammar.specs.Grammar.{rule_of, Derives, IsFaultAt}
 use Rattle.ilasm_grammar.specs.Leftmost.{Leftmost}
 use Rattle.ilasm_grammar.specs.Choice.{next_of}
 use Rattle.ilasm_grammar.specs.Course.{IsCourse}
@@ -64,14 +69,49 @@ IsCause tokens end NoMemory = Unit {0}
 abbrev pub IsUnderWay : List ℕ → ℕ → List Symbol → List TreeNode → Type 0
 IsUnderWay kinds at symbols nodes = IsCourse ilasm ilasm_sets END SOURCE kinds at symbols nodes
 
--- wherever this terminal comes next, the parser may go from the first symbols and nodes to the second
-abbrev pub KeepsCourse : ℕ → List Symbol → List TreeNode → List Symbol → List TreeNode → Type 0
-KeepsCourse terminal symbols nodes symbols' nodes' =
-    (kinds : List ℕ) (at : ℕ) → next_of END (drop at kinds) ≡ terminal → IsUnderWay kinds at symbols nodes → IsUnderWay kinds at symbols' nodes'
-
 -- the first symbol, if it is a nonterminal, doesn't go on with this terminal
 abbrev pub IsExpanded : ℕ → List Symbol → Type 0
 IsExpanded terminal symbols = (n : ℕ) (rest : List Symbol) → symbols ≡ Nonterminal n ∷ rest → IsNoRule ilasm n (picked n terminal)
+
+-- a production, picked by this terminal, is applied to the first symbol
+pub record IsApplied (terminal production : ℕ) (symbols symbols' : List Symbol) : Type 0 where
+  pub n : ℕ
+  pub body : List Symbol
+  pub rest : List Symbol
+  pub rule : ilasm production ≡ Some (rule_of n body)
+  pub is_picked : production ≡ picked n terminal
+  pub before : symbols ≡ Nonterminal n ∷ rest
+  pub after : symbols' ≡ body ++ rest
+
+-- no source goes on with this terminal
+pub record AreStuck (terminal : ℕ) (symbols : List Symbol) : Type 0 where
+  pub some : symbols ≡ [] → ⊥
+  pub expanded : IsExpanded terminal symbols
+  pub other : terminal < END → (rest : List Symbol) → symbols ≡ Terminal terminal ∷ rest → ⊥
+
+-- what becomes of the first of these symbols before this terminal, which is that of the token at a place
+abbrev pub IsStep : ℕ → ℕ → List Symbol → List Symbol → Step → Type 0
+IsStep terminal at symbols symbols' (Makes (Branch production count)) = (count ≡ 0) × IsApplied terminal production symbols symbols'
+IsStep terminal at symbols symbols' (Makes (Leaf token)) = (token ≡ at) × (terminal < END) × (symbols ≡ Terminal terminal ∷ symbols')
+IsStep terminal at symbols symbols' StepEnds = symbols ≡ []
+IsStep terminal at symbols symbols' StepStops = AreStuck terminal symbols
+
+-- the symbols are stuck before this terminal, after so many tokens
+pub record IsStuckAt (kinds : List ℕ) (terminal at : ℕ) : Type 0 where
+  pub symbols : List Symbol
+  pub nodes : List TreeNode
+  pub under : IsUnderWay kinds at symbols nodes
+  pub stuck : AreStuck terminal symbols
+
+abbrev pub HasTurned : List ℕ → ℕ → ℕ → List Symbol → List TreeNode → Turn → Type 0
+HasTurned kinds terminal at symbols nodes Takes = (terminal < END) × IsUnderWay kinds (suc at) symbols nodes
+HasTurned kinds terminal at symbols nodes TurnEnds = IsUnderWay kinds at [] nodes
+HasTurned kinds terminal at symbols nodes TurnStops = IsStuckAt kinds terminal at
+
+-- what becomes of these symbols and nodes before this terminal, which is that of the token at a place
+abbrev pub IsTurn : ℕ → ℕ → List Symbol → List TreeNode → List Symbol → List TreeNode → Turn → Type 0
+IsTurn terminal at symbols nodes symbols' nodes' turn =
+    (kinds : List ℕ) → next_of END (drop at kinds) ≡ terminal → IsUnderWay kinds at symbols nodes → HasTurned kinds terminal at symbols' nodes' turn
 
 -- what the first pass of the parser answers: the nodes without their counts, or the number of the token at fault
 abbrev pub IsOutcome : List ℕ → Outcome → Type 0

@@ -1,34 +1,41 @@
-ghost use Rattle.std.specs.Prelude.{◌≡◌, ◌<◌, ◌^◌, length, OnOk};
-ghost use Rattle.ilasm_grammar.specs.Counts.{counted};
+ghost use Rattle.std.specs.Prelude.{◌≡◌, ◌+◌, ◌<◌, ◌^◌, drop, length};
+ghost use Rattle.ilasm_grammar.specs.Counts.{counted, hops};
 ghost use Rattle.ilasm_grammar.specs.Ilasm.{ilasm};
 
-use crate::sizes::Sizes;
 use crate::table::arity_of;
 use crate::{Tree, TreeNode};
-use il_base::NoMemory;
-use std::alloc::Global;
 
 /// Writes the number of nodes below it into each branch, from the last node to the first.
-pub(crate) fn count_nodes(alloc: Global, nodes: &mut Tree) -> Result<(), NoMemory>
+pub(crate) fn count_nodes(nodes: &mut Tree)
     requires { length nodes.old < 2 ^ 32 }
-    ensures { OnOk result (nodes.new ≡ counted ilasm nodes.old) }
+    ensures { nodes.new ≡ counted ilasm nodes.old }
 {
-    let mut sizes = Sizes::new(alloc);
     for k in (0..nodes.len()).rev() {
-        match *nodes.at(k) {
-            TreeNode::Leaf { .. } => sizes.push(1)?,
-            TreeNode::Branch { production, .. } => {
-                let below = sizes.take_sum(arity_of(production));
-                nodes.set(
-                    k,
-                    TreeNode::Branch {
-                        production,
-                        nodes: below,
-                    },
-                );
-                sizes.push(below + 1)?;
-            }
+        if let TreeNode::Branch { production, .. } = *nodes.at(k) {
+            let below = size_of(nodes, k + 1, arity_of(production));
+            nodes.set(
+                k,
+                TreeNode::Branch {
+                    production,
+                    nodes: below,
+                },
+            );
         }
     }
-    Ok(())
+}
+
+/// The number of nodes in the first `trees` trees from place `at` on, whose branches are counted.
+fn size_of(nodes: &Tree, at: usize, trees: usize) -> u32
+    requires { at + hops trees (drop at nodes.now) < 2 ^ 32 }
+    ensures { result ≡ hops trees (drop at nodes.now) }
+{
+    let mut end = at;
+    for _k in 0..trees {
+        match nodes.get(end) {
+            Some(TreeNode::Branch { nodes: below, .. }) => end += 1 + *below as usize,
+            Some(TreeNode::Leaf { .. }) => end += 1,
+            None => {}
+        }
+    }
+    (end - at) as u32
 }

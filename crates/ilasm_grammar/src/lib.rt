@@ -11,7 +11,6 @@ pub mod nonterminals;
 mod parser;
 pub mod productions;
 mod rules;
-mod sizes;
 mod stack;
 mod symbol;
 mod table;

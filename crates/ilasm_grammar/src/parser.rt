@@ -29,7 +29,7 @@ pub fn parse(alloc: Global, tokens: &Tokens, end: Pos) -> Result<Tree, SyntaxFau
     match derive(alloc, tokens.as_slice())? {
         Outcome::Stops(at) => Err(fault_at(tokens.as_slice(), end, at)),
         Outcome::Whole(mut nodes) => {
-            count_nodes(alloc, &mut nodes)?;
+            count_nodes(&mut nodes);
             Ok(nodes)
         }
     }

@@ -1,89 +1,94 @@
-use Rattle.std.proofs.Common.{◌≡◌, ℕ, suc, ◌+◌, ◌<◌, ◌≤◌, length, List, [], ◌∷◌, ◌++◌, drop, refl, sym, ap, ◌∙◌, subst, arith}
-use Rattle.std.proofs.lemmas.Bool.{false≢true}
+use Rattle.std.proofs.Common.{◌≡◌, ℕ, zero, suc, ◌<◌, ◌≤◌, ◌⊎◌, inl, inr, length, List, [], ◌∷◌, drop, refl, sym, ap, ◌∙◌, subst, arith}
 use Rattle.std.proofs.lemmas.List.{length-map}
 use Rattle.il_lexer.specs.declared.types.Token.{Token}
 use Rattle.ilasm_grammar.specs.declared.symbol.Symbol.{Symbol}
-use Rattle.ilasm_grammar.specs.declared.symbol.Symbol.TheVariants.{Terminal, Nonterminal}
+use Rattle.ilasm_grammar.specs.declared.symbol.Symbol.TheVariants.{Nonterminal}
 use Rattle.ilasm_grammar.specs.declared.tree.TreeNode.{TreeNode}
-use Rattle.ilasm_grammar.specs.declared.tree.TreeNode.TheVariants.{Leaf}
+use Rattle.ilasm_grammar.specs.declared.leftmost.Turn.{Turn}
 use Rattle.ilasm_grammar.specs.declared.terminals.TheConstants.{END}
 use Rattle.ilasm_grammar.specs.declared.nonterminals.TheConstants.{SOURCE}
 use Rattle.ilasm_grammar.specs.Grammar.{IsFaultAt}
 use Rattle.ilasm_grammar.specs.Choice.{next_of, AreProductive.none as no_symbols, AreProductive.nonterminal as nonterminal_made}
 use Rattle.ilasm_grammar.specs.Ilasm.{ilasm, ilasm_sets, picked}
 use Rattle.ilasm_grammar.specs.Terminals.{terminal_of}
-use Rattle.ilasm_grammar.specs.Parsing.{terminals_of, IsUnderWay, IsExpanded}
-use Rattle.ilasm_grammar.proofs.CourseLemmas.{begins, shifts, faults, faults_at_end, ends, stuck, stuck_at_end, next-drop, next-drop_past, next-map}
+use Rattle.ilasm_grammar.specs.Parsing.{terminals_of, IsUnderWay, IsStuckAt, AreStuck, HasTurned}
+use Rattle.ilasm_grammar.proofs.CourseLemmas.{begins, emptied, faults, faults_at_end, ends, stuck, stuck_at_end, next-drop_past}
 use Rattle.ilasm_grammar.proofs.IlasmFacts.{ilasm_decided, ilasm_productive}
 use Rattle.ilasm_grammar.proofs.leftmost.derive.Goals as goal
+use Rattle.ilasm_grammar.proofs.leftmost.derive.Goals.{In_ok-advance}
 
 length-terminals : (tokens : List Token) → length (terminals_of tokens) ≡ length tokens
 length-terminals tokens = length-map tokens (λ (token : Token). terminal_of token.kind)
 
 -- a token that the stack doesn't take is the fault
-stops : (tokens : List Token) (at look : ℕ) (symbols : List Symbol) (nodes : List TreeNode) → at < length tokens → look < END →
-    next_of END (drop at (terminals_of tokens)) ≡ look → IsUnderWay (terminals_of tokens) at symbols nodes →
-    ((rest : List Symbol) → symbols ≡ Terminal look ∷ rest → ⊥) → IsExpanded look symbols → IsFaultAt ilasm SOURCE (terminals_of tokens) at
-stops tokens at look symbols nodes lt low next under other expanded =
-    faults ilasm ilasm_sets picked END SOURCE ilasm_decided (terminals_of tokens) at symbols nodes (omega (arith, length-terminals tokens)) under
-    (λ rest more same r. stuck ilasm ilasm_sets picked END SOURCE ilasm_decided (terminals_of tokens) at look symbols under.followed
-    (λ _ e. absurd (omega (arith, e))) other expanded rest more (same ∙ next) r)
+stops : (tokens : List Token) (at look : ℕ) → at < length tokens → look < END → next_of END (drop at (terminals_of tokens)) ≡ look →
+    IsStuckAt (terminals_of tokens) look at → IsFaultAt ilasm SOURCE (terminals_of tokens) at
+stops tokens at look lt low next h =
+    faults ilasm ilasm_sets picked END SOURCE ilasm_decided (terminals_of tokens) at h.symbols h.nodes (omega (arith, length-terminals tokens)) h.under
+    (λ rest more same r. stuck ilasm ilasm_sets picked END SOURCE ilasm_decided (terminals_of tokens) at look h.symbols h.under.followed
+    (λ _ e. absurd (omega (arith, e))) (h.stuck.other low) h.stuck.expanded rest more (same ∙ next) r)
 
--- a token that the stack takes is a leaf
-goes_on : (tokens : List Token) (at look : ℕ) (symbols rest : List Symbol) (nodes after : List TreeNode) → at < length tokens →
-    next_of END (drop at (terminals_of tokens)) ≡ look → IsUnderWay (terminals_of tokens) at symbols nodes →
-    symbols ≡ Terminal look ∷ rest → after ≡ nodes ++ Leaf at ∷ [] → IsUnderWay (terminals_of tokens) (suc at) rest after
-goes_on tokens at look symbols rest nodes after lt next under is made =
-    let drops = next-drop END (terminals_of tokens) at (omega (arith, length-terminals tokens)) look next in
-    let under1 = subst (λ (s : List Symbol). IsUnderWay (terminals_of tokens) at s nodes) is under in
-    subst (λ (x : List TreeNode). IsUnderWay (terminals_of tokens) (suc at) rest x) (sym made)
-    (shifts ilasm ilasm_sets picked END SOURCE ilasm_decided (terminals_of tokens) at look rest nodes drops under1)
+-- and so is one before which no symbols are left
+ends_early : (tokens : List Token) (at look : ℕ) (nodes : List TreeNode) → at < length tokens → look < END →
+    next_of END (drop at (terminals_of tokens)) ≡ look → IsUnderWay (terminals_of tokens) at [] nodes → IsFaultAt ilasm SOURCE (terminals_of tokens) at
+ends_early tokens at look nodes lt low next under =
+    faults ilasm ilasm_sets picked END SOURCE ilasm_decided (terminals_of tokens) at [] nodes (omega (arith, length-terminals tokens)) under
+    (λ rest more same r.
+    let e : END ≡ look = sym (ap (next_of END) (emptied ilasm r).0) ∙ same ∙ next in omega (arith, e, low))
 
--- behind the last token
-past : (tokens : List Token) (at : ℕ) (symbols : List Symbol) (nodes : List TreeNode) → length tokens ≤ at → at ≤ length tokens →
-    IsUnderWay (terminals_of tokens) at symbols nodes → IsUnderWay (terminals_of tokens) (length (terminals_of tokens)) symbols nodes
-past tokens at symbols nodes ge le under =
-    let e : at ≡ length (terminals_of tokens) = omega (arith, length-terminals tokens) in
-    subst (λ (k : ℕ). IsUnderWay (terminals_of tokens) k symbols nodes) e under
+-- at the end it stands behind the last token
+stops_at_end : (kinds : List ℕ) (at look : ℕ) → at ≡ length kinds → next_of END (drop at kinds) ≡ look → IsStuckAt kinds look at →
+    IsFaultAt ilasm SOURCE kinds at
+stops_at_end kinds at look end next h =
+    let under = subst (λ (k : ℕ). IsUnderWay kinds k h.symbols h.nodes) end h.under in
+    let last : look ≡ END = sym next ∙ ap (λ (k : ℕ). next_of END (drop k kinds)) end ∙ next-drop_past END kinds in
+    let s = subst (λ (x : ℕ). AreStuck x h.symbols) last h.stuck in
+    subst (λ (k : ℕ). IsFaultAt ilasm SOURCE kinds k) (sym end)
+    (faults_at_end ilasm ilasm_sets picked END SOURCE ilasm_decided kinds h.symbols h.nodes under
+    (λ more r. stuck_at_end ilasm ilasm_sets picked END SOURCE ilasm_decided kinds (length kinds) h.symbols under.followed s.some s.expanded more r))
 
-pub loop-at-init : goal.loop-at-init
-loop-at-init c =
+split : (a n : ℕ) → a ≤ n → (a < n) ⊎ (a ≡ n)
+split zero zero le = inr refl
+split zero (suc n) le = inl (omega arith)
+split (suc a) zero le = absurd (omega arith)
+split (suc a) (suc n) le = elim (split a n (omega arith)) [ inl h ↦ inl (omega arith) | inr e ↦ inr (ap suc e) ]
+
+turned : (c : In_ok-advance) → HasTurned (terminals_of c.args.tokens.now) c.terminal_at.result c.loop-stack.at c.advance.new.stack c.advance.new.nodes c.in_ok-advance.field-0
+turned c = c.in_ok-advance.ensures (terminals_of c.args.tokens.now) (sym c.terminal_at.ensures.is) c.loop-stack.invariant.under
+
+pub loop-stack-init : goal.loop-stack-init
+loop-stack-init c =
     let start : IsUnderWay (terminals_of c.args.tokens.now) 0 (Nonterminal SOURCE ∷ []) [] =
     begins ilasm ilasm_sets picked END SOURCE ilasm_decided (terminals_of c.args.tokens.now) (nonterminal_made (ilasm_productive SOURCE (omega arith)) no_symbols) in
-    let s : c.push_body.new.self ≡ Nonterminal SOURCE ∷ [] = c.in_ok-push_body.ensures ∙ ap (λ x. Nonterminal 0 ∷ x) c.new-stack.ensures in
-    subst (λ (x : List Symbol). IsUnderWay (terminals_of c.args.tokens.now) 0 x c.in_ok-nodes.nodes) (sym s)
-    (subst (λ (x : List TreeNode). IsUnderWay (terminals_of c.args.tokens.now) 0 (Nonterminal SOURCE ∷ []) x) (sym c.in_ok-nodes.ensures) start)
+    record {
+      within = omega arith;
+      under = subst (λ (x : List Symbol). IsUnderWay (terminals_of c.args.tokens.now) 0 x c.in_ok-nodes.nodes) (sym c.new-stack.ensures)
+          (subst (λ (x : List TreeNode). IsUnderWay (terminals_of c.args.tokens.now) 0 (Nonterminal SOURCE ∷ []) x) (sym c.in_ok-nodes.ensures) start);
+    }
 
-pub returns-then-not-takes : goal.returns-then-not-takes
-returns-then-not-takes c =
-    let next = next-map END (λ (token : Token). terminal_of token.kind) c.args.tokens.now c.loop-at.at _ c.loop-at-test.true ∙ sym c.terminal_of-terminal.ensures.is in
-    let under = c.in_ok-expand.ensures.course (terminals_of c.args.tokens.now) c.loop-at.at next c.loop-at.invariant in
-    stops c.args.tokens.now c.loop-at.at c.terminal_of-terminal.result c.expand.new.stack c.expand.new.nodes c.loop-at-test.true
-    c.terminal_of-terminal.ensures.low next under c.if-not-takes.ensures c.in_ok-expand.ensures.expanded
-
-pub loop-at-preserved : goal.loop-at-preserved
-loop-at-preserved c =
-    let next = next-map END (λ (token : Token). terminal_of token.kind) c.args.tokens.now c.loop-at.at _ c.loop-at-test.true ∙ sym c.terminal_of-terminal.ensures.is in
-    let under = c.in_ok-expand.ensures.course (terminals_of c.args.tokens.now) c.loop-at.at next c.loop-at.invariant in
-    let k : suc c.loop-at.at ≡ c.loop-at.at + 1 = omega arith in
-    subst (λ (x : ℕ). IsUnderWay (terminals_of c.args.tokens.now) x c.takes.new.self c.push.new.self) k
-    (goes_on c.args.tokens.now c.loop-at.at c.terminal_of-terminal.result c.expand.new.stack c.takes.new.self c.expand.new.nodes c.push.new.self
-    c.loop-at-test.true next under c.if-not-takes.ensures c.in_ok-push.ensures.ok)
-
-pub returns-then-is_empty : goal.returns-then-is_empty
-returns-then-is_empty c =
+pub returns-then-at-tokens : goal.returns-then-at-tokens
+returns-then-at-tokens c =
     let kinds = terminals_of c.args.tokens.now in
-    let before = past c.args.tokens.now c.loop-at.at c.loop-at.stack c.loop-at.nodes c.loop-at-test.false c.loop-at.auto.at-end c.loop-at.invariant in
-    let under = c.in_ok-expand-2.ensures.course kinds (length kinds) (next-drop_past END kinds) before in
-    ends ilasm ilasm_sets picked END SOURCE ilasm_decided kinds c.expand-2.new.nodes
-    (subst (λ (x : List Symbol). IsUnderWay kinds (length kinds) x c.expand-2.new.nodes) (c.if-is_empty.ensures.0 refl) under)
+    let e : c.loop-stack.at ≡ length kinds = omega (arith, length-terminals c.args.tokens.now) in
+    let h = subst (λ (t : Turn). HasTurned kinds c.terminal_at.result c.loop-stack.at c.advance.new.stack c.advance.new.nodes t) c.in-Ends.is
+    (turned ((goal.at.returns-then-at-tokens c).In_ok-advance)) in
+    ends ilasm ilasm_sets picked END SOURCE ilasm_decided kinds c.advance.new.nodes
+    (subst (λ (k : ℕ). IsUnderWay kinds k [] c.advance.new.nodes) e h)
 
-pub returns-else-is_empty : goal.returns-else-is_empty
-returns-else-is_empty c =
+pub returns-in-Ends : goal.returns-in-Ends
+returns-in-Ends c =
     let kinds = terminals_of c.args.tokens.now in
-    let before = past c.args.tokens.now c.loop-at.at c.loop-at.stack c.loop-at.nodes c.loop-at-test.false c.loop-at.auto.at-end c.loop-at.invariant in
-    let under = c.in_ok-expand-2.ensures.course kinds (length kinds) (next-drop_past END kinds) before in
-    subst (λ (k : ℕ). IsFaultAt ilasm SOURCE kinds k) (length-terminals c.args.tokens.now)
-    (faults_at_end ilasm ilasm_sets picked END SOURCE ilasm_decided kinds c.expand-2.new.stack c.expand-2.new.nodes under
-    (stuck_at_end ilasm ilasm_sets picked END SOURCE ilasm_decided kinds (length kinds) c.expand-2.new.stack under.followed
-    (λ e. false≢true (c.if-is_empty.ensures.1 e)) c.in_ok-expand-2.ensures.expanded))
+    let lt : c.loop-stack.at < length c.args.tokens.now = omega (arith, c.loop-stack.invariant.within) in
+    let h = subst (λ (t : Turn). HasTurned kinds c.terminal_at.result c.loop-stack.at c.advance.new.stack c.advance.new.nodes t) c.in-Ends.is
+    (turned ((goal.at.returns-in-Ends c).In_ok-advance)) in
+    ends_early c.args.tokens.now c.loop-stack.at c.terminal_at.result c.advance.new.nodes lt (c.terminal_at.ensures.low lt) (sym c.terminal_at.ensures.is) h
+
+pub returns-in-Stops : goal.returns-in-Stops
+returns-in-Stops c =
+    let kinds = terminals_of c.args.tokens.now in
+    let h = subst (λ (t : Turn). HasTurned kinds c.terminal_at.result c.loop-stack.at c.advance.new.stack c.advance.new.nodes t) c.in-Stops.is
+    (turned ((goal.at.returns-in-Stops c).In_ok-advance)) in
+    elim (split c.loop-stack.at (length c.args.tokens.now) c.loop-stack.invariant.within) [
+      | inl lt ↦ stops c.args.tokens.now c.loop-stack.at c.terminal_at.result lt (c.terminal_at.ensures.low lt) (sym c.terminal_at.ensures.is) h
+      | inr e ↦ stops_at_end kinds c.loop-stack.at c.terminal_at.result (e ∙ sym (length-terminals c.args.tokens.now)) (sym c.terminal_at.ensures.is) h
+    ]

@@ -48,17 +48,17 @@ returns-in-Stops-clause-faulty c at h =
     inl (ap (λ x. Err x) (c.fault_at.ensures ∙ ap (λ (x : List Token). Bad (position_of (slice_get x c.in-Stops.at) c.args.end) (rule_at (slice_get x c.in-Stops.at))) slice ∙
     ap (λ (x : ℕ). Bad (position_of (slice_get c.args.tokens.now x) c.args.end) (rule_at (slice_get c.args.tokens.now x))) same))
 
-pub returns-in_ok-count_nodes-in-Whole-clause-tree : goal.returns-in_ok-count_nodes-in-Whole-clause-tree
-returns-in_ok-count_nodes-in-Whole-clause-tree c =
-    subst (λ (x : List TreeNode). IsTreeOf c.args.tokens.now x) (sym c.in_ok-count_nodes-in-Whole.ensures)
+pub returns-in-Whole-clause-tree : goal.returns-in-Whole-clause-tree
+returns-in-Whole-clause-tree c =
+    subst (λ (x : List TreeNode). IsTreeOf c.args.tokens.now x) (sym c.count_nodes.ensures)
     (ilasm_tree (terminals_of c.args.tokens.now) c.in-Whole.nodes (whole c.args.tokens.now _ _ c.in-Whole.nodes c.as_slice.ensures c.in_ok-at.ensures c.in-Whole.is))
 
-pub returns-in_ok-count_nodes-in-Whole-clause-derived : goal.returns-in_ok-count_nodes-in-Whole-clause-derived
-returns-in_ok-count_nodes-in-Whole-clause-derived c tree h =
+pub returns-in-Whole-clause-derived : goal.returns-in-Whole-clause-derived
+returns-in-Whole-clause-derived c tree h =
     let d = ilasm_tree (terminals_of c.args.tokens.now) c.in-Whole.nodes (whole c.args.tokens.now _ _ c.in-Whole.nodes c.as_slice.ensures c.in_ok-at.ensures c.in-Whole.is) in
-    inl (ap (λ x. Ok x) (c.in_ok-count_nodes-in-Whole.ensures ∙ ilasm_one_tree (terminals_of c.args.tokens.now) _ tree d h))
+    inl (ap (λ x. Ok x) (c.count_nodes.ensures ∙ ilasm_one_tree (terminals_of c.args.tokens.now) _ tree d h))
 
-pub returns-in_ok-count_nodes-in-Whole-clause-faulty : goal.returns-in_ok-count_nodes-in-Whole-clause-faulty
-returns-in_ok-count_nodes-in-Whole-clause-faulty c at h =
+pub returns-in-Whole-clause-faulty : goal.returns-in-Whole-clause-faulty
+returns-in-Whole-clause-faulty c at h =
     let d = ilasm_tree (terminals_of c.args.tokens.now) c.in-Whole.nodes (whole c.args.tokens.now _ _ c.in-Whole.nodes c.as_slice.ensures c.in_ok-at.ensures c.in-Whole.is) in
     absurd (no_sentence ilasm SOURCE (terminals_of c.args.tokens.now) at h (_, d))
