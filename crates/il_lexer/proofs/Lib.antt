@@ -5,6 +5,7 @@ mod FoundTokens
 mod FrontLemmas
 mod Fronts
 mod LexLemmas
+pub mod LineLemmas
 mod LongestLemmas
 mod Marks
 mod Named

@@ -1,9 +1,11 @@
 -- What it is that a source lexes into tokens, and what its lexical fault is (II.5).
-use Rattle.std.specs.Prelude.{ℕ, ◌+◌, ◌-◌, ◌≡◌, ◌<◌, ◌≤◌, ◌^◌, max, Bool, ◌==◌, ◌&&◌, ◌||◌, ◌⊎◌, if◌then◌else◌, List, [], ◌∷◌, length, take, drop, Option, None, Some, Result, Ok, Err, IsUtf8, ⊤}
+use Rattle.std.specs.Prelude.{ℕ, ◌+◌, ◌-◌, ◌≡◌, ◌<◌, ◌≤◌, ◌^◌, max, Bool, not, ◌==◌, ◌&&◌, ◌||◌, ◌⊎◌, if◌then◌else◌, List, [], ◌∷◌, length, take, drop, Option, None, Some, Result, Ok, Err, IsUtf8, ⊤}
 use Rattle.std.specs.Str.Lossy.{utf8_valid_len}
 use Rattle.il_base.specs.declared.pos.Pos.{Pos}
 use Rattle.il_lexer.specs.Classes.{first_is}
 use Rattle.il_lexer.specs.Gaps.{gap}
+use Rattle.il_lexer.specs.Runs.{front}
+use Rattle.il_lexer.specs.declared.lines.Line.{Line}
 use Rattle.il_lexer.specs.Tokens.{token_at}
 use Rattle.il_lexer.specs.declared.types.LexFault.{LexFault}
 use Rattle.il_lexer.specs.declared.types.LexFault.TheVariants.{Bad, NoMemory}
@@ -34,6 +36,12 @@ place_after p (b ∷ bs) = place_after (next_place p b) bs
 -- the place of the byte at `at`
 unfoldable pub place_of : List ℕ → ℕ → Pos
 place_of source at = place_after (record { line = 1; col = 1 }) (take at source)
+
+-- a line of the source: its number, its first byte, and its line feed or the source's end
+pub record IsLine (source : List ℕ) (line : Line) : Type 0 where
+  pub within : line.start ≤ length source
+  pub begins : place_of source line.start ≡ record { line = line.number; col = 1 }
+  pub ends : line.end ≡ line.start + front (λ c. not (c == 10)) (drop line.start source)
 
 -- the byte order mark, which at the very front is a gap
 unfoldable pub mark_length : List ℕ → ℕ

@@ -1,6 +1,6 @@
 //! The front of some bytes and what stands behind it.
 
-ghost use Rattle.std.specs.Prelude.{◌≡◌, ◌-◌, ◌≤◌, length, drop};
+ghost use Rattle.std.specs.Prelude.{◌≡◌, ◌-◌, ◌≤◌, ◌↔◌, IsTrue, length, drop};
 ghost use Rattle.il_lexer.specs.Classes.{first_is, first_passes, is_digit, is_hex};
 
 use crate::classes::{is_digit, is_hex};
@@ -33,4 +33,19 @@ pub fn hex_at(bytes: &[u8], n: usize) -> bool
     ensures { result ≡ first_passes is_hex (drop n bytes.now) }
 {
     n < bytes.len() && is_hex(bytes[n])
+}
+
+/// Whether two texts are the same.
+pub fn is_same(known: &[u8], text: &[u8]) -> bool
+    ensures { IsTrue result ↔ (known.now ≡ text.now) }
+{
+    if known.len() != text.len() {
+        return false;
+    }
+    for k in 0..known.len() {
+        if known[k] != text[k] {
+            return false;
+        }
+    }
+    true
 }

@@ -30,8 +30,8 @@ fn block_length(rest: &[u8]) -> Option<usize>
     None
 }
 
-// The bytes up to the end of the line.
-fn line_length(rest: &[u8]) -> usize
+/// The bytes up to the end of the line.
+pub fn line_length(rest: &[u8]) -> usize
     ensures value { result ≡ front (λ c. not (c == 10)) rest.now }
     ensures fits { result ≤ length rest.now }
 {

@@ -6,6 +6,7 @@ mod classes;
 mod gaps;
 mod laws;
 mod lexeme;
+mod lines;
 mod pairs;
 mod quotes;
 mod runs;

@@ -2,11 +2,12 @@
 
 ghost use Rattle.std.specs.Prelude.{◌≡◌, ◌+◌, ◌-◌, ◌<◌, ◌≤◌, ◌^◌, length, drop, IsUtf8, MatchResult, MatchOption};
 ghost use Rattle.std.specs.Str.Lossy.{utf8_valid_len};
-ghost use Rattle.il_lexer.specs.Lexing.{place_after, place_of, mark_length, depth_after, is_opening, is_closing, NextIs, IsAccepted, HasFault, IfBad, BreaksAt};
+ghost use Rattle.il_lexer.specs.Lexing.{place_after, place_of, mark_length, after_gap, depth_after, is_opening, is_closing, IsLine, NextIs, IsAccepted, HasFault, IfBad, BreaksAt};
 
 use crate::bytes::{behind, stands_at};
 use crate::gaps::gap;
 use crate::lexeme::token_at;
+use crate::lines::{Line, first_line, place_on};
 use crate::types::{LexFault, Token, TokenKind, Tokens};
 use crate::word;
 use il_base::Pos;
@@ -108,15 +109,18 @@ fn closes(number: u16) -> bool
         || number == word::GREATER
 }
 
-// What stands behind the gap at `at`, whose place is `place`: nothing, a token, or the rule that is broken there.
-fn next_token(source: &[u8], at: usize, place: Pos) -> Result<Option<Token>, (Pos, u8)>
+// What stands behind the gap at `at`, to whose line `line` goes on: nothing, a token, or the rule that is broken there.
+fn next_token(source: &[u8], at: usize, line: &mut Line) -> Result<Option<Token>, (Pos, u8)>
     requires short { length source.now ≤ 2 ^ 27 }
     requires within { at ≤ length source.now }
-    requires here { place ≡ place_of source.now at }
-    ensures { NextIs source.now at result }
+    requires here { IsLine source.now line.old }
+    requires order { line.old.start ≤ at }
+    ensures next { NextIs source.now at result }
+    ensures is { IsLine source.now line.new }
+    ensures starts { line.new.start ≤ after_gap source.now at }
 {
     let start = at + gap(behind(source, at));
-    let pos = place_at(source, place, at, start);
+    let pos = place_on(source, line, start);
     if start == source.len() {
         return Ok(None);
     }
@@ -139,10 +143,10 @@ fn scan(alloc: Global, source: &[u8]) -> Result<Tokens, LexFault>
 {
     let mut tokens = Tokens::with_capacity(alloc, source.len() / 4 + 16)?;
     let mut at = mark_length(source);
-    let mut place = place_at(source, first_place(source), 0, at);
+    let mut line = first_line(source);
     let mut depth: u32 = 0;
     loop {
-        let token = match next_token(source, at, place) {
+        let token = match next_token(source, at, &mut line) {
             Ok(None) => return Ok(tokens),
             Ok(Some(token)) => token,
             Err((pos, rule)) => return Err(LexFault::Bad { pos, rule }),
@@ -156,7 +160,6 @@ fn scan(alloc: Global, source: &[u8]) -> Result<Tokens, LexFault>
             return Err(LexFault::Bad { pos, rule: 7 });
         }
         at = token.end as usize;
-        place = place_at(source, pos, token.start as usize, at);
         tokens.push(token)?;
     }
 }

@@ -1,6 +1,7 @@
 ghost use Rattle.std.specs.Prelude.{◌≡◌, ◌<◌, slice_index_or, []};
 ghost use Rattle.il_lexer.specs.WordList.{words, word_number};
 
+use crate::bytes::is_same;
 use opcode_table::candidate;
 
 /// The words of the language: each reserved word, each directive of the grammar or left out of it, the
@@ -466,7 +467,7 @@ pub fn word_number(text: &[u8]) -> Option<u16>
         return None;
     }
     let known = word_text(place as u16).as_bytes();
-    if known == text {
+    if is_same(known, text) {
         Some(place as u16)
     } else {
         None
