@@ -3,6 +3,7 @@ mod BlockLemmas
 mod FirstBytes
 mod FoundTokens
 mod FrontLemmas
+mod IdParts
 mod Fronts
 mod LexLemmas
 pub mod LineLemmas
