@@ -216,3 +216,12 @@ hop_none [] (suc end) zero e = refl
 hop_none [] (suc end) (suc m) e = refl
 hop_none (x ∷ nodes) zero m e = cc
 hop_none (x ∷ nodes) (suc end) m e = hop_none nodes end m e
+
+-- the first tree, and the others behind it
+pub hops-first : (m : ℕ) (nodes : List TreeNode) → hops (suc m) nodes ≡ hops 1 nodes + hops m (drop (hops 1 nodes) nodes)
+hops-first zero [] = omega arith
+hops-first (suc m) [] = omega arith
+hops-first m (Leaf token ∷ nodes) = omega arith
+hops-first m (Branch production count ∷ nodes) =
+    let e : count + 0 ≡ count = omega arith in
+    let h = ap (λ (x : ℕ). hops m (drop x nodes)) e in omega (arith, h)

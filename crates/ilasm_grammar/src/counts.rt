@@ -10,27 +10,38 @@ pub(crate) fn count_nodes(nodes: &mut Tree)
     requires { length nodes.old < 2 ^ 32 }
     ensures { nodes.new ≡ counted ilasm nodes.old }
 {
+    // The nodes of the tree that begins behind the node, the first of those below it.
+    let mut first = 0;
     for k in (0..nodes.len()).rev() {
-        if let TreeNode::Branch { production, .. } = *nodes.at(k) {
-            let below = size_of(nodes, k + 1, arity_of(production));
-            nodes.set(
-                k,
-                TreeNode::Branch {
-                    production,
-                    nodes: below,
-                },
-            );
+        match *nodes.at(k) {
+            TreeNode::Leaf { .. } => first = 1,
+            TreeNode::Branch { production, .. } => {
+                let below = size_of(nodes, k + 1, first, arity_of(production));
+                nodes.set(
+                    k,
+                    TreeNode::Branch {
+                        production,
+                        nodes: below,
+                    },
+                );
+                first = below + 1;
+            }
         }
     }
 }
 
-/// The number of nodes in the first `trees` trees from place `at` on, whose branches are counted.
-fn size_of(nodes: &Tree, at: usize, trees: usize) -> u32
-    requires { at + hops trees (drop at nodes.now) < 2 ^ 32 }
+/// The number of nodes in the first `trees` trees from place `at` on, whose branches are counted, and of which
+/// the first has `first` nodes.
+fn size_of(nodes: &Tree, at: usize, first: u32, trees: usize) -> u32
+    requires fits { at + hops trees (drop at nodes.now) < 2 ^ 32 }
+    requires first { first ≡ hops 1 (drop at nodes.now) }
     ensures { result ≡ hops trees (drop at nodes.now) }
 {
-    let mut end = at;
-    for _k in 0..trees {
+    if trees == 0 {
+        return 0;
+    }
+    let mut end = at + first as usize;
+    for _k in 1..trees {
         match nodes.get(end) {
             Some(TreeNode::Branch { nodes: below, .. }) => end += 1 + *below as usize,
             Some(TreeNode::Leaf { .. }) => end += 1,

@@ -5,7 +5,7 @@ use Rattle.std.proofs.lemmas.List.{drop-drop}
 use Rattle.ilasm_grammar.specs.declared.tree.TreeNode.{TreeNode}
 use Rattle.ilasm_grammar.specs.declared.tree.TreeNode.TheVariants.{Branch, Leaf}
 use Rattle.ilasm_grammar.specs.Counts.{hops}
-use Rattle.ilasm_grammar.proofs.CountsLemmas.{hop_branch, hop_leaf, hop_none}
+use Rattle.ilasm_grammar.proofs.CountsLemmas.{hop_branch, hop_leaf, hop_none, hops-first}
 use Rattle.ilasm_grammar.proofs.counts.size_of.Goals as goal
 use Rattle.ilasm_grammar.proofs.counts.size_of.Goals.{in-Some-Branch, in-Some-Leaf, in-None}
 
@@ -35,6 +35,18 @@ over_none nodes end k trees end' total lt e is moved =
     let one : trees - k ≡ suc m = omega arith in
     let h = ap (λ (x : ℕ). hops x (drop end nodes)) one ∙ hop_none nodes end m is ∙ ap (λ (x : ℕ). hops m (drop x nodes)) (sym moved) in
     omega (arith, h)
+
+started : (nodes : List TreeNode) (at first trees : ℕ) → 0 < trees → first ≡ hops 1 (drop at nodes) →
+    at + first + hops (trees - 1) (drop (at + first) nodes) ≡ at + hops trees (drop at nodes)
+started nodes at first trees pos is =
+    let one : trees ≡ suc (trees - 1) = omega arith in
+    let h = ap (λ (x : ℕ). hops x (drop at nodes)) one ∙ hops-first (trees - 1) (drop at nodes) ∙
+    ap (λ (x : ℕ). x + hops (trees - 1) (drop x (drop at nodes))) (sym is) ∙
+    ap (λ (x : List TreeNode). first + hops (trees - 1) x) (drop-drop first at nodes) in
+    omega (arith, h)
+
+pub loop-k-init : goal.loop-k-init
+loop-k-init c = started c.args.nodes.now c.args.at c.args.first c.args.trees (omega arith) c.requires.first
 
 pub loop-k-preserved : goal.loop-k-preserved
 loop-k-preserved c =
