@@ -39,6 +39,7 @@ pub fn line_length(rest: &[u8]) -> usize
 }
 
 // The rest of a comment after its `/`.
+#[inline(never)]
 fn comment_length(rest: &[u8]) -> Option<usize>
     ensures value { result ≡ comment_length rest.now }
     ensures fits { IfSome result (λ n. n ≤ length rest.now) }

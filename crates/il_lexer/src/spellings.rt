@@ -55,6 +55,7 @@ fn is_empty_quote(rest: &[u8]) -> bool
 }
 
 // After an opening `'`: the length of a quoted part that isn't empty, with both quotes.
+#[inline(never)]
 fn quoted_part(rest: &[u8]) -> Option<usize>
     ensures value { result ≡ quoted_part rest.now }
     ensures fits { IfSome result (λ n. (0 < n) × (n ≤ length rest.now + 1)) }
@@ -99,6 +100,9 @@ pub fn name_length(rest: &[u8]) -> Option<usize>
     ensures fits { IfSome result (λ n. (0 < n) × (n ≤ length rest.now)) }
 {
     let n = part_length(rest)?;
+    if !stands_at(rest, n, b'.') {
+        return Some(n);
+    }
     Some(n + run_of(&DottedPart, behind(rest, n)).bytes)
 }
 
