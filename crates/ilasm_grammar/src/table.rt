@@ -83,7 +83,7 @@ fn arity_by(heads: &[u16], starts: &[u16], bodies: &[Symbol], production: u16) -
     if place >= heads.len() {
         return 0;
     }
-    part_of(bodies, starts[place] as usize, starts[place + 1] as usize).len()
+    starts[place + 1] as usize - starts[place] as usize
 }
 
 /// The symbols from `start` up to `end`.
