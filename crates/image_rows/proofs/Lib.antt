@@ -14,6 +14,7 @@ pub mod CountLemmas
 pub mod DataLemmas
 pub mod DeclaredLemmas
 pub mod DeclaringLemmas
+pub mod EmptinessLemmas
 pub mod EntryLemmas
 pub mod EventLemmas
 pub mod FieldLemmas

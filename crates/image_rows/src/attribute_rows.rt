@@ -1,8 +1,9 @@
 //! The rows of CustomAttribute (ECMA-335 II.22.10).
-ghost use Rattle.std.specs.Prelude.{◌∷◌, [], ◌-◌, ◌^◌, ◌<◌, OnOk};
+ghost use Rattle.std.specs.Prelude.{◌≡◌, ℕ, ◌∷◌, [], ◌-◌, ◌^◌, ◌<◌, false, OnOk};
 ghost use Rattle.image_rows.specs.AttributeRows.{attributes_with, attributes_in, attributes_at, all_attributes, attribute_bytes, IsAttributeRow, CanPushAttribute};
 ghost use Rattle.image_rows.specs.Pushing.{Pushes, CanPush};
 
+use crate::emptiness::have_items;
 use assembly_tree::{Attribute, Attributes};
 use il_base::{Items, NoMemory};
 use image_references::blobs::refer_blob;
@@ -32,10 +33,25 @@ pub fn push_all_attributes<'a>(
     requires can { CanPush 0x0C CanPushAttribute attribute_bytes (all_attributes tables.now count) refs.old rows.old }
     ensures { OnOk result (Pushes 0x0C IsAttributeRow attribute_bytes (all_attributes tables.now count) refs.old refs.new rows.old rows.new) }
 {
+    if !have_attributes(tables) {
+        return Ok(());
+    }
     for place in 0..count {
         push_attributes_at(alloc, refs, rows, tables, place)?;
     }
     Ok(())
+}
+
+/// Whether any row of these tables has attributes.
+fn have_attributes(tables: &[Attributed]) -> bool
+    ensures { result ≡ false → (k : ℕ) → attributes_at tables.now k ≡ [] }
+{
+    for table in tables {
+        if have_items(table.of.as_slice()) {
+            return true;
+        }
+    }
+    false
 }
 
 /// Adds the rows of the attributes of the row at this place in each table.

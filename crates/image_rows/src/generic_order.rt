@@ -3,7 +3,7 @@ ghost use Rattle.std.specs.Prelude.{◌≡◌, ◌++◌, map, IfOk, OnOk};
 ghost use Rattle.image_rows.specs.GenericRows.{generic_of, generics_in, generics_at, all_generics};
 ghost use Rattle.image_rows.specs.Places.{lent};
 
-use crate::generic_rows::Parametric;
+use crate::generic_rows::{Parametric, have_generics};
 use crate::places::add_all;
 use assembly_tree::Generic;
 use il_base::{Items, NoMemory};
@@ -19,6 +19,9 @@ pub fn generics_in_order<'a>(
     ensures { IfOk result (λ generics. lent generics ≡ map generic_of (all_generics tables.now count)) }
 {
     let mut generics = Items::new(alloc);
+    if !have_generics(tables) {
+        return Ok(generics);
+    }
     for place in 0..count {
         add_generics_at(&mut generics, tables, place)?;
     }

@@ -1,8 +1,9 @@
 //! The rows of GenericParam (ECMA-335 II.22.20).
-ghost use Rattle.std.specs.Prelude.{◌-◌, ◌^◌, ◌<◌, ◌∷◌, [], OnOk};
+ghost use Rattle.std.specs.Prelude.{◌≡◌, ℕ, ◌-◌, ◌^◌, ◌<◌, ◌∷◌, [], false, OnOk};
 ghost use Rattle.image_rows.specs.GenericRows.{generics_with, generics_in, generics_at, all_generics, generic_bytes, IsGenericRow, CanPushGeneric};
 ghost use Rattle.image_rows.specs.Pushing.{Pushes, CanPush};
 
+use crate::emptiness::have_items;
 use assembly_tree::{Generic, Generics};
 use il_base::{Items, NoMemory};
 use image_references::members::refer_text;
@@ -29,10 +30,25 @@ pub fn push_all_generics<'a>(
     requires can { CanPush 0x2A CanPushGeneric generic_bytes (all_generics tables.now count) refs.old rows.old }
     ensures { OnOk result (Pushes 0x2A IsGenericRow generic_bytes (all_generics tables.now count) refs.old refs.new rows.old rows.new) }
 {
+    if !have_generics(tables) {
+        return Ok(());
+    }
     for place in 0..count {
         push_generics_at(refs, rows, tables, place)?;
     }
     Ok(())
+}
+
+/// Whether any row of these tables has generic parameters.
+pub(crate) fn have_generics(tables: &[Parametric]) -> bool
+    ensures { result ≡ false → (k : ℕ) → generics_at tables.now k ≡ [] }
+{
+    for table in tables {
+        if have_items(table.of.as_slice()) {
+            return true;
+        }
+    }
+    false
 }
 
 /// Adds the rows of the generic parameters of the row at this place in each table.

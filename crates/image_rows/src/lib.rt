@@ -14,6 +14,7 @@ pub mod constants;
 pub mod data_rows;
 pub mod declared_members;
 pub mod declaring;
+pub mod emptiness;
 pub mod entry;
 pub mod event_rows;
 pub mod field_rows;

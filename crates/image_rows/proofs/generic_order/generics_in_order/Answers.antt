@@ -1,9 +1,10 @@
-use Rattle.std.proofs.Common.{◌≡◌, ◌∙◌, ap, subst, rules, ℕ, ◌+◌, ◌-◌, ◌<◌, ◌≤◌, List, [], ◌∷◌, ◌++◌, map, arith}
+use Rattle.std.proofs.Common.{◌≡◌, ◌∙◌, ap, sym, subst, rules, ℕ, ◌+◌, ◌-◌, ◌<◌, ◌≤◌, List, [], ◌∷◌, ◌++◌, map, arith}
 use Rattle.std.specs.List.{flat_map, range_with_len}
 use Rattle.std.proofs.lemmas.List.{map-append}
 use Rattle.image_rows.specs.GenericRows.{generic_of, generics_at}
 use Rattle.image_rows.specs.Places.{lent}
 use Rattle.image_rows.proofs.ByNumberLemmas.{next_number, no_number}
+use Rattle.image_rows.proofs.EmptinessLemmas.{nothing_in_all}
 use Rattle.image_rows.proofs.PlaceLemmas.{FilledTo, filled_begin, filled_on, filled_end}
 use Rattle.image_rows.proofs.generic_order.generics_in_order.Goals as goal
 
@@ -33,3 +34,8 @@ returns c =
     let past : n ≤ k = search rules in
     filled_end (lent c.new-generics.result) (lent c.loop-place.generics) (of (range_with_len 0 n)) (of (range_with_len k (n - k))) (ap of (no_number k n past)) c.loop-place.invariant
     ∙ ap (λ gs. lent gs ++ of (range_with_len 0 n)) c.new-generics.ensures
+
+pub returns-then-not-have_generics : goal.returns-then-not-have_generics
+returns-then-not-have_generics c =
+    let none = nothing_in_all (generics_at c.args.tables.now) (c.have_generics.ensures c.if-not-have_generics.true) (range_with_len 0 c.args.count) in
+    ap lent c.new-generics.ensures ∙ sym (ap (map generic_of) none)

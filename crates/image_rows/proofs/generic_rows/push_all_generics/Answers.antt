@@ -1,8 +1,10 @@
-use Rattle.std.proofs.Common.{◌≡◌, ap, subst, rules, ℕ, ◌+◌, ◌-◌, ◌<◌, ◌≤◌, List, [], ◌∷◌, arith}
+use Rattle.std.proofs.Common.{◌≡◌, ap, sym, subst, rules, ℕ, ◌+◌, ◌-◌, ◌<◌, ◌≤◌, List, [], ◌∷◌, arith}
 use Rattle.std.specs.List.{flat_map, range_with_len}
-use Rattle.image_rows.specs.GenericRows.{generics_at}
+use Rattle.image_rows.specs.GenericRows.{generics_at, generic_bytes, IsGenericRow}
+use Rattle.image_rows.specs.Pushing.{Pushes}
 use Rattle.image_rows.proofs.ByNumberLemmas.{next_number, no_number}
-use Rattle.image_rows.proofs.KindLemmas.{Pushing, begin, front, go_on, end}
+use Rattle.image_rows.proofs.EmptinessLemmas.{nothing_in_all}
+use Rattle.image_rows.proofs.KindLemmas.{Pushing, begin, front, go_on, end, none_pushed}
 use Rattle.image_rows.proofs.GenericLemmas.{generic_kind}
 use Rattle.image_rows.proofs.generic_rows.push_all_generics.Goals as goal
 
@@ -39,3 +41,8 @@ returns c =
     let at = generics_at c.args.tables.now in
     let past : n ≤ k = search rules in
     end generic_kind c.args.refs.now c.loop-place.refs c.args.rows.now c.loop-place.rows (flat_map at (range_with_len 0 n)) (flat_map at (range_with_len k (n - k))) (ap (flat_map at) (no_number k n past)) c.loop-place.invariant
+
+pub returns-then-not-have_generics : goal.returns-then-not-have_generics
+returns-then-not-have_generics c =
+    let none = nothing_in_all (generics_at c.args.tables.now) (c.have_generics.ensures c.if-not-have_generics.true) (range_with_len 0 c.args.count) in
+    subst (λ xs. Pushes 0x2A IsGenericRow generic_bytes xs c.args.refs.now c.args.refs.now c.args.rows.now c.args.rows.now) (sym none) (none_pushed generic_kind c.args.refs.now c.args.rows.now c.requires.can.known)
