@@ -43,7 +43,8 @@ pub fn encode<N: Numberer>(alloc: Global, body: &Body, map: &N) -> Result<Bytes,
         draft.offsets.as_slice(),
         map,
     )?;
-    let mut out = Items::new(alloc);
+    // The longest header has 12 bytes, and most bodies have no clauses.
+    let mut out = Items::with_capacity(alloc, draft.bytes.len().saturating_add(12))?;
     push_body(&mut out, body, draft.bytes.as_slice(), rows.as_slice(), map)?;
     Ok(out)
 }

@@ -41,10 +41,11 @@ impl Draft {
             latest.push(None)?;
         }
         Ok(Draft {
-            bytes: Items::new(alloc),
+            // Most instructions take fewer bytes, and most bodies have fewer branches.
+            bytes: Items::with_capacity(alloc, count.saturating_mul(4))?,
             offsets: Items::with_capacity(alloc, count.saturating_add(1))?,
             latest,
-            sites: Items::new(alloc),
+            sites: Items::with_capacity(alloc, count / 4)?,
             far: None,
         })
     }

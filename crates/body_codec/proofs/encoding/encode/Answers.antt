@@ -65,6 +65,19 @@ returns-in_err-rows-clause-only g c =
     let e : BodyFault → Result (List ℕ) BodyFault = λ f. Err f in
     λ at f. inr (p.1 ∙ ap e p.2)
 
+pub returns-in_err-out-clause-written : goal.returns-in_err-out-clause-written
+returns-in_err-out-clause-written g c = let p = err_from_is_err_and c.from_residual-in_err-out.result c.from_residual-in_err-out.ensures.1 in rw p.1 tt
+
+pub returns-in_err-out-clause-fault : goal.returns-in_err-out-clause-fault
+returns-in_err-out-clause-fault g c =
+    let p = err_from_is_err_and c.from_residual-in_err-out.result c.from_residual-in_err-out.ensures.1 in rw (p.1, p.2) tt
+
+pub returns-in_err-out-clause-only : goal.returns-in_err-out-clause-only
+returns-in_err-out-clause-only g c =
+    let p = err_from_is_err_and c.from_residual-in_err-out.result c.from_residual-in_err-out.ensures.1 in
+    let e : BodyFault → Result (List ℕ) BodyFault = λ f. Err f in
+    λ at f. inr (p.1 ∙ ap e p.2)
+
 pub push_body-requires-clause-size : goal.push_body-requires-clause-size
 push_body-requires-clause-size g c =
     let numbers : TokenMap = token_map (g.N.Numberer.owner_tokens c.args.map.now) (g.N.Numberer.method_tokens c.args.map.now) (g.N.Numberer.field_tokens c.args.map.now)
@@ -131,7 +144,7 @@ returns-clause-written g c =
     let W : List ℕ → ℕ → List ℕ → List ClauseRow → List ℕ = λ old m b rs. front old m b ++ tail_bytes (length (front old m b)) rs in
     let same : c.push_body.new.out ≡ W [] n bytes rows =
     c.in_ok-push_body.ensures.written
-    ∙ ap (λ (x : List ℕ). W x (length c.as_slice-4.result.now) c.as_slice-4.result.now c.as_slice-5.result.now) c.new-out.ensures
+    ∙ ap (λ (x : List ℕ). W x (length c.as_slice-4.result.now) c.as_slice-4.result.now c.as_slice-5.result.now) c.in_ok-out.ensures
     ∙ ap (λ m. W [] m c.as_slice-4.result.now c.as_slice-5.result.now) (size ∙ sym (o.each (length body.code) (omega arith)))
     ∙ ap (λ (b : List ℕ). W [] n b c.as_slice-5.result.now) written
     ∙ ap (λ (rs : List ClauseRow). W [] n bytes rs) c.as_slice-5.ensures in
