@@ -35,7 +35,8 @@ pub fn encode_method<N: Numberer>(alloc: Global, s: &MethodSig, map: &N) -> Resu
     requires { MethodHasSpelling (N.owner_tokens map.now) s.now }
     ensures { IfOk result (λ bytes. SpellsMethod (writing (N.owner_tokens map.now)) s.now bytes) }
 {
-    let mut out = Items::new(alloc);
+    // Most signatures are shorter.
+    let mut out = Items::with_capacity(alloc, 24)?;
     out.push(method_byte(s))?;
     push_generics(&mut out, s.generic)?;
     push_packed(&mut out, s.params.len() as u32)?;

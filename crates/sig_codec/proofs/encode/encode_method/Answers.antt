@@ -15,6 +15,6 @@ returns g c =
     let g' = c.in_ok-push_generics.ensures tokens in
     let r = c.in_ok-push_type.ensures in
     let p = c.in_ok-push_params.ensures in
-    let first = begun c.new-out.result c.push.new.self c.method_byte.result c.new-out.ensures c.in_ok-push.ensures.ok in
+    let first = begun c.in_ok-out.out c.push.new.self c.method_byte.result c.in_ok-out.ensures c.in_ok-push.ensures.ok in
     let whole = chain_4 c.push.new.self c.push_generics.new.out c.push_packed.new.out c.push_type.new.out c.push_params.new.out c.method_byte.result g'.0 b r.0 p.0 first g'.1 n.ok r.1 p.1 in
     record { a = g'.0; b = b; c = r.0; d = p.0; whole = subst (λ (k : ℕ). c.push_params.new.out ≡ k ∷ (g'.0 ++ (b ++ (r.0 ++ p.0)))) c.method_byte.ensures whole; explicit = c.requires.explicit; generic = g'.2; counted = counted; ret = r.2; params = p.2 }
