@@ -28,6 +28,7 @@ pub mod OrderLemmas
 pub mod OwnerLemmas
 pub mod PathLemmas
 pub mod PieceLemmas
+pub mod PlainNames
 pub mod ReaderLemmas
 pub mod ReferenceLemmas
 pub mod ScopeLemmas

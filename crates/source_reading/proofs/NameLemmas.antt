@@ -129,7 +129,7 @@ ended-dotted : (d : List ℕ) (ds : List (List ℕ)) → ended (d ∷ ds) ≡ do
 ended-dotted d [] = refl
 ended-dotted d (e ∷ es) = ap (λ x. d ++ 46 ∷ x) (ended-dotted e es) ∙ sym (append_assoc d (46 ∷ dotted (e ∷ es)) (46 ∷ []))
 
-ended-more : (done : List (List ℕ)) (t : List ℕ) → ended (done ++ t ∷ []) ≡ (ended done ++ t) ++ 46 ∷ []
+pub ended-more : (done : List (List ℕ)) (t : List ℕ) → ended (done ++ t ∷ []) ≡ (ended done ++ t) ++ 46 ∷ []
 ended-more [] t = refl
 ended-more (d ∷ ds) t =
     ap (λ x. d ++ 46 ∷ x) (ended-more ds t)
@@ -227,7 +227,7 @@ no_dot : (w : List ℕ) → Each is_id_part w → Each (λ b. not (b == 46)) w
 no_dot [] h = tt
 no_dot (b ∷ w) h = (ap not (differ is_id_part b 46 h.0 refl), no_dot w h.1)
 
-no_dot_in_id : (w : List ℕ) → IsId w → Each (λ b. not (b == 46)) w
+pub no_dot_in_id : (w : List ℕ) → IsId w → Each (λ b. not (b == 46)) w
 no_dot_in_id [] h = absurd h
 no_dot_in_id (b ∷ w) h = (ap not (differ is_id_start b 46 h.0 refl), no_dot w h.1)
 

@@ -1,15 +1,15 @@
 -- Texts of tokens are UTF-8, since the source is: each is cut where ASCII stands.
-use Rattle.std.proofs.Common.{◌≡◌, ℕ, zero, suc, ◌+◌, ◌*◌, ◌-◌, ◌<◌, ◌≤◌, Bool, true, false, ◌&&◌, ◌||◌, nat_eq, inl, inr, ◌⊎◌, List, [], ◌∷◌, ◌++◌, length, take, drop, refl, ap, sym, subst, ◌∙◌, arith, length-append, append_assoc, append-nil, take_at, drop_at, drop-drop, true≢false}
+use Rattle.std.proofs.Common.{◌≡◌, ℕ, zero, suc, ◌+◌, ◌*◌, ◌-◌, ◌<◌, ◌≤◌, Bool, true, false, ◌||◌, nat_eq, inl, inr, ◌⊎◌, List, [], ◌∷◌, ◌++◌, length, take, drop, refl, ap, sym, subst, ◌∙◌, arith, length-append, append_assoc, append-nil, take_at, drop_at, drop-drop}
 use Rattle.std.proofs.Math.Seq.{get_or-append_seam}
-use Rattle.std.proofs.lemmas.Bool.{cond-true, eqb-true, and_parts, false≢true}
+use Rattle.std.proofs.lemmas.Bool.{cond-true, eqb-true}
 use Rattle.std.proofs.lemmas.Bool.Decides.{nat_tests}
 use Rattle.std.proofs.lemmas.List.{take-append-drop}
 use Rattle.std.proofs.lemmas.Str.{IsUtf8-append, IsUtf8-drop, IsUtf8-from_ascii, IsUtf8-nil, IsUtf8-take, IsCharBoundary-after_ascii, IsCharBoundary-before_ascii}
-use Rattle.std.specs.Prelude.{IsUtf8, get_or, nat_le, ◌==◌, slice_index}
+use Rattle.std.specs.Prelude.{IsUtf8, get_or, slice_index}
 use Rattle.il_lexer.specs.Classes.{is_id_start, is_id_part, is_octal, is_digit}
 use Rattle.il_lexer.specs.Quotes.{is_octal_code, is_escape_letter}
-use Rattle.il_lexer.specs.Spelled.{Each, IsEscape, IsId, IsText, IsPart, IsName, IsSpelling}
-use Rattle.il_lexer.specs.declared.types.TokenKind.TheVariants.{Name, Scope, QString}
+use Rattle.il_lexer.specs.Spelled.{Each, IsEscape, IsText, IsPart, IsName, IsSpelling}
+use Rattle.il_lexer.specs.declared.types.TokenKind.TheVariants.{Scope, QString}
 use Rattle.source_model.specs.Nodes.{id_of_texts}
 use Rattle.source_model.specs.Values.{between_quotes, letter_value, octal_value, escape_bytes, unescaped, part_text, part_texts, dotted, last_text, all_but_last}
 use Rattle.type_terms.specs.declared.name.TypeId.{TypeId}

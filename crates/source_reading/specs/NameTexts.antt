@@ -1,5 +1,5 @@
 -- The text of a name and the place of its last part in it (ECMA-335 II.5.3).
-use Rattle.std.specs.Prelude.{ℕ, ◌-◌, ◌≡◌, true, ◌⊎◌, List, [], take, drop}
+use Rattle.std.specs.Prelude.{ℕ, suc, ◌-◌, ◌≡◌, ◌==◌, ◌||◌, nat_le, if◌then◌else◌, true, ◌⊎◌, List, [], ◌∷◌, Option, None, Some, take, drop}
 use Rattle.il_lexer.specs.Classes.{first_is}
 use Rattle.source_model.specs.Values.{dotted, last_text, all_but_last}
 
@@ -13,3 +13,10 @@ pub record IsTextOf (parts : List (List ℕ)) (text : List ℕ) (last : ℕ) : T
 -- what stands behind a part of a name: nothing, or a dot
 abbrev pub EndsPart : List ℕ → Type 0
 EndsPart after = (after ≡ []) ⊎ (first_is 46 after ≡ true)
+
+-- where the last part begins of a text that goes on at the place `at`, and whose last part so far begins at `last`; None where
+-- a byte is a quote or no ASCII
+abbrev pub plain_last : ℕ → ℕ → List ℕ → Option ℕ
+plain_last at last [] = Some last
+plain_last at last (b ∷ bs) =
+    if b == 39 || nat_le 128 b then None else if b == 46 then plain_last (suc at) (suc at) bs else plain_last (suc at) last bs

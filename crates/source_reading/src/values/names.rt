@@ -4,7 +4,7 @@ ghost use Rattle.std.specs.Prelude.{◌≡◌, ◌≤◌, ◌-◌, ◌==◌, not
 ghost use Rattle.il_lexer.specs.Runs.{front};
 ghost use Rattle.il_lexer.specs.Spelled.{IsName, IsPart};
 ghost use Rattle.source_model.specs.Values.{part_text, part_texts};
-ghost use Rattle.source_reading.specs.NameTexts.{IsTextOf, EndsPart};
+ghost use Rattle.source_reading.specs.NameTexts.{IsTextOf, EndsPart, plain_last};
 
 use crate::values::bytes::{behind, first_is};
 use crate::values::quotes::push_quoted;
@@ -31,6 +31,25 @@ pub fn name_of(alloc: Global, spelling: &[u8]) -> Result<NameText, NoMemory>
         rest = push_part(&mut text, more)?;
     }
     Ok(NameText { text, last })
+}
+
+/// Where the last part of a name begins that is ASCII without quotes, which is its own text; None for any other.
+pub fn plain_last(spelling: &[u8]) -> Option<usize>
+    ensures { result ≡ plain_last 0 0 spelling.now }
+{
+    let mut at = 0;
+    let mut last = 0;
+    while at < spelling.len() {
+        let byte = spelling[at];
+        if byte == b'\'' || byte >= 128 {
+            return None;
+        }
+        at += 1;
+        if byte == b'.' {
+            last = at;
+        }
+    }
+    Some(last)
 }
 
 // Adds the text of the part at the front, and answers what stands behind it.
@@ -68,15 +87,29 @@ impl NameText {
     pub fn space(&self) -> &[u8]
         ensures { result.now ≡ take (self.now.last - 1) self.now.text }
     {
-        let end = self.last.saturating_sub(1).min(self.text.len());
-        &self.text.as_slice()[..end]
+        space_in(self.text.as_slice(), self.last)
     }
 
     /// Its last part.
     pub fn name(&self) -> &[u8]
         ensures { result.now ≡ drop self.now.last self.now.text }
     {
-        let start = self.last.min(self.text.len());
-        &self.text.as_slice()[start..]
+        last_in(self.text.as_slice(), self.last)
     }
+}
+
+/// What stands before the dot in front of the last part of a text, which begins at a place.
+pub fn space_in(text: &[u8], last: usize) -> &[u8]
+    ensures { result.now ≡ take (last - 1) text.now }
+{
+    let end = last.saturating_sub(1).min(text.len());
+    &text[..end]
+}
+
+/// The last part of a text, which begins at a place.
+pub fn last_in(text: &[u8], last: usize) -> &[u8]
+    ensures { result.now ≡ drop last text.now }
+{
+    let start = last.min(text.len());
+    &text[start..]
 }

@@ -1,9 +1,14 @@
-use Rattle.std.proofs.Common.{sym, subst, ◌∙◌}
-use Rattle.std.specs.Prelude.{IsUtf8}
-use Rattle.source_reading.proofs.Utf8Lemmas.{named_whole}
+use Rattle.std.proofs.Common.{◌≡◌, sym, ◌∙◌}
+use Rattle.std.proofs.lemmas.Result.{IfOk-weaker}
+use Rattle.source_model.specs.Values.{dotted, part_texts}
+use Rattle.source_reading.proofs.PlainNames.{plain_ascii, plain_text}
 use Rattle.source_reading.proofs.values.type_names.name_text.Goals as goal
 
-pub returns : goal.returns
-returns c =
-    named_whole c.args.spelling.now c.in_ok-name.name.text c.in_ok-name.name.last c.in_ok-name.ensures c.in_ok-text.text
-    (λ u. c.in_ok-text.ensures (subst IsUtf8 (sym c.as_slice.ensures) u) ∙ c.as_slice.ensures)
+pub ascii_text-requires : goal.ascii_text-requires
+ascii_text-requires c = plain_ascii 0 0 c.args.spelling.now c.in-Some.field-0 (sym c.plain_last.ensures ∙ c.in-Some.is)
+
+pub returns-in-Some : goal.returns-in-Some
+returns-in-Some c = λ n u.
+    let w = c.args.spelling.now in
+    let whole : w ≡ dotted (part_texts w) = (plain_text w c.in-Some.field-0 (sym c.plain_last.ensures ∙ c.in-Some.is) n).whole in
+    IfOk-weaker c.ascii_text.result (λ text. text ≡ w) (λ text. text ≡ dotted (part_texts w)) (λ text e. e ∙ whole) c.ascii_text.ensures

@@ -1,10 +1,9 @@
-use Rattle.std.proofs.Common.{sym, subst, ◌∙◌}
-use Rattle.std.specs.Prelude.{IsUtf8}
-use Rattle.source_reading.proofs.Utf8Lemmas.{named_id}
+use Rattle.std.proofs.Common.{sym, ◌∙◌}
+use Rattle.source_reading.proofs.PlainNames.{plain_ascii, plain_text}
 use Rattle.source_reading.proofs.values.type_names.type_id.Goals as goal
 
-pub returns : goal.returns
-returns c =
-    named_id c.args.spelling.now c.in_ok-full.full.text c.in_ok-full.full.last c.in_ok-full.ensures c.in_ok-space.space c.in_ok-name.name
-    (λ u. c.in_ok-space.ensures (subst IsUtf8 (sym c.space.ensures) u) ∙ c.space.ensures)
-    (λ u. c.in_ok-name.ensures (subst IsUtf8 (sym c.name.ensures) u) ∙ c.name.ensures)
+pub plain_id-requires : goal.plain_id-requires
+plain_id-requires c = plain_ascii 0 0 c.args.spelling.now c.in-Some.last (sym c.plain_last.ensures ∙ c.in-Some.is)
+
+pub returns-in-Some : goal.returns-in-Some
+returns-in-Some c = λ n u. c.plain_id.ensures (plain_text c.args.spelling.now c.in-Some.last (sym c.plain_last.ensures ∙ c.in-Some.is) n)
