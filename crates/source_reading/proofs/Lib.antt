@@ -29,6 +29,7 @@ pub mod OwnerLemmas
 pub mod PathLemmas
 pub mod PieceLemmas
 pub mod PlainNames
+pub mod Positions
 pub mod ReaderLemmas
 pub mod ReferenceLemmas
 pub mod ScopeLemmas
@@ -46,4 +47,5 @@ pub mod UnbrokenLemmas
 pub mod Utf8Lemmas
 pub mod VariableLemmas
 pub mod Walks
+pub mod WordOps
 pub mod WrittenNames

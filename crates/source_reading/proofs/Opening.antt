@@ -1,5 +1,5 @@
 -- The first node of a forest.
-use Rattle.std.proofs.Common.{◌≡◌, ℕ, ◌<◌, ◌^◌, List, ◌∷◌, ◌++◌, length, take, drop, ap, sym, ◌∙◌, arith, length-take, length-drop}
+use Rattle.std.proofs.Common.{Bor, refl, subst, ◌≡◌, ℕ, ◌<◌, ◌^◌, List, ◌∷◌, ◌++◌, length, take, drop, ap, sym, ◌∙◌, arith, length-take, length-drop}
 use Rattle.std.proofs.lemmas.List.{take-append-drop}
 use Rattle.ilasm_grammar.specs.declared.tree.TreeNode.{TreeNode}
 use Rattle.ilasm_grammar.specs.declared.tree.TreeNode.TheVariants.{Branch, Leaf}
@@ -37,3 +37,27 @@ opens forests joins nodes node behind x whole n b low late small = record {
           behind-is = joins.nodes g.below g.after ∙ ap (λ ns. ns ++ preorder g.after) g.inner ∙ ap (λ ns. take count behind ++ ns) g.rest
               ∙ take-append-drop count behind ∙ sym b;
         }
+
+-- ---- a node that is cut off
+
+-- the first node, what stands below and after it in two slices, and all behind it
+abbrev pub in_two : TreeNode → Bor (List TreeNode) → Bor (List TreeNode) → Bor (List TreeNode) → Opened
+in_two node below after behind = record { node = node; below = below; after = after; behind = behind }
+
+pub opens_in_two : ForestOpens → ForestsJoin → (nodes : List TreeNode) (node : TreeNode) (count : ℕ) (below after behind : Bor (List TreeNode))
+    → nodes ≡ node ∷ behind.now → count ≡ count_below node → count < 2 ^ 32 → below.now ≡ take count behind.now → after.now ≡ drop count behind.now
+    → Opens nodes (in_two node below after behind)
+opens_in_two forests joins nodes node count below after behind e many small low late =
+    opens forests joins nodes node behind.now (in_two node below after behind) e refl refl (low ∙ ap (λ n. take n behind.now) many)
+    (late ∙ ap (λ n. drop n behind.now) many) (subst (λ n. n < 2 ^ 32) many small)
+
+-- the same of one slice
+abbrev pub whole : TreeNode → Bor (List TreeNode) → Opened
+whole node behind =
+    in_two node (record { ref_ptr = behind.ref_ptr; now = take (count_below node) behind.now })
+    (record { ref_ptr = behind.ref_ptr; now = drop (count_below node) behind.now }) behind
+
+pub opens_whole : ForestOpens → ForestsJoin → (nodes : List TreeNode) (node : TreeNode) (count : ℕ) (behind : Bor (List TreeNode))
+    → nodes ≡ node ∷ behind.now → count ≡ count_below node → count < 2 ^ 32 → Opens nodes (whole node behind)
+opens_whole forests joins nodes node count behind e many small =
+    opens forests joins nodes node behind.now (whole node behind) e refl refl refl refl (subst (λ n. n < 2 ^ 32) many small)

@@ -7,6 +7,7 @@ ghost use Rattle.assembly_tree.specs.DataSize.{is_id};
 ghost use Rattle.source_reading.specs.ClassNumbers.{IsNumber, class_hash, class_in, class_of, id_of, is_class, outer_of};
 ghost use Rattle.source_reading.specs.Nested.{IsNested};
 
+use crate::equality::are_equal;
 use crate::hashes::{mix, mix_text, text_hash};
 use il_base::{Items, NoMemory};
 use indexmap::IndexMap;
@@ -125,5 +126,6 @@ fn is_class(class: &ClassName, outer: usize, id: &TypeId) -> bool
 pub fn is_id(one: &TypeId, other: &TypeId) -> bool
     ensures { result ≡ is_id one.now other.now }
 {
-    one.space.as_bytes() == other.space.as_bytes() && one.name.as_bytes() == other.name.as_bytes()
+    are_equal(one.space.as_bytes(), other.space.as_bytes())
+        && are_equal(one.name.as_bytes(), other.name.as_bytes())
 }

@@ -1,39 +1,33 @@
-//! The names of a list of declarations, of which the first with a text is found by its hash: a map leads from a hash to the
-//! newest name with it, and a chain from each name to the newest older one with the same hash. Names are put in front, so
-//! the newest is the first.
+//! The names of a list of declarations, which are put in front one by one. Most lists have few names: the first of those that
+//! are put there are searched one by one, and only those in front of them are found by hash.
 
-ghost use Rattle.std.specs.Prelude.{◌≡◌, ◌<◌, ◌∷◌, [], length, position, bytes_eq, OnOk, OnErr, nat_eq};
-ghost use Rattle.indexmap.specs.IndexMap.{get};
+ghost use Rattle.std.specs.Prelude.{◌≡◌, ◌<◌, ◌∷◌, [], length, position, bytes_eq, reverse, slice_index_or, IfOk, OnOk, OnErr};
 ghost use Rattle.source_reading.specs.Repeats.{is_repeat};
-ghost use Rattle.source_reading.specs.TextHash.{text_hash};
 
-use crate::hashes::text_hash;
+use crate::chained_names::ChainedNames;
+use crate::equality::are_equal;
 use il_base::{Items, NoMemory, Text};
-use indexmap::IndexMap;
 use std::alloc::Global;
 use std::marker::Model;
+
+/// How many names are searched one by one.
+const FEW: usize = 8;
 
 /// The names of declarations. Contracts see the list of them.
 #[derive(Drop)]
 pub struct Declared {
-    // From a hash to the place of the newest name with it.
-    newest: IndexMap<u64, usize>,
-    // The names, from the last to the first.
-    names: Items<Text>,
-    nexts: Items<Option<usize>>,
+    // The first few names that were put there, from the last to the first.
+    few: Items<Text>,
+    // The names in front of them.
+    more: ChainedNames,
 }
 
 impl Model for Declared {
-    ghost use Rattle.std.specs.Prelude.{ℕ, List, nat_eq, reverse};
-    ghost use Rattle.indexmap.specs.IndexMap.{get};
-    ghost use Rattle.source_reading.specs.Chains.{IsChained};
-    ghost use Rattle.source_reading.specs.TextHash.{text_hash};
+    ghost use Rattle.std.specs.Prelude.{ℕ, List, reverse, ◌++◌};
 
     ghost Value = { List (List ℕ) };
 
-    ghost view = { λ n. reverse n.names };
-
-    ghost invariant = { λ n. IsChained text_hash (get nat_eq n.newest) n.names n.nexts };
+    ghost view = { λ n. n.more ++ reverse n.few };
 }
 
 impl Declared {
@@ -42,31 +36,40 @@ impl Declared {
         ensures { result ≡ [] }
     {
         Declared {
-            newest: IndexMap::new(alloc),
-            names: Items::new(alloc),
-            nexts: Items::new(alloc),
+            few: Items::new(alloc),
+            more: ChainedNames::new(alloc),
         }
+    }
+
+    /// No names, with room for so many if they are few.
+    pub fn with_room(alloc: Global, count: usize) -> Result<Declared, NoMemory>
+        ensures { IfOk result (λ names. names ≡ []) }
+    {
+        let few = Items::with_capacity(alloc, count.min(FEW))?;
+        Ok(Declared {
+            few,
+            more: ChainedNames::new(alloc),
+        })
     }
 
     /// The number of names.
     pub fn len(&self) -> usize
         ensures { result ≡ length self.now }
     {
-        self.names.len()
+        self.more.len() + self.few.as_slice().len()
     }
 
     /// The number of the first name that is this text. Takes no memory.
     pub fn find(&self, text: &[u8]) -> Option<usize>
         ensures { result ≡ position (bytes_eq text.now) self.now }
     {
-        let mut at = self.newest.get(&text_hash(text)).copied();
-        while let Some(place) = at {
-            if self.names.at(place).as_bytes() == text {
-                return Some(self.names.len() - 1 - place);
-            }
-            at = *self.nexts.at(place);
+        match self.more.find(text) {
+            Some(k) => Some(k),
+            None => match last_place(self.few.as_slice(), text) {
+                Some(k) => Some(self.more.len() + k),
+                None => None,
+            },
         }
-        None
     }
 
     /// Whether name number `k` is one that stands before it. Takes no memory.
@@ -74,10 +77,23 @@ impl Declared {
         requires { k < length self.now }
         ensures { result ≡ is_repeat self.now k }
     {
-        let place = self.names.len() - 1 - k;
-        match self.find(self.names.at(place).as_bytes()) {
+        match self.find(self.text_at(k)) {
             Some(first) => first < k,
             None => false,
+        }
+    }
+
+    // The text of name number `k`.
+    fn text_at(&self, k: usize) -> &[u8]
+        requires { k < length self.now }
+        ensures { result.now ≡ slice_index_or self.now k [] }
+    {
+        let ahead = self.more.len();
+        if k < ahead {
+            self.more.text_at(k)
+        } else {
+            let place = self.few.len() - 1 - (k - ahead);
+            self.few.at(place).as_bytes()
         }
     }
 
@@ -86,21 +102,26 @@ impl Declared {
         ensures ok { OnOk result (self.new ≡ name ∷ self.old) }
         ensures err { OnErr result (self.new ≡ self.old) }
     {
-        let hash = text_hash(name.as_bytes());
-        let next = self.newest.get(&hash).copied();
-        let place = self.names.len();
-        self.names.push(name)?;
-        if let Err(error) = self.nexts.push(next) {
-            self.names.truncate(place);
-            return Err(error);
-        }
-        match self.newest.insert(hash, place) {
-            Ok(_) => Ok(()),
-            Err(_) => {
-                self.names.truncate(place);
-                self.nexts.truncate(place);
-                Err(NoMemory)
-            }
+        if self.more.len() == 0 && self.few.len() < FEW {
+            self.few.push(name)?;
+            Ok(())
+        } else {
+            self.more.push_front(name)?;
+            Ok(())
         }
     }
+}
+
+// The place from the end of the last name that is this text.
+fn last_place(names: &[Text], text: &[u8]) -> Option<usize>
+    ensures { result ≡ position (bytes_eq text.now) (reverse names.now) }
+{
+    let mut place = names.len();
+    while place > 0 {
+        place -= 1;
+        if are_equal(names[place].as_bytes(), text) {
+            return Some(names.len() - 1 - place);
+        }
+    }
+    None
 }

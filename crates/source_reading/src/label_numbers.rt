@@ -58,6 +58,9 @@ impl Labels {
     ) -> Result<Option<usize>, NoMemory>
         ensures { (s : Source) (f : Forest) → Reads reader.now s → AreLabels self.now s f → IsOf s Name token → IfOk result (λ n. n ≡ number_declared s f token) }
     {
+        if let Some(name) = reader.plain_name(token) {
+            return Ok(self.number_named(name));
+        }
         let name = reader.name_text(alloc, token)?;
         Ok(self.number_named(name.as_bytes()))
     }
@@ -77,7 +80,7 @@ impl Labels {
 fn numbers_at(alloc: Global, starts: &[u32], tokens: &[u32]) -> Result<Items<usize>, NoMemory>
     ensures { IsNonDecreasing starts.now → IfOk result (λ numbers. numbers ≡ map (λ k. count_below k starts.now) tokens.now) }
 {
-    let mut numbers = Items::new(alloc);
+    let mut numbers = Items::with_capacity(alloc, tokens.len())?;
     for token in tokens {
         numbers.push(number_before(starts, *token))?;
     }

@@ -33,7 +33,7 @@ pub fn label_tokens(alloc: Global, nodes: &[TreeNode]) -> Result<Items<u32>, NoM
 pub fn names_at(alloc: Global, reader: &Reader, tokens: &[u32]) -> Result<Declared, NoMemory>
     ensures { (s : Source) → Reads reader.now s → AreNames s tokens.now → IfOk result (λ names. names ≡ map (name_text s) tokens.now) }
 {
-    let mut names = Declared::new(alloc);
+    let mut names = Declared::with_room(alloc, tokens.len())?;
     let mut left = tokens;
     while let Some((token, before)) = last(left) {
         let name = reader.name_text(alloc, token)?;

@@ -7,9 +7,11 @@
 
 pub mod bases;
 pub mod bounds;
+pub mod chained_names;
 pub mod class_paths;
 pub mod declared;
 pub mod derived;
+pub mod equality;
 pub mod field_references;
 pub mod hashes;
 pub mod label_numbers;
@@ -31,3 +33,4 @@ pub mod types;
 pub mod unbroken;
 pub mod values;
 pub mod walk;
+pub mod word_ops;

@@ -19,14 +19,14 @@ use crate::declared::Declared;
 use crate::derived::derivations_have_bodies;
 use crate::least::sooner;
 use crate::reader::Reader;
-use crate::walk::{child, has, is_of, leaf_at, open, the};
+use crate::walk::{child, count_below, cut, has, is_of, leaf_at, next, the};
 use il_base::{Items, NoMemory};
 use ilasm_grammar::TreeNode;
 use ilasm_grammar::productions::{
     ALIAS, ASSEMBLY_ASSEMBLY_ATTR_STAR, ASSEMBLY_EXTERN, DATA, DATA_LABEL, SLASH_NAME, TYPAR,
     TYPARS_OPT_SOME,
 };
-use source_model::forests_join;
+use source_model::{forests_join, forests_open};
 use std::alloc::Global;
 
 /// Declarations that have names.
@@ -95,16 +95,19 @@ pub fn name_tokens(
     requires { IsForest nodes.now }
     ensures { (f : Forest) → preorder f ≡ nodes.now → IfOk result (λ found. found ≡ names_in naming f) }
 {
+    forests_open();
     forests_join();
     let production = production(naming);
     let mut found = Items::new(alloc);
     let mut left = nodes;
-    while let Some(x) = open(left) {
-        if is_of(x.node, production) {
-            push_name(&mut found, naming, x.below)?;
-            left = x.after;
+    while let Some((node, rest)) = next(left) {
+        let count = count_below(node);
+        if is_of(node, production) {
+            let (below, after) = cut(rest, count);
+            push_name(&mut found, naming, below)?;
+            left = after;
         } else {
-            left = x.behind;
+            left = rest;
         }
     }
     Ok(found)
@@ -162,7 +165,7 @@ fn key_token(nodes: &[TreeNode]) -> u32
 pub fn texts(alloc: Global, reader: &Reader, tokens: &[u32]) -> Result<Declared, NoMemory>
     ensures { (s : Source) → Reads reader.now s → All (IsOf s kind.Name) tokens.now → IfOk result (λ names. names ≡ map (name_text s) tokens.now) }
 {
-    let mut names = Declared::new(alloc);
+    let mut names = Declared::with_room(alloc, tokens.len())?;
     let mut more = tokens.len();
     while more > 0 {
         more -= 1;

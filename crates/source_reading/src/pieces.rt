@@ -1,6 +1,6 @@
 //! The productions of some kinds among the nodes of a derivation, and what stands below each of them.
 
-ghost use Rattle.std.specs.Prelude.{◌≡◌, List, map, take, drop, IfOk};
+ghost use Rattle.std.specs.Prelude.{◌≡◌, ◌∷◌, ◌++◌, [], List, map, take, drop, IfOk, OnOk};
 ghost use Rattle.source_model.specs.Forest.{Forest, Part, first_token, is_among, leaf_at, parts, preorder};
 ghost use Rattle.source_reading.specs.declared.pieces.Sought.TheVariants.{Instructions, LabelNames};
 ghost use Rattle.source_reading.specs.Pieces.{productions_of, ArePieces, AreParts, nodes_of};
@@ -54,11 +54,12 @@ pub fn pieces_of(
                 let start = at + 1;
                 let count = count as usize;
                 if is_sought(sought, production) {
-                    found.push(Piece {
+                    let piece = Piece {
                         production,
                         start,
                         count,
-                    })?;
+                    };
+                    push_piece(&mut found, piece)?;
                     at = start + count;
                 } else {
                     at = start;
@@ -68,6 +69,20 @@ pub fn pieces_of(
         }
     }
     Ok(found)
+}
+
+// Adds a production. The first gets room for some more, since most lists have several.
+fn push_piece(found: &mut Items<Piece>, piece: Piece) -> Result<(), NoMemory>
+    ensures { OnOk result (found.new ≡ found.old ++ piece ∷ []) }
+{
+    if found.is_empty() {
+        found.reserve(8)?;
+        found.push(piece)?;
+        Ok(())
+    } else {
+        found.push(piece)?;
+        Ok(())
+    }
 }
 
 // Whether a production is one of those that are looked for.
@@ -152,7 +167,7 @@ pub fn leaves_at(
     requires { AreParts nodes.now found.now }
     ensures { (ps : List Part) → ArePieces nodes.now found.now ps → IfOk result (λ tokens. tokens ≡ map (λ p. leaf_at k p.below) ps) }
 {
-    let mut tokens = Items::new(alloc);
+    let mut tokens = Items::with_capacity(alloc, found.len())?;
     for piece in found {
         tokens.push(leaf_at(nodes_of(nodes, *piece), k))?;
     }
@@ -168,7 +183,7 @@ pub fn first_tokens(
     requires { AreParts nodes.now found.now }
     ensures { (ps : List Part) → ArePieces nodes.now found.now ps → IfOk result (λ tokens. tokens ≡ map (λ p. first_token p.below) ps) }
 {
-    let mut tokens = Items::new(alloc);
+    let mut tokens = Items::with_capacity(alloc, found.len())?;
     for piece in found {
         tokens.push(first_token(nodes_of(nodes, *piece)))?;
     }

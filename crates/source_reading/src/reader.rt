@@ -1,6 +1,6 @@
 //! A source with its tokens and its derivation, and what each of its tokens spells.
 
-ghost use Rattle.std.specs.Prelude.{◌≡◌, ℕ, pos, ◌<◌, ◌≤◌, ◌^◌, ◌⊎◌, IfOk, IsUtf8, MatchOption};
+ghost use Rattle.std.specs.Prelude.{◌≡◌, ℕ, pos, ◌<◌, ◌≤◌, ◌^◌, ◌⊎◌, IfOk, IfSome, IsUtf8, MatchOption};
 ghost use Rattle.il_lexer.specs.declared.types.TokenKind.{TokenKind};
 ghost use Rattle.il_lexer.specs.declared.types.TokenKind.TheVariants.{Name, Scope, EqBytes, ByteArray, RealBytes};
 ghost use Rattle.il_lexer.specs.Spelled.{IsSpelling};
@@ -79,6 +79,13 @@ impl<'a> Reader<'a> {
         ensures { (s : Source) → Reads self.now s → IsOf s Name token → IfOk result (λ text. text ≡ name_text s token) }
     {
         type_names::name_text(alloc, self.spelling(token))
+    }
+
+    /// The text of a name that is spelled by itself; None where it may have quotes.
+    pub fn plain_name(&self, token: u32) -> Option<&'a [u8]>
+        ensures { (s : Source) → Reads self.now s → IsOf s Name token → IfSome result (λ text. text.now ≡ name_text s token) }
+    {
+        type_names::plain_name(self.spelling(token))
     }
 
     /// The text of a name in brackets, without them.

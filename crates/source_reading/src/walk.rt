@@ -26,7 +26,7 @@ pub struct Opened<'a> {
 }
 
 /// How many nodes stand below a node.
-fn count_below(node: TreeNode) -> usize
+pub fn count_below(node: TreeNode) -> usize
     ensures count { result ≡ count_below node }
     ensures few { result < 2 ^ 32 }
 {
@@ -37,7 +37,7 @@ fn count_below(node: TreeNode) -> usize
 }
 
 /// The first so many nodes, and those behind them.
-fn cut(nodes: &[TreeNode], count: usize) -> (&[TreeNode], &[TreeNode])
+pub fn cut(nodes: &[TreeNode], count: usize) -> (&[TreeNode], &[TreeNode])
     ensures front { result.0.now ≡ take count nodes.now }
     ensures back { result.1.now ≡ drop count nodes.now }
 {

@@ -1,6 +1,6 @@
 //! Names as texts, and as those of types (ECMA-335 II.5.3, II.22.37).
 
-ghost use Rattle.std.specs.Prelude.{◌≡◌, IfOk, IsUtf8};
+ghost use Rattle.std.specs.Prelude.{◌≡◌, IfOk, IfSome, IsUtf8};
 ghost use Rattle.std.specs.Str.{IsAscii};
 ghost use Rattle.il_lexer.specs.declared.types.TokenKind.TheVariants.{Scope};
 ghost use Rattle.il_lexer.specs.Spelled.{IsName, IsSpelling};
@@ -21,6 +21,16 @@ pub fn name_text(alloc: Global, spelling: &[u8]) -> Result<Text, NoMemory>
     match plain_last(spelling) {
         Some(_) => ascii_text(alloc, spelling),
         None => quoted_text(alloc, spelling),
+    }
+}
+
+/// The text of a name that is spelled by itself; None where it may have quotes.
+pub fn plain_name(spelling: &[u8]) -> Option<&[u8]>
+    ensures { IsName spelling.now → IfSome result (λ text. text.now ≡ dotted (part_texts spelling.now)) }
+{
+    match plain_last(spelling) {
+        Some(_) => Some(spelling),
+        None => None,
     }
 }
 

@@ -6,11 +6,11 @@ use Rattle.source_reading.proofs.Collecting.{SoFar}
 use Rattle.source_reading.proofs.NamingLemmas.{Any}
 use Rattle.source_reading.proofs.name_lists.name_tokens.Given as goal
 
-abbrev pub invariant-loop-x : goal.invariant-loop-x
-invariant-loop-x l = record {
+abbrev pub invariant-loop-node : goal.invariant-loop-node
+invariant-loop-node l = record {
   forest : IsForest l.left;
   so_far : (f : Forest) → preorder f ≡ l.nodes → SoFar Any (names_in l.naming) (names_in l.naming f) l.left l.found;
 }
 
-abbrev pub decreases-loop-x : goal.decreases-loop-x
-decreases-loop-x l = length l.left
+abbrev pub decreases-loop-node : goal.decreases-loop-node
+decreases-loop-node l = length l.left

@@ -7,5 +7,4 @@ use Rattle.source_reading.proofs.operations.op_of.Goals as goal
 
 pub returns : goal.returns
 returns c s p r e =
-    c.op_named.ensures
-    ∙ ap (λ w. op_or_nop (find (λ row. bytes_eq row.0 w) names)) (c.spelling.ensures.value s r ∙ ap (spelling s) (c.first_token.ensures p.below e))
+    c.op_at.ensures s r ∙ ap (λ k. op_or_nop (find (λ row. bytes_eq row.0 (spelling s k)) names)) (c.first_token.ensures p.below e)

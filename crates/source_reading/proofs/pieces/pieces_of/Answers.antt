@@ -18,7 +18,7 @@ loop-node-init c =
 
 pub loop-node-preserved-then-is_sought : goal.loop-node-preserved-then-is_sought
 loop-node-preserved-then-is_sought c =
-    subst (λ found. Gathered c.args.nodes.now (productions_of c.args.sought) (c.loop-node.at + 1 + c.in-Branch.count) found) (sym c.in_ok-push-in-Branch.ensures.ok)
+    subst (λ found. Gathered c.args.nodes.now (productions_of c.args.sought) (c.loop-node.at + 1 + c.in-Branch.count) found) (sym c.in_ok-push_piece-in-Branch.ensures)
     (past_branch c.derivations_are_forests.ensures c.forests_open.ensures c.forests_join.ensures c.args.nodes.now (productions_of c.args.sought) c.loop-node.at
     c.in-Branch.production c.in-Branch.count c.loop-node.found (node_is ((goal.at.loop-node-preserved-then-is_sought c).In-Some) ∙ ap Some c.in-Branch.is)
     (sym c.is_sought.ensures ∙ c.if-is_sought.true) c.loop-node.invariant)

@@ -1,28 +1,26 @@
-use Rattle.std.proofs.Common.{◌≡◌, ℕ, ◌≤◌, Some, None, reverse, sym, ◌∙◌, ap, rules, arith}
-use Rattle.std.specs.Prelude.{slice_get, position, bytes_eq}
-use Rattle.std.proofs.lemmas.Option.{slice_get_within, same_Some}
-use Rattle.source_reading.specs.TextHash.{text_hash}
-use Rattle.source_reading.proofs.FirstLemmas.{newest_is_first, absent_is_nowhere}
+use Rattle.std.proofs.Common.{◌≡◌, ◌+◌, Some, None, reverse, sym, ◌∙◌, ap}
+use Rattle.std.specs.Prelude.{position, bytes_eq}
+use Rattle.source_reading.proofs.Positions.{in_first, in_neither, in_second}
 use Rattle.source_reading.proofs.declared.Declared.find.Goals as goal
 
-pub returns-then-eq : goal.returns-then-eq
-returns-then-eq c =
-    let at : slice_get c.self.inside.names c.in-Some.place ≡ Some c.args.text.now = search rules in
-    let last : (k : ℕ) → slice_get c.self.inside.names k ≡ Some c.args.text.now → k ≤ c.in-Some.place = λ k here.
-    let a = c.loop-at.invariant.ahead k here in
-    let same = same_Some a.0 c.in-Some.place (sym a.1 ∙ c.in-Some.is) in
-    omega (arith, a.2, same) in
-    let long = c.len.ensures in
-    sym (newest_is_first c.self.inside.names c.in-Some.place c.len.result c.args.text.now at last long) ∙ ap (position (bytes_eq c.args.text.now)) c.self.view_is
-
-pub at-at-requires : goal.at-at-requires
-at-at-requires c =
-    let h = c.loop-at.invariant.hashed c.in-Some.place c.in-Some.is in
-    let within = slice_get_within c.self.inside.names c.in-Some.place h.0 h.1 in
-    omega (arith, within, c.self.invariant.paired)
-
-pub returns : goal.returns
-returns c =
-    sym (absent_is_nowhere c.self.inside.names c.args.text.now
-    (λ k here. let a = c.loop-at.invariant.ahead k here in let no = sym a.1 ∙ c.in_default.is in absurd cc))
+pub returns-in-Some : goal.returns-in-Some
+returns-in-Some c =
+    sym (in_first (bytes_eq c.args.text.now) c.self.inside.more (reverse c.self.inside.few) c.in-Some.k (sym c.find.ensures ∙ c.in-Some.is))
     ∙ ap (position (bytes_eq c.args.text.now)) c.self.view_is
+
+pub returns-in-Some-last_place : goal.returns-in-Some-last_place
+returns-in-Some-last_place c =
+    let p = bytes_eq c.args.text.now in
+    let none : position p c.self.inside.more ≡ None = sym c.find.ensures ∙ c.in-None.is in
+    let some : position p (reverse c.self.inside.few) ≡ Some c.in-Some-last_place.k =
+    sym (c.last_place.ensures ∙ ap (λ ns. position p (reverse ns)) c.as_slice.ensures) ∙ c.in-Some-last_place.is in
+    ap (λ n. Some (n + c.in-Some-last_place.k)) c.len.ensures.value
+    ∙ sym (in_second p c.self.inside.more (reverse c.self.inside.few) c.in-Some-last_place.k none some) ∙ ap (position p) c.self.view_is
+
+pub returns-in-None-last_place : goal.returns-in-None-last_place
+returns-in-None-last_place c =
+    let p = bytes_eq c.args.text.now in
+    let none : position p c.self.inside.more ≡ None = sym c.find.ensures ∙ c.in-None.is in
+    let no : position p (reverse c.self.inside.few) ≡ None =
+    sym (c.last_place.ensures ∙ ap (λ ns. position p (reverse ns)) c.as_slice.ensures) ∙ c.in-None-last_place.is in
+    sym (in_neither p c.self.inside.more (reverse c.self.inside.few) none no) ∙ ap (position p) c.self.view_is

@@ -3,7 +3,7 @@ use Rattle.std.specs.Prelude.{nat_eq}
 use Rattle.indexmap.specs.IndexMap.{get}
 use Rattle.source_reading.specs.TextHash.{text_hash}
 use Rattle.source_reading.proofs.ChainLemmas.{chain_push, chain_undo}
-use Rattle.source_reading.proofs.declared.Declared.push_front.Goals as goal
+use Rattle.source_reading.proofs.chained_names.ChainedNames.push_front.Goals as goal
 
 pub invariant_of-self-in-Ok : goal.invariant_of-self-in-Ok
 invariant_of-self-in-Ok c =

@@ -3,7 +3,7 @@ use Rattle.std.specs.Prelude.{slice_get}
 use Rattle.source_reading.specs.Chains.{HasHash}
 use Rattle.source_reading.specs.TextHash.{text_hash}
 use Rattle.source_reading.proofs.ChainLemmas.{ahead_of}
-use Rattle.source_reading.proofs.declared.Declared.find.Given as goal
+use Rattle.source_reading.proofs.chained_names.ChainedNames.find.Given as goal
 
 abbrev pub invariant-loop-at : goal.invariant-loop-at
 invariant-loop-at l = record {
