@@ -49,12 +49,20 @@ struct Own<'t> {
 
 /// A rule that each production of a source meets or breaks by itself.
 pub trait Rule {
-    ghost use Rattle.std.specs.Prelude.{ℕ, List};
+    ghost use Rattle.std.specs.Prelude.{◌≡◌, ℕ, List, None, false};
     ghost use Rattle.source_model.specs.Nodes.{Node};
     ghost use Rattle.source_model.specs.Source.{Source};
+    ghost use Rattle.source_reading.specs.Least.{least};
 
     /// The tokens at which a production breaks it.
     ghost broken: { Self → Source → Node → List ℕ };
+
+    /// Whether a node with this production may break it: of others it isn't asked.
+    fn speaks_of(&self, _production: u16) -> bool
+        ensures { (s : Source) (n : Node) → n.production ≡ _production → result ≡ false → None ≡ least (broken self.now s n) }
+    {
+        true
+    }
 
     /// The least token at which this production breaks it.
     fn first(
@@ -110,7 +118,7 @@ pub fn first_in<'n, R: Rule>(
                     found = sooner(found, sooner(here, within));
                     left = after;
                 } else {
-                    let here = rule.first(alloc, reader, place, production, below)?;
+                    let here = first_of(rule, alloc, reader, place, production, below)?;
                     found = sooner(found, here);
                     left = rest;
                 }
@@ -119,6 +127,26 @@ pub fn first_in<'n, R: Rule>(
         }
     }
     Ok(found)
+}
+
+// The least token at which this production breaks a rule, which is asked only where it speaks of such a one.
+fn first_of<R: Rule>(
+    rule: &R,
+    alloc: Global,
+    reader: &Reader,
+    place: &Surrounding,
+    production: u16,
+    below: &[TreeNode],
+) -> Result<Option<u32>, NoMemory>
+    requires { IsForest below.now }
+    ensures { (s : Source) (n : Node) → Reads reader.now s → IsNode place.now production below.now n → IsDerived s place.now n →
+        IfOk result (λ k. k ≡ least (R.broken rule.now s n)) }
+{
+    if !rule.speaks_of(production) {
+        return Ok(None);
+    }
+    let first = rule.first(alloc, reader, place, production, below)?;
+    Ok(first)
 }
 
 // Whether the parts of this production have other things around them than it has.

@@ -54,8 +54,8 @@ count_parameters-requires g t c =
     (c.in-Some.ensures ∙ ap (λ n. n ∷ c.in-Some.rest.now) c.in-Branch.is) c.loop-node.invariant.steps in
     (f.0, f.1 ∙ sym c.split_at.ensures.front)
 
-pub first-requires-else-is_scope : goal.first-requires-else-is_scope
-first-requires-else-is_scope g t c =
+pub first_of-requires : goal.first_of-requires
+first_of-requires g t c =
     let now = sought (g.R.Rule.broken c.args.rule.now) c.args.reader.now c.args.place.now c.args.nodes.now c.loop-node.found in
     let whole = sought (g.R.Rule.broken c.args.rule.now) c.args.reader.now c.args.place.now c.args.nodes.now None in
     let f =
