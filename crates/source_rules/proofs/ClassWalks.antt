@@ -26,6 +26,7 @@ use Rattle.source_rules.specs.declared.class_rules.Entered.{Entered}
 use Rattle.source_reading.proofs.ClassLemmas.{id_itself, id_same, path_itself, path_same}
 use Rattle.source_reading.proofs.Collecting.{of_joined}
 use Rattle.source_reading.proofs.LeastLemmas.{least_append, sooner_assoc, sooner_comm}
+use Rattle.source_rules.proofs.Classless.{Classless, method_classless}
 use Rattle.source_reading.proofs.NestedLemmas.{knows_again, knows_more, knows_none, to_append, to_kept, to_new}
 
 -- ---- lists of classes
@@ -50,6 +51,12 @@ list_other s path p b a e =
     ap (λ (c : Bool). (if c then record { path = inner_path s path b; token = class_token b } ∷ class_list s (inner_path s path b) b else class_list s path b)
     ++ class_list s path a) e
     ∙ sym (list_joined s path b a)
+
+list_none : (s : Source) (path : List TypeId) (f : Forest) → Classless f → class_list s path f ≡ []
+list_none s path tree.none h = refl
+list_none s path (tree.leaf k a) h = list_none s path a h
+list_none s path (tree.branch p b a) h =
+    list_other s path p b a h.0 ∙ list_joined s path b a ∙ ap (λ cs. cs ++ class_list s path a) (list_none s path b h.1) ∙ list_none s path a h.2
 
 pub again_append : (seen : List (List TypeId)) (xs ys : List ClassAt) → again_in seen (xs ++ ys) ≡ again_in seen xs ++ again_in (seen ++ map path_of xs) ys
 again_append seen [] ys = ap (λ ps. again_in ps ys) (sym (append-nil seen))
@@ -309,6 +316,26 @@ module _ (opens : ForestOpens) (joins : ForestsJoin) (s : Source) (path : List T
         rest = joined b.below b.after;
         is = joins.nodes b.below b.after ∙ ap (λ ns. ns ++ preorder b.after) b.inner ∙ ap (λ ns. take count rest ++ ns) b.rest ∙ take-append-drop count rest;
         bodies = of_joined (FitsBody s) b.below b.after h.1 h.2;
+        done = x.done;
+        whole = ap (λ cs. x.done ++ cs) same ∙ x.whole;
+        knows = x.knows;
+        first = ap (λ cs. sooner found (least (again_in (seen ++ map path_of x.done) cs))) same ∙ x.first;
+      }
+
+  pub adding_method : (p count : ℕ) (left rest : List TreeNode) (now : List ClassName) (found : Option ℕ) → left ≡ Branch p count ∷ rest → p ≡ METHOD
+      → Adding s path f seen left now found → Adding s path f seen (drop count rest) now found
+  adding_method p count left rest now found e method x =
+      let b = opens.branch x.rest p count rest (x.is ∙ e) in
+      let h = subst (HasBodies s) b.is x.bodies in
+      let other : (p == CLASS) ≡ false = ap (λ q. q == CLASS) method in
+      let nothing : class_list s path b.below ≡ [] = list_none s path b.below (method_classless s p b.below method h.0 h.1) in
+      let same : class_list s path b.after ≡ class_list s path x.rest =
+      ap (λ cs. cs ++ class_list s path b.after) (sym nothing) ∙ sym (list_joined s path b.below b.after) ∙ sym (list_other s path p b.below b.after other)
+      ∙ ap (class_list s path) (sym b.is) in
+      record {
+        rest = b.after;
+        is = b.rest;
+        bodies = h.2;
         done = x.done;
         whole = ap (λ cs. x.done ++ cs) same ∙ x.whole;
         knows = x.knows;

@@ -4,12 +4,14 @@ pub mod AskedTable
 pub mod BarredLemmas
 pub mod ClassSizes
 pub mod ClassWalks
+pub mod Classless
 pub mod CoreWalks
 pub mod DataLemmas
 pub mod DepthLemmas
 pub mod DepthRules
 pub mod DepthWalks
 pub mod FirstOfRules
+pub mod LoneNames
 pub mod MappedData
 pub mod MissingLemmas
 pub mod NamedTypeLemmas

@@ -61,7 +61,8 @@ fn module_id(alloc: Global) -> Result<TypeId, NoMemory>
     Ok(TypeId { space, name })
 }
 
-// Adds the classes of a forest that stands in the class of a number; the least of their names whose path is there already.
+// Adds the classes of a forest that stands in the class of a number; the least of their names whose path is there already. Below
+// methods none stand.
 fn add_classes(
     paths: &mut ClassPaths,
     alloc: Global,
@@ -86,11 +87,13 @@ fn add_classes(
                 production,
                 nodes: count,
             } => {
+                let (below, after) = rest.split_at(count as usize);
                 if production == productions::CLASS {
-                    let (below, after) = rest.split_at(count as usize);
                     let class = enter(paths, alloc, reader, outer, leaf_at(below, 1))?;
                     let within = add_classes(paths, alloc, reader, class.number, below)?;
                     found = sooner(found, sooner(class.again, within));
+                    left = after;
+                } else if production == productions::METHOD {
                     left = after;
                 } else {
                     left = rest;

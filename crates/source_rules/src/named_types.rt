@@ -1,6 +1,6 @@
 //! Types and assemblies that are named and not declared (ECMA-335 II.6.2, II.7.3).
 
-ghost use Rattle.std.specs.Prelude.{◌≡◌, ℕ, ◌∷◌, All, IfOk, None, Option, Some, is_some, map};
+ghost use Rattle.std.specs.Prelude.{◌≡◌, ℕ, ◌∷◌, [], All, IfOk, None, Option, Some, is_some, map};
 ghost use Rattle.il_lexer.specs.declared.types.TokenKind.TheVariants as kind;
 ghost use Rattle.type_terms.specs.declared.name.Scope.{Scope};
 ghost use Rattle.type_terms.specs.declared.name.Scope.TheVariants.{Here};
@@ -218,6 +218,22 @@ pub fn missing(
     match standing {
         Standing::Here => unless_declared(alloc, reader, classes, path),
         Standing::Elsewhere | Standing::Nowhere => Ok(None),
+    }
+}
+
+/// The name of a path that is that name alone and stands in this assembly, where no class has it.
+pub fn lone_missing(
+    alloc: Global,
+    reader: &Reader,
+    classes: &ClassPaths,
+    token: u32,
+) -> Result<Option<u32>, NoMemory>
+    ensures { (s : Source) → Reads reader.now s → IsOf s kind.Name token → IfOk result (λ k. k ≡ least (path_missing classes.now s (token ∷ []) (Some Here))) }
+{
+    let number = class_within(alloc, reader, classes, 0, token)?;
+    match number {
+        Some(_) => Ok(None),
+        None => Ok(Some(token)),
     }
 }
 

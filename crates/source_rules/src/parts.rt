@@ -18,19 +18,20 @@ ghost use Rattle.rule_steps.specs.Surroundings.{IsDerived, IsNode};
 
 use crate::asked::{is_asked, is_named};
 use crate::class_rules::Classes;
-use crate::named_types::{Scopes, Types, missing, unless_known};
+use crate::named_types::{Scopes, Types, lone_missing, missing, unless_known};
 use crate::nestings::{Nestings, long_path};
 use crate::out_of_range::Numbers;
 use crate::undeclared::{Labels, Typars};
 use crate::written::written_name;
 use il_base::NoMemory;
-use ilasm_grammar::TreeNode;
+use ilasm_grammar::{TreeNode, productions};
 use rule_steps::asking::{Rule, Surrounding, first_at_all};
 use source_model::tokens_stand_in_order;
 use source_reading::derived::derivations_have_bodies;
 use source_reading::least::sooner;
 use source_reading::name_lists::Named;
 use source_reading::reader::Reader;
+use source_reading::walk::{child, has, leaf_at};
 use std::alloc::Global;
 
 /// The least token at which a production of a source breaks any of these rules.
@@ -74,6 +75,10 @@ struct AllOfParts<'a> {
 impl<'a> Rule for AllOfParts<'a> {
     ghost broken = { λ rule s n. broken_at rule.types.scopes.keys.now rule.types.scopes.own.now rule.types.classes.now rule.labels.names.now s n };
 
+    fn speaks_of(&self, production: u16) -> bool {
+        is_asked(production)
+    }
+
     fn first(
         &self,
         alloc: Global,
@@ -82,9 +87,6 @@ impl<'a> Rule for AllOfParts<'a> {
         production: u16,
         below: &[TreeNode],
     ) -> Result<Option<u32>, NoMemory> {
-        if !is_asked(production) {
-            return Ok(None);
-        }
         if is_named(production) {
             return self.first_named(alloc, reader, production, below);
         }
@@ -95,6 +97,30 @@ impl<'a> Rule for AllOfParts<'a> {
 impl<'a> AllOfParts<'a> {
     // The same of one that begins with a type's name: only the rules of names and of paths speak of it.
     fn first_named(
+        &self,
+        alloc: Global,
+        reader: &Reader,
+        production: u16,
+        below: &[TreeNode],
+    ) -> Result<Option<u32>, NoMemory>
+        requires { IsForest below.now }
+        ensures { (s : Source) (n : Node) → Reads reader.now s → n.production ≡ production → preorder n.below ≡ below.now →
+            FitsBody s n.production n.below → HasBodies s n.below → is_among named production ≡ true →
+            IfOk result (λ k. k ≡ least (broken_at self.now.types.scopes.keys.now self.now.types.scopes.own.now self.now.types.classes.now self.now.labels.names.now s n)) }
+    {
+        if production != productions::TYPE_NAME_PATH {
+            return self.first_in_path(alloc, reader, production, below);
+        }
+        let path = child(below, productions::PATH);
+        if has(path, productions::SLASH_NAME) {
+            return self.first_in_path(alloc, reader, production, below);
+        }
+        let first = lone_missing(alloc, reader, self.types.classes, leaf_at(path, 0))?;
+        Ok(first)
+    }
+
+    // The same, of a path of any number of names.
+    fn first_in_path(
         &self,
         alloc: Global,
         reader: &Reader,

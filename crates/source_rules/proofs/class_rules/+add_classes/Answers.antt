@@ -8,7 +8,7 @@ use Rattle.source_reading.specs.Least.{sooner}
 use Rattle.source_reading.specs.Readers.{IsOf}
 use Rattle.source_reading.specs.Walk.{IsForest}
 use Rattle.rule_steps.proofs.AskingLemmas.{below_shorter, next_shorter, rest_shorter}
-use Rattle.source_rules.proofs.ClassWalks.{Adding, adding_class, adding_end, adding_leaf, adding_other, adding_start, forest_behind}
+use Rattle.source_rules.proofs.ClassWalks.{Adding, adding_class, adding_end, adding_leaf, adding_method, adding_other, adding_start, forest_behind}
 use Rattle.source_reading.proofs.NameTokens.{class_is_name}
 use Rattle.source_rules.proofs.class_rules.+add_classes.Goals as goal
 
@@ -98,8 +98,27 @@ loop-node-preserved-then-production-eq-CLASS t c =
           }) sum (c.loop-node.invariant.so_far s path g seen r e h at knows));
     }
 
-pub loop-node-preserved-else-production-eq-CLASS : goal.loop-node-preserved-else-production-eq-CLASS
-loop-node-preserved-else-production-eq-CLASS t c =
+pub loop-node-preserved-then-production-eq-METHOD : goal.loop-node-preserved-then-production-eq-METHOD
+loop-node-preserved-then-production-eq-METHOD t c =
+    let p = c.in-Branch.production in
+    let count = c.in-Branch.count in
+    let left = c.loop-node.left.now in
+    let rest = c.in-Some.rest.now in
+    let is = c.in-Some.ensures ∙ ap (λ n. n ∷ rest) c.in-Branch.is in
+    let f = c.loop-node.invariant.forest in
+    let b = c.forests_open.ensures.branch f.0 p count rest (f.1 ∙ is) in
+    record {
+      forest = (b.after, b.rest ∙ sym c.split_at.ensures.back);
+      shorter = rest_shorter p count left rest c.args.nodes.now c.split_at.result.1.now is c.split_at.ensures.back c.loop-node.invariant.shorter;
+      kept = c.loop-node.invariant.kept;
+      so_far = λ s path g seen r e h at knows.
+          subst (λ ns. Adding s path g seen ns c.loop-node.paths c.loop-node.found) (sym c.split_at.ensures.back)
+          (adding_method c.forests_open.ensures c.forests_join.ensures s path g seen p count left rest c.loop-node.paths c.loop-node.found is
+          c.if-production-eq-METHOD.true (c.loop-node.invariant.so_far s path g seen r e h at knows));
+    }
+
+pub loop-node-preserved-else-production-eq-METHOD : goal.loop-node-preserved-else-production-eq-METHOD
+loop-node-preserved-else-production-eq-METHOD t c =
     let p = c.in-Branch.production in
     let is = c.in-Some.ensures ∙ ap (λ n. n ∷ c.in-Some.rest.now) c.in-Branch.is in
     let other : (p == CLASS) ≡ false = grind arith in

@@ -6,7 +6,7 @@ use Rattle.rule_steps.proofs.LeastOfRules.{then_rule}
 use Rattle.source_rules.specs.AllOfParts.{name_broken}
 use Rattle.source_rules.specs.Asked.{named}
 use Rattle.source_rules.proofs.AskedLemmas.{names_asked}
-use Rattle.source_rules.proofs.parts.AllOfParts.first_named.Goals as goal
+use Rattle.source_rules.proofs.parts.AllOfParts.first_in_path.Goals as goal
 
 pub returns : goal.returns
 returns c s n r p e fits bodies own =
