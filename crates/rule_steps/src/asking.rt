@@ -117,9 +117,11 @@ pub fn first_in<'n, R: Rule>(
                     let within = first_in(rule, alloc, reader, &inner, below)?;
                     found = sooner(found, sooner(here, within));
                     left = after;
-                } else {
-                    let here = first_of(rule, alloc, reader, place, production, below)?;
+                } else if rule.speaks_of(production) {
+                    let here = rule.first(alloc, reader, place, production, below)?;
                     found = sooner(found, here);
+                    left = rest;
+                } else {
                     left = rest;
                 }
             }
@@ -127,26 +129,6 @@ pub fn first_in<'n, R: Rule>(
         }
     }
     Ok(found)
-}
-
-// The least token at which this production breaks a rule, which is asked only where it speaks of such a one.
-fn first_of<R: Rule>(
-    rule: &R,
-    alloc: Global,
-    reader: &Reader,
-    place: &Surrounding,
-    production: u16,
-    below: &[TreeNode],
-) -> Result<Option<u32>, NoMemory>
-    requires { IsForest below.now }
-    ensures { (s : Source) (n : Node) → Reads reader.now s → IsNode place.now production below.now n → IsDerived s place.now n →
-        IfOk result (λ k. k ≡ least (R.broken rule.now s n)) }
-{
-    if !rule.speaks_of(production) {
-        return Ok(None);
-    }
-    let first = rule.first(alloc, reader, place, production, below)?;
-    Ok(first)
 }
 
 // Whether the parts of this production have other things around them than it has.

@@ -54,8 +54,8 @@ count_parameters-requires g t c =
     (c.in-Some.ensures ∙ ap (λ n. n ∷ c.in-Some.rest.now) c.in-Branch.is) c.loop-node.invariant.steps in
     (f.0, f.1 ∙ sym c.split_at.ensures.front)
 
-pub first_of-requires : goal.first_of-requires
-first_of-requires g t c =
+pub first-requires-then-speaks_of : goal.first-requires-then-speaks_of
+first-requires-then-speaks_of g t c =
     let now = sought (g.R.Rule.broken c.args.rule.now) c.args.reader.now c.args.place.now c.args.nodes.now c.loop-node.found in
     let whole = sought (g.R.Rule.broken c.args.rule.now) c.args.reader.now c.args.place.now c.args.nodes.now None in
     let f =
@@ -110,11 +110,11 @@ loop-node-preserved-then-is_scope g t c =
           subst (Bodied s) (sym c.split_at.ensures.back) (bodied_after c.forests_open.ensures c.forests_join.ensures c.derivations_are_forests.ensures s p c.in-Branch.count c.loop-node.left.now c.in-Some.rest.now is (c.loop-node.invariant.steps.forest, c.loop-node.invariant.steps.is) (c.loop-node.invariant.bodied s h));
     }
 
-pub loop-node-preserved-else-is_scope : goal.loop-node-preserved-else-is_scope
-loop-node-preserved-else-is_scope g t c =
+pub loop-node-preserved-then-speaks_of : goal.loop-node-preserved-then-speaks_of
+loop-node-preserved-then-speaks_of g t c =
     let broken = g.R.Rule.broken c.args.rule.now in
     let now = sought broken c.args.reader.now c.args.place.now c.args.nodes.now c.loop-node.found in
-    let next = sought broken c.args.reader.now c.args.place.now c.args.nodes.now c.sooner-found-else-is_scope.result in
+    let next = sought broken c.args.reader.now c.args.place.now c.args.nodes.now c.sooner-found-then-speaks_of.result in
     let whole = sought broken c.args.reader.now c.args.place.now c.args.nodes.now None in
     let p = c.in-Branch.production in
     let is = c.in-Some.ensures ∙ ap (λ n. n ∷ c.in-Some.rest.now) c.in-Branch.is in
@@ -129,9 +129,33 @@ loop-node-preserved-else-is_scope g t c =
     let has = subst (HasParameters i.source c.args.place.now) same i.parameters in
     let fits = bodied_below c.forests_open.ensures c.forests_join.ensures c.derivations_are_forests.ensures i.source p c.in-Branch.count c.loop-node.left.now c.in-Some.rest.now is
     (c.loop-node.invariant.steps.forest, c.loop-node.invariant.steps.is) (c.loop-node.invariant.bodied i.source i.bodied) b e in
-    ap (λ o. sooner o (least (found_in broken i.source i.around (joined b a)))) c.sooner-found-else-is_scope.ensures
+    ap (λ o. sooner o (least (found_in broken i.source i.around (joined b a)))) c.sooner-found-then-speaks_of.ensures
     ∙ into_parts broken i.source i.around c.forests_join.ensures p b a c.loop-node.found c.in_ok-here-in-Branch-2.here plain
     (c.in_ok-here-in-Branch-2.ensures i.source (node_of broken i.source i.around p b) i.reads (record { production-is = refl; below-is = own; place = inner }) (record { fits = fits.0; bodies = fits.1; parameters = has })))
+    is c.loop-node.invariant.steps in
+    record {
+      steps = on;
+      shorter = next_shorter c.loop-node.left.now c.in-Some.rest.now c.args.nodes.now c.in-Some.node c.in-Some.ensures c.loop-node.invariant.shorter;
+      bodied = λ s h.
+          bodied_behind c.forests_open.ensures c.forests_join.ensures c.derivations_are_forests.ensures s p c.in-Branch.count c.loop-node.left.now c.in-Some.rest.now is (c.loop-node.invariant.steps.forest, c.loop-node.invariant.steps.is) (c.loop-node.invariant.bodied s h);
+    }
+
+pub loop-node-preserved-else-speaks_of : goal.loop-node-preserved-else-speaks_of
+loop-node-preserved-else-speaks_of g t c =
+    let broken = g.R.Rule.broken c.args.rule.now in
+    let now = sought broken c.args.reader.now c.args.place.now c.args.nodes.now c.loop-node.found in
+    let whole = sought broken c.args.reader.now c.args.place.now c.args.nodes.now None in
+    let p = c.in-Branch.production in
+    let is = c.in-Some.ensures ∙ ap (λ n. n ∷ c.in-Some.rest.now) c.in-Branch.is in
+    let plain : is_scope p ≡ false = sym c.is_scope.ensures ∙ c.if-is_scope.false in
+    let on : Steps now whole c.args.nodes.now c.in-Some.rest.now =
+    step_into_branch c.forests_open.ensures now now whole c.args.nodes.now c.forests_join.ensures
+    p c.in-Branch.count c.loop-node.left.now c.in-Some.rest.now
+    (λ i b a e.
+    let none : None ≡ least (broken i.source (node_of broken i.source i.around p b)) =
+    c.speaks_of.ensures i.source (node_of broken i.source i.around p b) refl c.if-speaks_of.false in
+    ap (λ o. sooner o (least (found_in broken i.source i.around (joined b a)))) (nothing_more c.loop-node.found)
+    ∙ into_parts broken i.source i.around c.forests_join.ensures p b a c.loop-node.found None plain none)
     is c.loop-node.invariant.steps in
     record {
       steps = on;
