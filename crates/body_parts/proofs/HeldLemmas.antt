@@ -16,7 +16,7 @@ use Rattle.source_reading.proofs.Collecting.{no_forest}
 use Rattle.source_flags.specs.declared.outside.Shut.TheVariants.{Instructions}
 use Rattle.source_flags.proofs.Apart.{is_past, same_outside}
 use Rattle.source_model.specs.Source.{Source}
-use Rattle.body_parts.specs.HeldItems.{AddsTo, IsHeld, holds}
+use Rattle.body_parts.specs.HeldItems.{AddsTo, IsHeld, holds, line_forms, told_forms}
 use Rattle.body_parts.specs.declared.held.Held.{Held}
 
 -- what is known, with what the rest holds, is what the whole holds
@@ -30,6 +30,7 @@ pub record AllSay (x : Held) (rest f : Forest) : Type 0 where
   pub local : Says (LOCAL ∷ []) x.local rest f
   pub init : Says (INIT_OPT_SOME ∷ []) x.init rest f
   pub clause : Says clause_forms x.clause rest f
+  pub lines : Says line_forms x.lines rest f
 
 pub record Walked (nodes left : List TreeNode) (x : Held) : Type 0 where
   pub rest : Forest
@@ -43,6 +44,40 @@ or_or false b c = refl
 or_false : (a : Bool) → (a || false) ≡ a
 or_false true = refl
 or_false false = refl
+
+-- ---- what isn't looked for adds nothing
+
+neither : (a b : Bool) → (a || b) ≡ false → (a ≡ false) × (b ≡ false)
+neither true b e = absurd cc
+neither false b e = (refl, e)
+
+among_neither : (xs ys : List ℕ) (p : ℕ) → is_among (xs ++ ys) p ≡ false → (is_among xs p ≡ false) × (is_among ys p ≡ false)
+among_neither [] ys p e = (refl, e)
+among_neither (x ∷ xs) ys p e =
+    let h = neither (x == p) (is_among (xs ++ ys) p) e in
+    let rest = among_neither xs ys p h.1 in
+    (ap (λ c. c || is_among xs p) h.0 ∙ rest.0, rest.1)
+
+adds_nothing : (a b : Bool) → b ≡ false → a ≡ (a || b)
+adds_nothing a b e = sym (or_false a) ∙ ap (λ c. a || c) (sym e)
+
+pub untold : (x : Held) (p : ℕ) → is_among told_forms p ≡ false → AddsTo x p x
+untold x p e =
+    let h1 = among_neither (OVERRIDDEN_METHOD ∷ OVERRIDDEN_SPEC ∷ []) (ITEM_ENTRYPOINT ∷ ITEM_MAXSTACK ∷ LOCAL ∷ INIT_OPT_SOME ∷ (clause_forms ++ line_forms)) p e in
+    let h2 = among_neither (ITEM_ENTRYPOINT ∷ []) (ITEM_MAXSTACK ∷ LOCAL ∷ INIT_OPT_SOME ∷ (clause_forms ++ line_forms)) p h1.1 in
+    let h3 = among_neither (ITEM_MAXSTACK ∷ []) (LOCAL ∷ INIT_OPT_SOME ∷ (clause_forms ++ line_forms)) p h2.1 in
+    let h4 = among_neither (LOCAL ∷ []) (INIT_OPT_SOME ∷ (clause_forms ++ line_forms)) p h3.1 in
+    let h5 = among_neither (INIT_OPT_SOME ∷ []) (clause_forms ++ line_forms) p h4.1 in
+    let h6 = among_neither clause_forms line_forms p h5.1 in
+    record {
+      overrides = adds_nothing x.overrides _ h1.0;
+      entry = adds_nothing x.entry _ h2.0;
+      bound = adds_nothing x.bound _ h3.0;
+      local = adds_nothing x.local _ h4.0;
+      init = adds_nothing x.init _ h5.0;
+      clause = adds_nothing x.clause _ h6.0;
+      lines = adds_nothing x.lines _ h6.1;
+    }
 
 -- a branch holds what is sought where it is that, or where it stands in it or after it
 branch_holds : ForestsJoin → (sought : List ℕ) (p : ℕ) (b a : Forest) → (p == ITEM_INSTRUCTION) ≡ false
@@ -78,7 +113,7 @@ goes_in joins sought known more p b a f other adds says =
     ∙ ap (λ c. c || holds sought (joined b a)) (sym adds)
 
 module _ (one : OneForest) (opens : ForestOpens) (joins : ForestsJoin) (nodes : List TreeNode) where
-  pub begins : IsForest nodes → Walked nodes nodes (record { overrides = false; entry = false; bound = false; local = false; init = false; clause = false })
+  pub begins : IsForest nodes → Walked nodes nodes (record { overrides = false; entry = false; bound = false; local = false; init = false; clause = false; lines = false })
   begins g = record {
     rest = g.0;
     is = g.1;
@@ -91,6 +126,7 @@ module _ (one : OneForest) (opens : ForestOpens) (joins : ForestsJoin) (nodes : 
           local = ap (holds (LOCAL ∷ [])) same;
           init = ap (holds (INIT_OPT_SOME ∷ [])) same;
           clause = ap (holds clause_forms) same;
+          lines = ap (holds line_forms) same;
         };
   }
 
@@ -103,6 +139,7 @@ module _ (one : OneForest) (opens : ForestOpens) (joins : ForestsJoin) (nodes : 
     local = s.local ∙ ap (λ k. x.local || holds (LOCAL ∷ []) k) e;
     init = s.init ∙ ap (λ k. x.init || holds (INIT_OPT_SOME ∷ []) k) e;
     clause = s.clause ∙ ap (λ k. x.clause || holds clause_forms k) e;
+    lines = s.lines ∙ ap (λ k. x.lines || holds line_forms k) e;
   }
 
   pub past_leaf : (left rest : List TreeNode) (x : Held) (token : ℕ) → left ≡ Leaf token ∷ rest → Walked nodes left x → Walked nodes rest x
@@ -113,7 +150,7 @@ module _ (one : OneForest) (opens : ForestOpens) (joins : ForestsJoin) (nodes : 
         is = b.rest;
         says = λ f whole.
             let s = moved x w.rest (tree.leaf token b.after) f b.is (w.says f whole) in
-            record { overrides = s.overrides; entry = s.entry; bound = s.bound; local = s.local; init = s.init; clause = s.clause };
+            record { overrides = s.overrides; entry = s.entry; bound = s.bound; local = s.local; init = s.init; clause = s.clause; lines = s.lines };
       }
 
   -- nothing that is sought is an instruction, and what stands in one doesn't count
@@ -126,7 +163,7 @@ module _ (one : OneForest) (opens : ForestOpens) (joins : ForestsJoin) (nodes : 
         is = b.rest;
         says = λ f whole.
             let s = moved x w.rest (tree.branch ITEM_INSTRUCTION b.below b.after) f b.is (w.says f whole) in
-            record { overrides = s.overrides; entry = s.entry; bound = s.bound; local = s.local; init = s.init; clause = s.clause };
+            record { overrides = s.overrides; entry = s.entry; bound = s.bound; local = s.local; init = s.init; clause = s.clause; lines = s.lines };
       }
 
   pub into_branch : (left rest : List TreeNode) (x y : Held) (p count : ℕ) → left ≡ Branch p count ∷ rest → (p == ITEM_INSTRUCTION) ≡ false → AddsTo x p y
@@ -145,6 +182,7 @@ module _ (one : OneForest) (opens : ForestOpens) (joins : ForestsJoin) (nodes : 
               local = goes_in joins (LOCAL ∷ []) x.local y.local p b.below b.after f other adds.local s.local;
               init = goes_in joins (INIT_OPT_SOME ∷ []) x.init y.init p b.below b.after f other adds.init s.init;
               clause = goes_in joins clause_forms x.clause y.clause p b.below b.after f other adds.clause s.clause;
+              lines = goes_in joins line_forms x.lines y.lines p b.below b.after f other adds.lines s.lines;
             };
       }
 
@@ -158,6 +196,7 @@ module _ (one : OneForest) (opens : ForestOpens) (joins : ForestsJoin) (nodes : 
         local = sym (s.local ∙ or_false x.local);
         init = sym (s.init ∙ or_false x.init);
         clause = sym (s.clause ∙ or_false x.clause);
+        lines = sym (s.lines ∙ or_false x.lines);
       }
 
 -- ---- what isn't held

@@ -7,6 +7,7 @@ use Rattle.ilasm_grammar.proofs.TableCheck.{ilasm_tables}
 use Rattle.source_flags.specs.declared.outside.Shut.TheVariants.{Instructions}
 use Rattle.source_flags.proofs.Apart.{is_past, mask_of}
 use Rattle.source_model.specs.Clauses.{clause_forms}
+use Rattle.body_parts.specs.HeldItems.{line_forms}
 
 pub local_past : is_past Instructions (LOCAL ∷ []) ≡ true
 unfolding is_past mask_of ilasm_tables has_bit
@@ -27,3 +28,7 @@ bound_past = refl
 pub clauses_past : is_past Instructions clause_forms ≡ true
 unfolding is_past mask_of ilasm_tables has_bit
 clauses_past = refl
+
+pub lines_past : is_past Instructions line_forms ≡ true
+unfolding is_past mask_of ilasm_tables has_bit
+lines_past = refl

@@ -1,6 +1,6 @@
 -- Which items a method has, and what stands in them (ECMA-335 II.15.4.1).
-use Rattle.std.specs.Prelude.{◌≡◌, ◌||◌, ℕ, List, [], ◌∷◌, Bool}
-use Rattle.ilasm_grammar.specs.declared.productions.TheConstants.{INIT_OPT_SOME, ITEM_ENTRYPOINT, ITEM_INSTRUCTION, ITEM_MAXSTACK, LOCAL, OVERRIDDEN_METHOD, OVERRIDDEN_SPEC}
+use Rattle.std.specs.Prelude.{◌≡◌, ◌||◌, ℕ, List, [], ◌∷◌, ◌++◌, Bool}
+use Rattle.ilasm_grammar.specs.declared.productions.TheConstants.{DECL_CUSTOM, INIT_OPT_SOME, ITEM_CUSTOM, ITEM_ENTRYPOINT, ITEM_INSTRUCTION, ITEM_MAXSTACK, LOCAL, MEMBER_CUSTOM, MEMBER_PARAM, OVERRIDDEN_METHOD, OVERRIDDEN_SPEC, PARAM_OF_BRACKET, PARAM_OF_TYPE}
 use Rattle.source_model.specs.Clauses.{clause_forms}
 use Rattle.source_model.specs.Forest.{Forest, is_among, is_any_part, parts_outside}
 use Rattle.body_parts.specs.declared.held.Held.{Held}
@@ -8,6 +8,14 @@ use Rattle.body_parts.specs.declared.held.Held.{Held}
 -- one of these productions stands in a forest, outside of all instructions
 abbrev pub holds : List ℕ → Forest → Bool
 holds sought f = is_any_part (parts_outside (ITEM_INSTRUCTION ∷ []) sought f)
+
+-- what a line of `.param` or an attribute is made of
+abbrev pub line_forms : List ℕ
+line_forms = PARAM_OF_BRACKET ∷ PARAM_OF_TYPE ∷ MEMBER_PARAM ∷ DECL_CUSTOM ∷ MEMBER_CUSTOM ∷ ITEM_CUSTOM ∷ []
+
+-- all that is looked for
+abbrev pub told_forms : List ℕ
+told_forms = OVERRIDDEN_METHOD ∷ OVERRIDDEN_SPEC ∷ ITEM_ENTRYPOINT ∷ ITEM_MAXSTACK ∷ LOCAL ∷ INIT_OPT_SOME ∷ (clause_forms ++ line_forms)
 
 -- what is known of a method is so, from what stands below its production
 pub record IsHeld (x : Held) (f : Forest) : Type 0 where
@@ -17,6 +25,7 @@ pub record IsHeld (x : Held) (f : Forest) : Type 0 where
   pub local : x.local ≡ holds (LOCAL ∷ []) f
   pub init : x.init ≡ holds (INIT_OPT_SOME ∷ []) f
   pub clause : x.clause ≡ holds clause_forms f
+  pub lines : x.lines ≡ holds line_forms f
 
 -- what was known, and what a production is
 pub record AddsTo (x : Held) (p : ℕ) (y : Held) : Type 0 where
@@ -26,3 +35,4 @@ pub record AddsTo (x : Held) (p : ℕ) (y : Held) : Type 0 where
   pub local : y.local ≡ (x.local || is_among (LOCAL ∷ []) p)
   pub init : y.init ≡ (x.init || is_among (INIT_OPT_SOME ∷ []) p)
   pub clause : y.clause ≡ (x.clause || is_among clause_forms p)
+  pub lines : y.lines ≡ (x.lines || is_among line_forms p)

@@ -22,14 +22,14 @@ use crate::body_labels::labels_of;
 use crate::body_places::BodyPlace;
 use crate::held::Held;
 use crate::held_parts::{bound_of, clauses_of, locals_in};
-use crate::instructions::code;
+use crate::instructions::{code, instructions_in};
 use crate::locals::local_types;
 use crate::variables::Variables;
 use assembly_tree::Body;
 use il_base::NoMemory;
 use ilasm_grammar::TreeNode;
 use source_parts::code_places::Code;
-use source_reading::pieces::{Piece, Sought, first_tokens, pieces_of};
+use source_reading::pieces::{Piece, first_tokens};
 use source_reading::place::Place;
 use std::alloc::Global;
 
@@ -46,7 +46,7 @@ pub fn body(
     ensures { (s : Source) (a : Around) (n : Node) → IsAt place.now s a → IsMethod s n → preorder n.below ≡ nodes.now → AllInRange s n.below →
         body_numbers_out_of_range_in s n ≡ [] → IsHeld held n.below → IfOk result (λ b. b ≡ body s a n.below) }
 {
-    let found = pieces_of(alloc, nodes, Sought::Instructions)?;
+    let found = instructions_in(alloc, nodes)?;
     if found.is_empty() {
         return Ok(None);
     }

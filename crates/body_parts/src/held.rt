@@ -2,7 +2,7 @@
 
 ghost use Rattle.std.specs.Prelude.{◌≡◌, ◌∷◌, []};
 ghost use Rattle.ilasm_grammar.specs.declared.productions.TheConstants.{OVERRIDDEN_METHOD, OVERRIDDEN_SPEC};
-ghost use Rattle.body_parts.specs.HeldItems.{AddsTo, IsHeld};
+ghost use Rattle.body_parts.specs.HeldItems.{AddsTo, IsHeld, line_forms, told_forms};
 ghost use Rattle.source_model.specs.Forest.{Forest, is_among, preorder};
 ghost use Rattle.source_reading.specs.Walk.{IsForest};
 
@@ -11,8 +11,8 @@ use ilasm_grammar::{TreeNode, productions};
 use source_model::{derivations_are_forests, forests_join, forests_open};
 use source_reading::walk::next;
 
-/// Whether a method has methods that it overrides, a line that makes it the entry point, a bound of its stack, a local, `init`, and
-/// a clause.
+/// Whether a method has methods that it overrides, a line that makes it the entry point, a bound of its stack, a local, `init`, a
+/// clause, and a line of `.param` or an attribute.
 #[derive(Debug, Clone, Copy, PartialEq, Eq, Drop)]
 pub struct Held {
     pub overrides: bool,
@@ -21,6 +21,7 @@ pub struct Held {
     pub local: bool,
     pub init: bool,
     pub clause: bool,
+    pub lines: bool,
 }
 
 impl Held {
@@ -35,6 +36,7 @@ impl Held {
             local: self.local || production == productions::LOCAL,
             init: self.init || production == productions::INIT_OPT_SOME,
             clause: self.clause || is_clause(production),
+            lines: self.lines || is_line(production),
         }
     }
 }
@@ -45,6 +47,46 @@ fn is_override(production: u16) -> bool
     matches!(
         production,
         productions::OVERRIDDEN_METHOD | productions::OVERRIDDEN_SPEC
+    )
+}
+
+// Whether a production is a line of `.param` or an attribute.
+fn is_line(production: u16) -> bool
+    ensures { result ≡ is_among line_forms production }
+{
+    matches!(
+        production,
+        productions::PARAM_OF_BRACKET
+            | productions::PARAM_OF_TYPE
+            | productions::MEMBER_PARAM
+            | productions::DECL_CUSTOM
+            | productions::MEMBER_CUSTOM
+            | productions::ITEM_CUSTOM
+    )
+}
+
+// Whether a production is one of those that are looked for. Most aren't.
+fn is_told(production: u16) -> bool
+    ensures { result ≡ is_among told_forms production }
+{
+    matches!(
+        production,
+        productions::OVERRIDDEN_METHOD
+            | productions::OVERRIDDEN_SPEC
+            | productions::ITEM_ENTRYPOINT
+            | productions::ITEM_MAXSTACK
+            | productions::LOCAL
+            | productions::INIT_OPT_SOME
+            | productions::CLAUSE_CATCH
+            | productions::CLAUSE_FILTER
+            | productions::CLAUSE_FINALLY
+            | productions::CLAUSE_FAULT
+            | productions::PARAM_OF_BRACKET
+            | productions::PARAM_OF_TYPE
+            | productions::MEMBER_PARAM
+            | productions::DECL_CUSTOM
+            | productions::MEMBER_CUSTOM
+            | productions::ITEM_CUSTOM
     )
 }
 
@@ -63,6 +105,7 @@ pub fn held_in(nodes: &[TreeNode]) -> Held
         local: false,
         init: false,
         clause: false,
+        lines: false,
     };
     let mut left = nodes;
     while let Some((node, rest)) = next(left) {
@@ -74,8 +117,10 @@ pub fn held_in(nodes: &[TreeNode]) -> Held
                 if production == productions::ITEM_INSTRUCTION {
                     let (_, after) = rest.split_at(count as usize);
                     left = after;
-                } else {
+                } else if is_told(production) {
                     held = held.with(production);
+                    left = rest;
+                } else {
                     left = rest;
                 }
             }
