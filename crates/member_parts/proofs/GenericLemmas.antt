@@ -31,6 +31,15 @@ same_generic s a f customs name flags bounds n g b =
     ap (λ x. made x flags bounds customs) n ∙ ap (λ x. made (name_text s (leaf_at 0 f)) x bounds customs) g
     ∙ ap (λ x. made (name_text s (leaf_at 0 f)) (typar_flags s f) x customs) b
 
+-- ---- none
+
+nothing_mapped : {X Y : Type 0} (g : X → Y) (xs : List X) → length (map g xs) ≡ 0 → xs ≡ []
+nothing_mapped g [] e = refl
+nothing_mapped g (x ∷ xs) e = absurd (omega (arith, e))
+
+pub no_typars : (s : Source) (f : Forest) → length (typar_names s f) ≡ 0 → typars f ≡ []
+no_typars s f e = nothing_mapped (λ g. name_text s (leaf_at 0 g)) (typars f) e
+
 -- ---- those that are left
 
 pub record Remaining (want : ℕ → List Attribute) (n i : ℕ) (bs : List (List Attribute)) : Type 0 where

@@ -150,6 +150,11 @@ pub record RowsRead (s : Source) (a : Around) (f : Forest) (number i : ℕ) (all
   pub number-is : number ≡ i
   pub same : all ≡ the_rows s a f (0, tree.none) ++ flat_map (the_rows s a f) (take i (enumerate_from 1 (parameters f)))
 
+-- the same where no line speaks of any
+pub record BareRead (s : Source) (a : Around) (f : Forest) (number i : ℕ) (all : List Param) : Type 0 where
+  pub number-is : number ≡ i
+  pub same : all ≡ flat_map (rows_of s a []) (take i (enumerate_from 1 (parameters f)))
+
 -- within a list, what stands for nothing doesn't count
 pub within : (bs : List (List NumberedLine)) (k : ℕ) (d : List NumberedLine) → k < length bs → slice_index_or bs k d ≡ slice_index_or bs k []
 within [] k d low = absurd (omega (arith, low))

@@ -43,6 +43,9 @@ pub fn generics(
         names.now ≡ typar_names s f → length names.now < 2 ^ 32 → ArePieces nodes.now found.now ps → AllByRecursion (IsRangedItem s) ps →
         IfOk result (λ all. all ≡ generics s a f (runs ps)) }
 {
+    if names.len() == 0 {
+        return Ok(Items::new(alloc));
+    }
     let mut given = line_attributes(alloc, place, names, nodes, found)?;
     let below = child(nodes, TYPARS_OPT_SOME);
     let typars = parts_of(alloc, below, Kind::One(TYPAR))?;

@@ -1,6 +1,6 @@
 //! The rows of a method's parameters (ECMA-335 II.15.4, II.15.4.1.4, II.22.33).
 
-ghost use Rattle.std.specs.Prelude.{◌≡◌, ◌<◌, ◌^◌, ◌++◌, ◌||◌, None, IfOk, List, fold, length};
+ghost use Rattle.std.specs.Prelude.{◌≡◌, ◌<◌, ◌^◌, ◌++◌, ◌||◌, [], None, IfOk, List, fold, length};
 ghost use Rattle.std.specs.List.{AllByRecursion};
 ghost use Rattle.member_parts.specs.NumberedLines.{AreLines, AreRuns, IsLine, IsRun};
 ghost use Rattle.member_parts.specs.Parameters.{IsParameter, row_with};
@@ -69,6 +69,28 @@ pub fn params(
             number,
             nodes_of(below, *parameter),
         )?;
+    }
+    Ok(all)
+}
+
+/// The same of a method without lines that speak of parameters, from what stands below its production.
+pub fn params_without_lines(
+    alloc: Global,
+    place: &Place,
+    nodes: &[TreeNode],
+) -> Result<Params, NoMemory>
+    requires forest { IsForest nodes.now }
+    requires few { length nodes.now < 2 ^ 32 }
+    ensures { (s : Source) (a : Around) → IsAt place.now s a → (f : Forest) → preorder f ≡ nodes.now → AllInRange s f → IfOk result (λ all. all ≡ params s a f []) }
+{
+    let below = child(nodes, DEF_ARGS_OPT_SOME);
+    let parameters = parts_of(alloc, below, Kind::One(DEF_ARG))?;
+    let mut all = Items::new(alloc);
+    let mut number: u16 = 0;
+    for parameter in parameters.as_slice() {
+        number = number.saturating_add(1);
+        let of = nodes_of(below, *parameter);
+        add_row(&mut all, alloc, place, nodes, &[], number, of)?;
     }
     Ok(all)
 }

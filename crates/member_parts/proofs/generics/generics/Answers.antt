@@ -1,4 +1,4 @@
-use Rattle.std.proofs.Common.{ℕ, List, ◌≤◌, ◌<◌, [], ◌∷◌, ◌++◌, length, map, ap, sym, subst, ◌∙◌, arith}
+use Rattle.std.proofs.Common.{◌≡◌, ℕ, List, ◌≤◌, ◌<◌, [], ◌∷◌, ◌++◌, length, map, ap, sym, subst, ◌∙◌, arith}
 use Rattle.std.specs.Prelude.{filter}
 use Rattle.std.specs.List.{enumerate_from}
 use Rattle.std.proofs.lemmas.List.{take_all}
@@ -16,7 +16,7 @@ use Rattle.source_reading.proofs.ReferenceLemmas.{of_child}
 use Rattle.source_parts.proofs.KeyLemmas.{only}
 use Rattle.member_parts.specs.Generics.{generic_with}
 use Rattle.member_parts.specs.ParamLines.{given}
-use Rattle.member_parts.proofs.GenericLemmas.{Remaining, all_remain, last_is, less_remain, many_names, many_typars, numbered_at, typar_parts}
+use Rattle.member_parts.proofs.GenericLemmas.{Remaining, all_remain, last_is, less_remain, many_names, many_typars, no_typars, numbered_at, typar_parts}
 use Rattle.member_parts.proofs.generics.generics.Goals as goal
 
 pub generic-requires : goal.generic-requires
@@ -74,3 +74,9 @@ returns c s a x f ps e h names few are each =
     let over : length (enumerate_from 0 (typars f)) ≤ c.loop-typar.typar-index = (let n = many_typars f in omega (arith, n, many, c.loop-typar-test.false)) in
     (c.loop-typar.invariant s a x f ps e h names few are each).same
     ∙ ap (map (params.generic s a (typar_names s f) (filter params.speaks_of_typar (runs ps)))) (take_all c.loop-typar.typar-index (enumerate_from 0 (typars f)) over)
+
+pub returns-then-len-eq0 : goal.returns-then-len-eq0
+returns-then-len-eq0 c s a x f ps e h names few are each =
+    let nothing : length (typar_names s f) ≡ 0 = ap length (sym names) ∙ sym c.len.ensures ∙ c.if-len-eq0.true in
+    c.new.ensures
+    ∙ sym (ap (λ fs. map (params.generic s a (typar_names s f) (filter params.speaks_of_typar (runs ps))) (enumerate_from 0 fs)) (no_typars s f nothing))
