@@ -1,7 +1,7 @@
 //! The generic parameters, parameters, overrides and attributes of a method (ECMA-335 II.10.3.2, II.15.4.1, II.21).
 
 ghost use Rattle.std.specs.Prelude.{◌≡◌, ◌<◌, ◌^◌, ◌∷◌, [], IfOk, length, map};
-ghost use Rattle.body_parts.specs.HeldItems.{IsHeld};
+ghost use Rattle.body_parts.specs.HeldItems.{IsHeld, line_forms};
 ghost use Rattle.ilasm_grammar.specs.declared.productions.TheConstants.{OVERRIDDEN_METHOD, OVERRIDDEN_SPEC};
 ghost use Rattle.method_parts.specs.MethodParts.{AreRows};
 ghost use Rattle.source_flags.specs.InRange.{AllInRange};
@@ -21,7 +21,7 @@ use il_base::{Items, NoMemory};
 use ilasm_grammar::TreeNode;
 use member_parts::generics::generics;
 use member_parts::item_walks::items_and_ends;
-use member_parts::params::params;
+use member_parts::params::{params, params_without_lines};
 use source_parts::attributes::attributes;
 use source_parts::overrides::overrides;
 use source_parts::runs::own_customs;
@@ -51,6 +51,25 @@ pub fn read_rows(
     ensures { (s : Source) (a : Around) → IsAt place.now s a → (f : Forest) → a.method ≡ f → preorder f ≡ nodes.now → AllInRange s f → IsHeld held f →
         IfOk result (λ x. AreRows s a f x) }
 {
+    if held.lines {
+        rows_with_lines(alloc, place, nodes, held)
+    } else {
+        rows_without_lines(alloc, place, nodes, held)
+    }
+}
+
+// The same of a method that has lines of `.param` or attributes.
+fn rows_with_lines(
+    alloc: Global,
+    place: &Place,
+    nodes: &[TreeNode],
+    held: Held,
+) -> Result<Rows, NoMemory>
+    requires forest { IsForest nodes.now }
+    requires few { length nodes.now < 2 ^ 32 }
+    ensures { (s : Source) (a : Around) → IsAt place.now s a → (f : Forest) → a.method ≡ f → preorder f ≡ nodes.now → AllInRange s f → IsHeld held f →
+        IfOk result (λ x. AreRows s a f x) }
+{
     let found = items_and_ends(alloc, nodes)?;
     let generics = generics(alloc, place, place.method, nodes, found.as_slice())?;
     let params = params(alloc, place, nodes, found.as_slice())?;
@@ -61,6 +80,29 @@ pub fn read_rows(
         params,
         overrides,
         attributes,
+    })
+}
+
+// The same of a method that has none.
+fn rows_without_lines(
+    alloc: Global,
+    place: &Place,
+    nodes: &[TreeNode],
+    held: Held,
+) -> Result<Rows, NoMemory>
+    requires forest { IsForest nodes.now }
+    requires few { length nodes.now < 2 ^ 32 }
+    ensures { (s : Source) (a : Around) → IsAt place.now s a → (f : Forest) → a.method ≡ f → preorder f ≡ nodes.now → AllInRange s f → IsHeld held f →
+        parts line_forms f ≡ [] → IfOk result (λ x. AreRows s a f x) }
+{
+    let generics = generics(alloc, place, place.method, nodes, &[])?;
+    let params = params_without_lines(alloc, place, nodes)?;
+    let overrides = overrides_of(alloc, place, nodes, held)?;
+    Ok(Rows {
+        generics,
+        params,
+        overrides,
+        attributes: Items::new(alloc),
     })
 }
 
