@@ -3,6 +3,7 @@ pub mod ClauseLemmas
 pub mod FormLemmas
 pub mod HeldLemmas
 pub mod InstructionLemmas
+pub mod LineWalks
 pub mod NamedLemmas
 pub mod NumberLemmas
 pub mod Numbering

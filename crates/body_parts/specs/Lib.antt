@@ -1,3 +1,4 @@
+pub mod BodyLines
 pub mod BodyPlaces
 pub mod ClauseNodes
 pub mod HeldItems

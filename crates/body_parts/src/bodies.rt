@@ -5,7 +5,7 @@ ghost use Rattle.ilasm_grammar.specs.declared.productions.TheConstants.{LOCAL};
 ghost use Rattle.source_model.specs.Bodies.{body, body_unless_empty, code};
 ghost use Rattle.source_model.specs.BodyNumbers.{body_numbers_out_of_range_in};
 ghost use Rattle.source_model.specs.Forest.{Forest, parts, preorder};
-ghost use Rattle.source_model.specs.Instructions.{instructions_of};
+ghost use Rattle.source_model.specs.Instructions.{instructions_of, labels};
 ghost use Rattle.source_model.specs.Nodes.{Around, Node};
 ghost use Rattle.source_model.specs.Source.{Source};
 ghost use Rattle.source_flags.specs.InRange.{AllInRange};
@@ -19,10 +19,11 @@ ghost use Rattle.body_parts.specs.MethodsInRange.{IsMethodInRange};
 ghost use Rattle.body_parts.specs.WholeBodies.{IsBodyOf};
 
 use crate::body_labels::labels_of;
+use crate::body_lines::lines_in;
 use crate::body_places::BodyPlace;
 use crate::held::Held;
 use crate::held_parts::{bound_of, clauses_of, locals_in};
-use crate::instructions::{code, instructions_in};
+use crate::instructions::code;
 use crate::locals::local_types;
 use crate::variables::Variables;
 use assembly_tree::Body;
@@ -46,30 +47,32 @@ pub fn body(
     ensures { (s : Source) (a : Around) (n : Node) → IsAt place.now s a → IsMethod s n → preorder n.below ≡ nodes.now → AllInRange s n.below →
         body_numbers_out_of_range_in s n ≡ [] → IsHeld held n.below → IfOk result (λ b. b ≡ body s a n.below) }
 {
-    let found = instructions_in(alloc, nodes)?;
-    if found.is_empty() {
+    let lines = lines_in(alloc, nodes)?;
+    if lines.instructions.is_empty() {
         return Ok(None);
     }
-    let one = body_with(alloc, place, nodes, found.as_slice(), held)?;
+    let found = lines.instructions.as_slice();
+    let one = body_with(alloc, place, nodes, found, lines.labels.as_slice(), held)?;
     Ok(Some(one))
 }
 
-// The body of a method that has these instructions.
+// The body of a method that has these instructions, and labels with these names.
 fn body_with(
     alloc: Global,
     place: &Place,
     nodes: &[TreeNode],
     found: &[Piece],
+    names: &[u32],
     held: Held,
 ) -> Result<Body, NoMemory>
     requires forest { IsForest nodes.now }
     requires parts { AreParts nodes.now found.now }
     requires few { length nodes.now < 2 ^ 32 }
     ensures { (s : Source) (a : Around) (f : Forest) → IsAt place.now s a → preorder f ≡ nodes.now → IsMethodInRange s f →
-        ArePieces nodes.now found.now (instructions_of f) → IsHeld held f → IfOk result (λ b. IsBodyOf s a f b) }
+        ArePieces nodes.now found.now (instructions_of f) → names.now ≡ labels f → IsHeld held f → IfOk result (λ b. IsBodyOf s a f b) }
 {
     let starts = first_tokens(alloc, nodes, found)?;
-    let labels = labels_of(alloc, &place.reader, nodes, starts.as_slice())?;
+    let labels = labels_of(alloc, &place.reader, names, starts.as_slice())?;
     let locals = locals_in(alloc, nodes, held)?;
     let variables = Variables::read(alloc, &place.reader, nodes, locals.as_slice())?;
     let at = BodyPlace {

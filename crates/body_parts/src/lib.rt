@@ -4,6 +4,7 @@
 
 pub mod bodies;
 pub mod body_labels;
+pub mod body_lines;
 pub mod body_places;
 pub mod clause_ranges;
 pub mod clauses;

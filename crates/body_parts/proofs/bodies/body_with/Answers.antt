@@ -18,7 +18,7 @@ pub body_at-requires-clause-locals : goal.body_at-requires-clause-locals
 body_at-requires-clause-locals c = subst (AreParts c.args.nodes.now) (sym c.as_slice-4.ensures) c.in_ok-locals.ensures.pieces
 
 pub returns : goal.returns
-returns c s a f x e h are held =
+returns c s a f x e h are names held =
     let n : Node = record { production = METHOD; below = f; around = a } in
     let m = h.derived in
     let ps = instructions_of f in
@@ -30,7 +30,7 @@ returns c s a f x e h are held =
       at = x;
       code = record {
         reads = x.reads;
-        labels-are = c.in_ok-labels.ensures s n x.reads m e (c.as_slice.ensures ∙ c.in_ok-starts.ensures ps are);
+        labels-are = c.in_ok-labels.ensures s n x.reads m names (c.as_slice.ensures ∙ c.in_ok-starts.ensures ps are);
         starts-are = starts;
         rising = subst IsNonDecreasing (sym starts) (starts_never_fall f m.first m.count m.in-order (instructions_have_tokens s f m.bodies));
         few = few;

@@ -9,14 +9,11 @@ use Rattle.source_reading.proofs.OrderLemmas.{numbers_are, starts_never_fall}
 use Rattle.body_parts.proofs.body_labels.labels_of.Goals as goal
 
 pub returns : goal.returns
-returns c s n r m e starts =
+returns c s n r m tokens starts =
     let f = n.below in
-    let tokens = c.in_ok-tokens.ensures s f e m.bodies in
-    let once = c.as_slice.ensures ∙ tokens in
-    let again = c.as_slice-2.ensures ∙ tokens in
     let sorted =
     subst IsNonDecreasing (sym starts) (starts_never_fall f m.first m.count m.in-order (instructions_have_tokens s f m.bodies)) in
     record {
-      names-are = c.in_ok-names.ensures s r (subst (AreNames s) (sym once) (labels_are_names s f m.bodies)) ∙ ap (map (name_text s)) once;
-      numbers-are = c.in_ok-numbers.ensures sorted ∙ numbers_are f c.args.starts.now c.as_slice-2.result.now starts ∙ ap (map (number_at f)) again;
+      names-are = c.in_ok-names.ensures s r (subst (AreNames s) (sym tokens) (labels_are_names s f m.bodies)) ∙ ap (map (name_text s)) tokens;
+      numbers-are = c.in_ok-numbers.ensures sorted ∙ numbers_are f c.args.starts.now c.args.tokens.now starts ∙ ap (map (number_at f)) tokens;
     }
