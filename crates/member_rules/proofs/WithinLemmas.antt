@@ -3,7 +3,7 @@ use Rattle.std.proofs.Common.{◌≡◌, ℕ, ◌+◌, List, [], ◌∷◌, ◌+
 use Rattle.std.specs.Prelude.{Bool, true, false, ◌==◌, if◌then◌else◌, min}
 use Rattle.std.proofs.lemmas.List.{take-append-drop}
 use Rattle.type_terms.specs.declared.name.TypeId.{TypeId}
-use Rattle.ilasm_grammar.specs.declared.productions.TheConstants.{CLASS}
+use Rattle.ilasm_grammar.specs.declared.productions.TheConstants.{CLASS, METHOD}
 use Rattle.ilasm_grammar.specs.declared.tree.TreeNode.{TreeNode}
 use Rattle.ilasm_grammar.specs.declared.tree.TreeNode.TheVariants.{Branch, Leaf}
 use Rattle.source_model.specs.DeclaredTwice.{members_twice_in}
@@ -17,6 +17,7 @@ use Rattle.source_reading.specs.Least.{least, sooner}
 use Rattle.source_reading.proofs.Collecting.{no_forest, of_joined}
 use Rattle.source_reading.proofs.LeastLemmas.{least_append, sooner_assoc}
 use Rattle.source_rules.specs.DeclaredClasses.{inner_path}
+use Rattle.source_rules.proofs.Classless.{Classless, method_classless}
 use Rattle.member_rules.specs.MemberKinds.{class_around, twice_within}
 
 pub inner_deeper : (s : Source) (path : List TypeId) (b : Forest) (depth inner : ℕ) → ((n : ℕ) → depth ≡ min n 101 → inner ≡ min (n + 1) 101) → depth ≡ min (length path) 101
@@ -42,6 +43,12 @@ module _ (s : Source) (path : List TypeId) where
   within_class p b a e =
       ap (λ (c : Bool). (if c then members_twice_in s (class_around s path b) (members b) ++ twice_within s (inner_path s path b) b else twice_within s path b)
       ++ twice_within s path a) e
+
+  within_none : (f : Forest) → Classless f → twice_within s path f ≡ []
+  within_none tree.none h = refl
+  within_none (tree.leaf k a) h = within_none a h
+  within_none (tree.branch p b a) h =
+      within_other p b a h.0 ∙ within_joined b a ∙ ap (λ ks. ks ++ twice_within s path a) (within_none b h.1) ∙ within_none a h.2
 
   -- so far this was found: with what the rest has it is the least of the whole
   pub record Walked (f : Forest) (left : List TreeNode) (found : Option ℕ) : Type 0 where
@@ -84,6 +91,17 @@ module _ (s : Source) (path : List TypeId) where
             same = ap (λ ks. sooner found (least ks)) (sym (within_other p b.below b.after other))
                 ∙ ap (λ (g : Forest). sooner found (least (twice_within s path g))) (sym b.is) ∙ w.same;
           }
+
+      pub walked_method : p ≡ METHOD → Walked f (drop count rest) found
+      walked_method method =
+          let b = opens.branch w.rest p count rest (w.is ∙ e) in
+          let h = subst (HasBodies s) b.is w.bodies in
+          let other : (p == CLASS) ≡ false = ap (λ q. q == CLASS) method in
+          let nothing : twice_within s path b.below ≡ [] = within_none b.below (method_classless s p b.below method h.0 h.1) in
+          let same : twice_within s path b.after ≡ twice_within s path w.rest =
+          ap (λ ks. ks ++ twice_within s path b.after) (sym nothing) ∙ sym (within_joined b.below b.after) ∙ sym (within_other p b.below b.after other)
+          ∙ ap (twice_within s path) (sym b.is) in
+          record { rest = b.after; is = b.rest; bodies = h.2; same = ap (λ ks. sooner found (least ks)) same ∙ w.same }
 
       pub walked_class : (here within more : Option ℕ) → (p == CLASS) ≡ true → more ≡ sooner found (sooner here within)
           → ((b : Forest) → preorder b ≡ take count rest → HasBodies s b → (here ≡ least (members_twice_in s (class_around s path b) (members b))) × (within ≡ least (twice_within s (inner_path s path b) b)))

@@ -68,7 +68,7 @@ pub fn member_twice<R: Rule>(
 }
 
 impl<'a, R: Rule> Signatures<'a, R> {
-    // The same among the classes of a forest that stands in so many classes, counted up to 101.
+    // The same among the classes of a forest that stands in so many classes, counted up to 101. Below methods none stand.
     fn again_within(
         &self,
         alloc: Global,
@@ -92,11 +92,13 @@ impl<'a, R: Rule> Signatures<'a, R> {
                     production,
                     nodes: count,
                 } => {
+                    let (below, after) = rest.split_at(count as usize);
                     if production == productions::CLASS {
-                        let (below, after) = rest.split_at(count as usize);
                         let here = self.again_in_class(alloc, reader, inner, below)?;
                         let within = self.again_within(alloc, reader, inner, below)?;
                         found = sooner(found, sooner(here, within));
+                        left = after;
+                    } else if production == productions::METHOD {
                         left = after;
                     } else {
                         left = rest;

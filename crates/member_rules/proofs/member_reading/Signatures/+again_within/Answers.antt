@@ -6,7 +6,7 @@ use Rattle.source_reading.specs.Walk.{IsForest}
 use Rattle.source_rules.specs.DeclaredClasses.{inner_path}
 use Rattle.rule_steps.proofs.AskingLemmas.{below_shorter, next_shorter, rest_shorter}
 use Rattle.source_rules.proofs.ClassWalks.{forest_behind}
-use Rattle.member_rules.proofs.WithinLemmas.{Walked, inner_deeper, walked_class, walked_end, walked_leaf, walked_other, walked_start}
+use Rattle.member_rules.proofs.WithinLemmas.{Walked, inner_deeper, walked_class, walked_end, walked_leaf, walked_method, walked_other, walked_start}
 use Rattle.member_rules.proofs.member_reading.Signatures.+again_within.Goals as goal
 
 pub loop-node-init : goal.loop-node-init
@@ -53,8 +53,8 @@ loop-node-preserved g t c =
           c.in-Leaf.token is;
     }
 
-pub loop-node-preserved-else-production-eq-CLASS : goal.loop-node-preserved-else-production-eq-CLASS
-loop-node-preserved-else-production-eq-CLASS g t c =
+pub loop-node-preserved-else-production-eq-METHOD : goal.loop-node-preserved-else-production-eq-METHOD
+loop-node-preserved-else-production-eq-METHOD g t c =
     let p = c.in-Branch.production in
     let is = c.in-Some.ensures ∙ ap (λ n. n ∷ c.in-Some.rest.now) c.in-Branch.is in
     let other : (p == CLASS) ≡ false = grind arith in
@@ -64,6 +64,24 @@ loop-node-preserved-else-production-eq-CLASS g t c =
       so_far = λ s path f v r d e h.
           walked_other s path c.forests_open.ensures f c.loop-node.left.now c.in-Some.rest.now c.loop-node.found (c.loop-node.invariant.so_far s path f v r d e h)
           p c.in-Branch.count is c.forests_join.ensures other;
+    }
+
+pub loop-node-preserved-then-production-eq-METHOD : goal.loop-node-preserved-then-production-eq-METHOD
+loop-node-preserved-then-production-eq-METHOD g t c =
+    let p = c.in-Branch.production in
+    let count = c.in-Branch.count in
+    let left = c.loop-node.left.now in
+    let rest = c.in-Some.rest.now in
+    let is = c.in-Some.ensures ∙ ap (λ n. n ∷ rest) c.in-Branch.is in
+    let f = c.loop-node.invariant.forest in
+    let b = c.forests_open.ensures.branch f.0 p count rest (f.1 ∙ is) in
+    record {
+      forest = (b.after, b.rest ∙ sym c.split_at.ensures.back);
+      shorter = rest_shorter p count left rest c.args.nodes.now c.split_at.result.1.now is c.split_at.ensures.back c.loop-node.invariant.shorter;
+      so_far = λ s path f' v r d e h.
+          subst (λ ns. Walked s path f' ns c.loop-node.found) (sym c.split_at.ensures.back)
+          (walked_method s path c.forests_open.ensures f' left rest c.loop-node.found (c.loop-node.invariant.so_far s path f' v r d e h) p count is
+          c.if-production-eq-METHOD.true);
     }
 
 pub loop-node-preserved-then-production-eq-CLASS : goal.loop-node-preserved-then-production-eq-CLASS
