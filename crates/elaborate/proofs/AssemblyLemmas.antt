@@ -11,17 +11,16 @@ use Rattle.source_model.specs.Classes.{assembly, classes_in}
 use Rattle.source_model.specs.Forest.{Forest, preorder}
 use Rattle.source_model.specs.Items.{declarations}
 use Rattle.source_model.specs.Manifests.{extern_assemblies, extern_assembly, manifest}
-use Rattle.source_model.specs.Names.{extern_key, externs}
+use Rattle.source_model.specs.Names.{extern_key, externs, key_token}
 use Rattle.source_model.specs.Nodes.{nothing_around}
 use Rattle.source_model.specs.Source.{Source}
 use Rattle.source_model.specs.Values.{name_text}
 use Rattle.source_flags.specs.Lines.{productions_of}
 use Rattle.source_flags.specs.declared.gathering.Kind.TheVariants.{Declarations}
 use Rattle.source_flags.proofs.Gathered.{IsSought, all_follow, of_parts}
-use Rattle.source_reading.specs.Namings.{AreNames, tokens_named}
+use Rattle.source_reading.specs.Namings.{tokens_named}
 use Rattle.source_reading.specs.Places.{IsAt}
 use Rattle.source_reading.specs.Readers.{Reads}
-use Rattle.source_reading.specs.declared.name_lists.Named.{Named}
 use Rattle.source_reading.specs.declared.name_lists.Naming.TheVariants as naming
 use Rattle.source_reading.specs.declared.place.Place.{Place}
 use Rattle.source_reading.proofs.SizeLemmas.{few_each}
@@ -29,9 +28,13 @@ use Rattle.elaborate.specs.ClassParts.{AreGlobals}
 use Rattle.elaborate.specs.WholeParts.{AllWhole, IsWhole, IsWholePart}
 use Rattle.elaborate.specs.declared.assemblies.Globals.{Globals}
 
-keys_as : (s : Source) (fs : List Forest) → map (name_text s) (flat_map (tokens_named naming.Assembly) fs) ≡ map (extern_key s) fs
-keys_as s [] = refl
-keys_as s (f ∷ fs) = ap (λ ks. extern_key s f ∷ ks) (keys_as s fs)
+pub key_tokens_are : (fs : List Forest) → flat_map (tokens_named naming.Assembly) fs ≡ map key_token fs
+key_tokens_are [] = refl
+key_tokens_are (f ∷ fs) = ap (λ ks. key_token f ∷ ks) (key_tokens_are fs)
+
+pub keys_are : (s : Source) (fs : List Forest) → map (name_text s) (map key_token fs) ≡ map (extern_key s) fs
+keys_are s [] = refl
+keys_are s (f ∷ fs) = ap (λ ks. extern_key s f ∷ ks) (keys_are s fs)
 
 few_externs : (s : Source) (n : ℕ) → length (preorder s.tree) ≡ n → n < 2 ^ 32 → length (externs s) < 2 ^ 32
 few_externs s n e few = omega (arith, few_each ASSEMBLY_EXTERN s.tree, e, few)
@@ -40,11 +43,11 @@ pub few_assemblies : (s : Source) (all : List ExternAssembly) → all ≡ extern
 few_assemblies s all e few = omega (arith, ap length e, length-map (externs s) (extern_assembly s), few)
 
 -- a place outside of all classes
-pub at_outside : (x : Place) (named : Named) (s : Source) (n : ℕ) → Reads x.reader s → AreNames s naming.Assembly named → x.keys.now ≡ named.names
+pub at_outside : (x : Place) (s : Source) (n : ℕ) → Reads x.reader s → x.keys.now ≡ map (extern_key s) (externs s)
     → x.class.now ≡ [] → x.method.now ≡ [] → length (preorder s.tree) ≡ n → n < 2 ^ 32 → IsAt x s nothing_around
-at_outside x named s n r are keys class method e few = record {
+at_outside x s n r keys class method e few = record {
   reads = r;
-  keys = keys ∙ are.texts ∙ keys_as s (externs s);
+  keys = keys;
   few = few_externs s n e few;
   class = class;
   method = method;

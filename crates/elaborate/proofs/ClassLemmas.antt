@@ -1,23 +1,26 @@
 -- Classes, from their parts.
 use Rattle.std.proofs.Common.{◌≡◌, ℕ, suc, ◌<◌, ◌≤◌, ◌^◌, List, [], ◌∷◌, ◌++◌, Some, length, map, refl, ap, sym, subst, ◌∙◌, arith}
-use Rattle.std.specs.Prelude.{Bool, true, false, filter, slice_get, if◌then◌else◌}
-use Rattle.std.specs.List.{AllByRecursion}
+use Rattle.std.specs.Prelude.{Bool, true, false, ◌==◌, ◌||◌, filter, slice_get, if◌then◌else◌}
+use Rattle.std.specs.List.{AllByRecursion, list_any}
 use Rattle.std.proofs.lemmas.List.{length-map}
 use Rattle.assembly_tree.specs.declared.typedef.TypeDef.{TypeDef}
 use Rattle.assembly_tree.specs.declared.typedef.TypeDef.TheViews.{roll-TypeDef}
 use Rattle.ilasm_grammar.specs.Ilasm.{ilasm, rule_by}
-use Rattle.ilasm_grammar.specs.declared.productions.TheConstants.{CLASS, METHOD, TYPARS_OPT_SOME, TYPAR}
+use Rattle.ilasm_grammar.specs.declared.productions.TheConstants.{CLASS, EVENT, MEMBER_EVENT, MEMBER_PROPERTY, METHOD, PROPERTY, TYPARS_OPT_SOME, TYPAR}
+use Rattle.ilasm_grammar.specs.declared.tree.TreeNode.{TreeNode}
 use Rattle.ilasm_grammar.specs.declared.terminals.TheConstants as t
 use Rattle.type_terms.specs.declared.name.TypeId.{TypeId}
 use Rattle.source_model.specs.Classes.{class_from}
 use Rattle.source_model.specs.Forest.{Forest, Part, child, preorder}
 use Rattle.source_model.specs.Items.{members}
-use Rattle.source_model.specs.Members.{is_method_part, method, method_forests}
+use Rattle.source_model.specs.Members.{events_in, is_method_part, method, method_forests, properties_in}
 use Rattle.source_model.specs.Nodes.{Around, typar_names, typars}
 use Rattle.source_model.specs.Source.{Source}
 use Rattle.source_model.specs.Values.{name_text}
 use Rattle.source_model.specs.Forest as tree
+use Rattle.source_reading.specs.Pieces.{ArePieces, piece_of, written}
 use Rattle.source_reading.specs.Places.{IsAt}
+use Rattle.source_reading.specs.declared.pieces.Piece.{Piece}
 use Rattle.source_reading.specs.Readers.{Reads}
 use Rattle.source_reading.specs.declared.place.Place.{Place}
 use Rattle.source_reading.proofs.NameTokens.{terminals_of_rule}
@@ -30,7 +33,7 @@ use Rattle.source_flags.proofs.Gathered.{IsSought, all_follow, of_parts}
 use Rattle.member_parts.specs.Ranged.{IsRanged}
 use Rattle.member_parts.specs.SignedMethods.{declared, signed}
 use Rattle.elaborate.specs.Bases.{is_outside}
-use Rattle.elaborate.specs.ClassParts.{AreMembers, IsHead, IsKnown, inner}
+use Rattle.elaborate.specs.ClassParts.{AreMembers, IsHead, IsKnown, inner, is_accessed}
 use Rattle.elaborate.specs.declared.classes.Known.{Known}
 use Rattle.elaborate.specs.WholeParts.{AllWhole, IsWhole, IsWholePart}
 use Rattle.elaborate.specs.declared.class_heads.Head.{Head}
@@ -70,6 +73,33 @@ all_ranged s (tree.branch p b a) h = (h.0.0, all_ranged s b h.1, all_ranged s a 
 pub members_whole : (s : Source) (f : Forest) → AllWhole s f → AllByRecursion (IsWholePart s) (members f)
 members_whole s f each =
     all_follow (IsSought (IsWhole s) (productions_of Members)) (IsWholePart s) (members f) (λ p g. (g.1, g.2)) (of_parts (IsWhole s) (productions_of Members) f each)
+
+-- ---- its properties and events
+
+neither : (a b : Bool) → (a || b) ≡ false → (a ≡ false) × (b ≡ false)
+neither true b e = absurd cc
+neither false b e = (refl, e)
+
+-- where none was found there is none
+pub none_accessed : (nodes : List TreeNode) (found : List Piece) (ps : List Part) → ArePieces nodes found ps → list_any (λ (x : Piece). is_accessed x.production) found ≡ false
+    → (properties_in ps ≡ []) × (events_in ps ≡ [])
+none_accessed nodes [] [] e h = (refl, refl)
+none_accessed nodes [] (p ∷ ps) e h = absurd cc
+none_accessed nodes (x ∷ xs) [] e h = absurd cc
+none_accessed nodes (x ∷ xs) (p ∷ ps) e h =
+    let first : piece_of nodes x ≡ written p = cc in
+    let more : map (piece_of nodes) xs ≡ map written ps = cc in
+    let made : x.production ≡ p.production = ap (λ (w : ℕ × List TreeNode). w.0) first in
+    let own = neither (is_accessed x.production) (list_any (λ (y : Piece). is_accessed y.production) xs) h in
+    let each = neither (x.production == MEMBER_PROPERTY) (x.production == MEMBER_EVENT) own.0 in
+    let rest = none_accessed nodes xs ps more own.1 in (
+      ap (λ (c : Bool). map (λ (q : Part). tree.the PROPERTY q.below) (if c then p ∷ filter (λ q. q.production == MEMBER_PROPERTY) ps else filter (λ q. q.production == MEMBER_PROPERTY) ps))
+      (ap (λ k. k == MEMBER_PROPERTY) (sym made) ∙ each.0)
+      ∙ rest.0,
+      ap (λ (c : Bool). map (λ (q : Part). tree.the EVENT q.below) (if c then p ∷ filter (λ q. q.production == MEMBER_EVENT) ps else filter (λ q. q.production == MEMBER_EVENT) ps))
+      (ap (λ k. k == MEMBER_EVENT) (sym made) ∙ each.1)
+      ∙ rest.1,
+    )
 
 -- ---- its generic parameters
 

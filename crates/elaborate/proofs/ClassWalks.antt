@@ -1,6 +1,6 @@
 -- The classes of a forest, one by one.
 use Rattle.std.proofs.Common.{◌≡◌, ℕ, List, [], ◌∷◌, ◌++◌, take, drop, refl, ap, sym, subst, ◌∙◌, append_assoc, append-nil}
-use Rattle.std.specs.Prelude.{Bool, true, false, ◌==◌, if◌then◌else◌}
+use Rattle.std.specs.Prelude.{Bool, true, false, ◌==◌, ◌||◌, if◌then◌else◌}
 use Rattle.std.proofs.lemmas.Bool.Decides.{Decides-eqb}
 use Rattle.std.proofs.lemmas.List.{take-append-drop}
 use Rattle.assembly_tree.specs.declared.typedef.TypeDef.{TypeDef}
@@ -9,14 +9,39 @@ use Rattle.ilasm_grammar.specs.declared.tree.TreeNode.{TreeNode}
 use Rattle.ilasm_grammar.specs.declared.tree.TreeNode.TheVariants.{Branch, Leaf}
 use Rattle.source_model.specs.Classes.{class_from, classes_in}
 use Rattle.source_model.specs.Forest as tree
-use Rattle.source_model.specs.Forest.{Forest, joined, preorder}
+use Rattle.source_model.specs.Forest.{Forest, joined, part, parts, preorder}
 use Rattle.source_model.specs.Laws.{ForestOpens, ForestsJoin}
 use Rattle.source_model.specs.Nodes.{Around, entered}
 use Rattle.source_model.specs.Source.{Source}
 use Rattle.source_flags.specs.InRange.{IsInRange}
+use Rattle.source_flags.specs.declared.outside.Shut.TheVariants.{Methods}
+use Rattle.source_flags.proofs.Apart.{is_past, mask_of, same_outside}
+use Rattle.source_flags.proofs.Gathered.{has_bodies}
+use Rattle.ilasm_grammar.specs.Ilasm.{has_bit}
+use Rattle.ilasm_grammar.proofs.TableCheck.{ilasm_tables}
+use Rattle.source_reading.specs.Derived.{FitsBody, HasBodies}
+use Rattle.elaborate.proofs.ClassLemmas.{all_ranged}
 use Rattle.source_reading.proofs.Collecting.{no_forest, of_joined}
 use Rattle.elaborate.specs.ClassParts.{inner}
 use Rattle.elaborate.specs.WholeParts.{AllWhole, IsWhole}
+
+-- no class stands in a method
+class_past : is_past Methods (CLASS ∷ []) ≡ true
+unfolding is_past mask_of ilasm_tables has_bit
+class_past = refl
+
+nothing_both : {X : Type 0} (xs ys : List X) → xs ++ ys ≡ [] → (xs ≡ []) × (ys ≡ [])
+nothing_both [] ys e = (refl, e)
+nothing_both (x ∷ xs) ys e = absurd cc
+
+turned : (q p : ℕ) → (q == p) ≡ false → (p == q) ≡ false
+turned q p e = go (p == q) refl
+  where
+    go : (c : Bool) → (p == q) ≡ c → c ≡ false
+    go false h = refl
+    go true h =
+        let same : (q == p) ≡ true = (Decides-eqb q p).1 (sym ((Decides-eqb p q).0 h)) in
+        let no : true ≡ false = sym same ∙ e in absurd cc
 
 module _ (s : Source) (a : Around) where
   classes_none : classes_in s a tree.none ≡ []
@@ -59,6 +84,29 @@ module _ (s : Source) (a : Around) where
       ∙ ap (λ (c : Bool). (if c then class_from s (entered s a p b) b (classes_in s (entered s a p b) b) ∷ [] else classes_in s a b) ++ classes_in s a f) e
       ∙ ap (λ x. class_from s x b (classes_in s x b) ∷ classes_in s a f) (entered_class p b e)
 
+  -- in a method stand no classes
+  none_in : (f : Forest) → parts (CLASS ∷ []) f ≡ [] → classes_in s a f ≡ []
+  none_in tree.none e = classes_none
+  none_in (tree.leaf k f) e = classes_leaf k f ∙ none_in f e
+  none_in (tree.branch p b f) e = go (CLASS == p) refl
+    where
+      go : (c : Bool) → (CLASS == p) ≡ c → classes_in s a (tree.branch p b f) ≡ []
+      go true is =
+          let wrong : part p b ∷ parts (CLASS ∷ []) f ≡ [] =
+          sym (ap (λ (c : Bool). (if c || false then part p b ∷ [] else parts (CLASS ∷ []) b) ++ parts (CLASS ∷ []) f) is) ∙ e in absurd cc
+      go false is =
+          let h = nothing_both (parts (CLASS ∷ []) b) (parts (CLASS ∷ []) f)
+          (sym (ap (λ (c : Bool). (if c || false then part p b ∷ [] else parts (CLASS ∷ []) b) ++ parts (CLASS ∷ []) f) is) ∙ e) in
+          let other : (p == CLASS) ≡ false = turned CLASS p is in
+          classes_branch p b f
+          ∙ ap (λ (c : Bool). (if c then class_from s (entered s a p b) b (classes_in s (entered s a p b) b) ∷ [] else classes_in s a b) ++ classes_in s a f) other
+          ∙ ap (λ cs. cs ++ classes_in s a f) (none_in b h.0) ∙ none_in f h.1
+
+  classes_past : (b f : Forest) → FitsBody s METHOD b → HasBodies s b → classes_in s a (tree.branch METHOD b f) ≡ classes_in s a f
+  classes_past b f fits bodies =
+      let apart : [] ≡ parts (CLASS ∷ []) b ++ [] = same_outside Methods (CLASS ∷ []) class_past s (tree.branch METHOD b tree.none) (fits, bodies, tt) in
+      classes_branch METHOD b f ∙ ap (λ cs. cs ++ classes_in s a f) (none_in b (sym (append-nil (parts (CLASS ∷ []) b)) ∙ sym apart))
+
   -- so far these were read: with those of the rest they are those of the whole
   pub record Walked (f : Forest) (left : List TreeNode) (found : List TypeDef) : Type 0 where
     pub rest : Forest
@@ -96,6 +144,21 @@ module _ (s : Source) (a : Around) where
             each = of_joined (IsWhole s) b.below b.after h.1 h.2;
             same = ap (λ cs. found ++ cs) (sym (classes_other p b.below b.after other))
                 ∙ ap (λ (g : Forest). found ++ classes_in s a g) (sym b.is) ∙ w.same;
+          }
+
+      pub walked_method : (p == METHOD) ≡ true → Walked f (drop count rest) found
+      walked_method own =
+          let b = opens.branch w.rest p count rest (w.is ∙ e) in
+          let h = subst (AllWhole s) b.is w.each in
+          let is : p ≡ METHOD = (Decides-eqb p METHOD).0 own in
+          let past : classes_in s a (tree.branch p b.below b.after) ≡ classes_in s a b.after =
+          ap (λ q. classes_in s a (tree.branch q b.below b.after)) is
+          ∙ classes_past b.below b.after (subst (λ q. FitsBody s q b.below) is h.0.0.fits) (has_bodies s b.below (all_ranged s b.below h.1)) in
+          record {
+            rest = b.after;
+            is = b.rest;
+            each = h.2;
+            same = ap (λ cs. found ++ cs) (sym past) ∙ ap (λ (g : Forest). found ++ classes_in s a g) (sym b.is) ∙ w.same;
           }
 
       pub walked_class : (class : TypeDef) (more : List TypeDef) → (p == CLASS) ≡ true → more ≡ found ++ class ∷ []

@@ -1,5 +1,5 @@
 -- Owners in their order.
-use Rattle.std.proofs.Common.{◌≡◌, List, [], ◌∷◌, ◌++◌, map, refl, ap, ◌∙◌}
+use Rattle.std.proofs.Common.{◌≡◌, ◌<◌, List, [], ◌∷◌, ◌++◌, length, map, refl, ap, ◌∙◌, arith}
 use Rattle.std.specs.Prelude.{false, is_err, OnOk, Result, Ok, Err}
 use Rattle.std.specs.BTreeSet.{insert_key}
 use Rattle.std.specs.Ordering.{match_ordering}
@@ -39,3 +39,9 @@ put_last (p ∷ os) o others = ap (put p) (put_last os o others)
 pub held : {T E : Type 0} (r : Result T E) (P : Type 0) → is_err r ≡ false → OnOk r P → P
 held (Ok x) P e h = h
 held (Err x) P e h = absurd cc
+
+-- fewer than two owners rise as they are
+pub few_rise : (os : List Owner) → length os < 2 → os ≡ rising os
+few_rise [] h = refl
+few_rise (o ∷ []) h = refl
+few_rise (o ∷ p ∷ os) h = absurd (omega (arith, h))

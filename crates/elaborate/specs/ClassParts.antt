@@ -1,6 +1,6 @@
 -- The parts of a class (ECMA-335 II.10.1, II.22.37).
-use Rattle.std.specs.Prelude.{◌≡◌, ℕ, ◌<◌, ◌^◌, List, [], ◌∷◌, ◌++◌, length, map}
-use Rattle.ilasm_grammar.specs.declared.productions.TheConstants.{IMPLEMENTS_OPT_SOME}
+use Rattle.std.specs.Prelude.{◌≡◌, ℕ, ◌<◌, ◌==◌, ◌||◌, ◌^◌, Bool, List, [], ◌∷◌, ◌++◌, length, map}
+use Rattle.ilasm_grammar.specs.declared.productions.TheConstants.{IMPLEMENTS_OPT_SOME, MEMBER_EVENT, MEMBER_PROPERTY}
 use Rattle.source_model.specs.Classes.{base, core_scope, rising}
 use Rattle.source_model.specs.Data.{layout}
 use Rattle.source_model.specs.Flags.{type_flags}
@@ -39,6 +39,10 @@ pub record IsHead (s : Source) (a : Around) (f : Forest) (x : Head) : Type 0 whe
   pub layout-is : x.layout ≡ layout s f
   pub base-is : x.extends ≡ base s a f
   pub interfaces-are : x.implements ≡ rising (owners_in s a (child (IMPLEMENTS_OPT_SOME ∷ []) f))
+
+-- a property or an event among the members of a class
+abbrev pub is_accessed : ℕ → Bool
+is_accessed p = p == MEMBER_PROPERTY || p == MEMBER_EVENT
 
 -- the members that have accessors
 pub record AreAccessed (s : Source) (a : Around) (f : Forest) (x : Accessed) : Type 0 where

@@ -14,6 +14,7 @@ ghost use Rattle.source_reading.specs.Walk.{IsForest};
 
 use crate::classes::{Known, classes_in};
 use crate::cores::core_scope;
+use crate::extern_keys::extern_keys;
 use crate::member_reader::MemberReader;
 use assembly_tree::{Assembly, Fields, Methods};
 use il_base::NoMemory;
@@ -21,7 +22,6 @@ use source_flags::gathering::{Kind, parts_of};
 use source_parts::externs::extern_assemblies;
 use source_parts::manifests::manifest;
 use source_reading::declared::Declared;
-use source_reading::name_lists::{Naming, collect};
 use source_reading::place::Place;
 use source_reading::reader::Reader;
 use std::alloc::Global;
@@ -37,11 +37,11 @@ pub fn read_assembly<R: MemberReader>(
     ensures { (s : Source) → R.knows members.now s → Reads reader.now s → AllWhole s s.tree → has ASSEMBLY_ASSEMBLY_ATTR_STAR s.tree ≡ true →
         IfOk result (λ a. a ≡ assembly s) }
 {
-    let named = collect(alloc, reader, Naming::Assembly)?;
+    let keys = extern_keys(alloc, reader)?;
     let none = Declared::new(alloc);
     let outside = Place {
         reader: *reader,
-        keys: &named.names,
+        keys: &keys,
         class: &none,
         method: &none,
     };

@@ -1,8 +1,8 @@
 //! The members of a class, with its generic parameters and its attributes (ECMA-335 II.10.2).
 
 ghost use Rattle.std.specs.Prelude.{◌≡◌, ◌<◌, ◌^◌, IfOk, List, length};
-ghost use Rattle.std.specs.List.{AllByRecursion};
-ghost use Rattle.elaborate.specs.ClassParts.{AreAccessed, AreMembers};
+ghost use Rattle.std.specs.List.{AllByRecursion, list_any};
+ghost use Rattle.elaborate.specs.ClassParts.{AreAccessed, AreMembers, is_accessed};
 ghost use Rattle.elaborate.specs.WholeParts.{AllWhole};
 ghost use Rattle.source_flags.specs.InRange.{AllInRange};
 ghost use Rattle.source_model.specs.Forest.{Forest, Part, preorder};
@@ -17,8 +17,9 @@ ghost use Rattle.source_reading.specs.Walk.{IsForest};
 
 use crate::member_reader::MemberReader;
 use assembly_tree::{Attributes, Events, Fields, Generics, Method, Methods, Properties};
-use il_base::NoMemory;
+use il_base::{Items, NoMemory};
 use ilasm_grammar::TreeNode;
+use ilasm_grammar::productions::{MEMBER_EVENT, MEMBER_PROPERTY};
 use member_parts::events::events;
 use member_parts::method_tables::MethodTable;
 use member_parts::properties::properties;
@@ -86,10 +87,29 @@ fn read_accessed(
     ensures { (s : Source) (a : Around) → IsAt place.now s a → (f : Forest) → preorder f ≡ nodes.now → AllInRange s f → ArePieces nodes.now found.now (members f) →
         declared.now ≡ methods s a (members f) → IfOk result (λ x. AreAccessed s a f x) }
 {
+    if !has_accessed(found) {
+        return Ok(Accessed {
+            properties: Items::new(alloc),
+            events: Items::new(alloc),
+        });
+    }
     let table = MethodTable::new(alloc, declared)?;
     let properties = properties(alloc, place, nodes, found, &table)?;
     let events = events(alloc, place, nodes, found, &table)?;
     Ok(Accessed { properties, events })
+}
+
+// Whether there is a property or an event among the members of a class.
+fn has_accessed(found: &[Piece]) -> bool
+    ensures { result ≡ list_any (λ x. is_accessed x.production) found.now }
+{
+    found.iter().any(|x| is_accessed(x.production))
+}
+
+fn is_accessed(production: u16) -> bool
+    ensures { result ≡ is_accessed production }
+{
+    production == MEMBER_PROPERTY || production == MEMBER_EVENT
 }
 
 // The attributes of a class itself.

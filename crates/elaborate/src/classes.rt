@@ -37,7 +37,8 @@ pub struct Known<'a> {
     pub core: Option<Scope>,
 }
 
-/// The classes of a forest that stands outside of all classes or in some, in order, each with those that it nests.
+/// The classes of a forest that stands outside of all classes or in some, in order, each with those that it nests. Methods, in which
+/// there are none, are gone past.
 pub fn classes_in<R: MemberReader>(
     members: &R,
     alloc: Global,
@@ -61,11 +62,13 @@ pub fn classes_in<R: MemberReader>(
                 production,
                 nodes: count,
             } => {
+                let (below, after) = rest.split_at(count as usize);
                 if production == productions::CLASS {
-                    let (below, after) = rest.split_at(count as usize);
                     let nested = classes_in(members, alloc, known, false, below)?;
                     let class = class(members, alloc, known, outside, below, nested)?;
                     all.push(class)?;
+                    left = after;
+                } else if production == productions::METHOD {
                     left = after;
                 } else {
                     left = rest;

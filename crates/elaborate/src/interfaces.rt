@@ -63,6 +63,9 @@ impl Ord for Ranked {
 pub fn rising(alloc: Global, owners: Owners) -> Result<Owners, NoMemory>
     ensures { IfOk result (λ sorted. sorted ≡ rising owners) }
 {
+    if owners.len() < 2 {
+        return Ok(owners);
+    }
     let mut left = owners;
     let mut ranked = BTreeSet::new(alloc);
     while let Some(owner) = left.pop() {

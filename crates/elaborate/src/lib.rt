@@ -9,6 +9,7 @@ pub mod class_members;
 pub mod classes;
 pub mod cores;
 pub mod elaborating;
+pub mod extern_keys;
 pub mod faultless_sources;
 pub mod interfaces;
 pub mod known_sizes;

@@ -1,9 +1,18 @@
 use Rattle.std.proofs.Common.{◌≡◌, length, map, ap, sym, ◌∙◌}
 use Rattle.source_model.specs.Items.{members}
-use Rattle.source_model.specs.Members.{method_forests}
+use Rattle.source_model.specs.Members.{event, method_forests, property}
 use Rattle.member_parts.specs.SignedMethods.{declared, signed}
-use Rattle.elaborate.proofs.ClassLemmas.{few_methods, members_ranged, signed_methods}
+use Rattle.elaborate.proofs.ClassLemmas.{few_methods, members_ranged, none_accessed, signed_methods}
 use Rattle.elaborate.proofs.class_members.read_accessed.Goals as goal
+
+pub returns-then-not-has_accessed : goal.returns-then-not-has_accessed
+returns-then-not-has_accessed c s a x f e each are methods =
+    let ms = method_forests (members f) in
+    let none = none_accessed c.args.nodes.now c.args.found.now (members f) are (sym c.has_accessed.ensures ∙ c.if-not-has_accessed.true) in
+    record {
+      properties-are = c.new.ensures ∙ sym (ap (map (property s a ms)) none.0);
+      events-are = c.new-2.ensures ∙ sym (ap (map (event s a ms)) none.1);
+    }
 
 pub returns : goal.returns
 returns c s a x f e each are methods =

@@ -1,6 +1,6 @@
 use Rattle.std.proofs.Common.{◌≡◌, ◌<◌, ◌≤◌, ◌^◌, ◌∷◌, ◌++◌, [], ◌∙◌, length, ap, sym, subst, arith, rules}
 use Rattle.std.specs.Prelude.{true, false, ◌==◌}
-use Rattle.ilasm_grammar.specs.declared.productions.TheConstants.{CLASS}
+use Rattle.ilasm_grammar.specs.declared.productions.TheConstants.{CLASS, METHOD}
 use Rattle.source_model.specs.Classes.{class_from}
 use Rattle.source_model.specs.Nodes.{class_token, type_id}
 use Rattle.source_reading.specs.Walk.{IsForest}
@@ -8,7 +8,7 @@ use Rattle.rule_steps.proofs.AskingLemmas.{below_shorter, next_shorter, rest_sho
 use Rattle.source_rules.proofs.ClassWalks.{forest_behind}
 use Rattle.elaborate.specs.ClassParts.{inner}
 use Rattle.elaborate.proofs.ClassLemmas.{within_some}
-use Rattle.elaborate.proofs.ClassWalks.{Walked, walked_class, walked_end, walked_leaf, walked_other, walked_start}
+use Rattle.elaborate.proofs.ClassWalks.{Walked, walked_class, walked_end, walked_leaf, walked_method, walked_other, walked_start}
 use Rattle.elaborate.proofs.classes.+classes_in.Goals as goal
 
 pub loop-node-init : goal.loop-node-init
@@ -37,8 +37,8 @@ loop-node-preserved g t c =
           c.in-Leaf.token is;
     }
 
-pub loop-node-preserved-else-production-eq-CLASS : goal.loop-node-preserved-else-production-eq-CLASS
-loop-node-preserved-else-production-eq-CLASS g t c =
+pub loop-node-preserved-else-production-eq-METHOD : goal.loop-node-preserved-else-production-eq-METHOD
+loop-node-preserved-else-production-eq-METHOD g t c =
     let p = c.in-Branch.production in
     let is = c.in-Some.ensures ∙ ap (λ n. n ∷ c.in-Some.rest.now) c.in-Branch.is in
     let other : (p == CLASS) ≡ false = grind arith in
@@ -48,6 +48,24 @@ loop-node-preserved-else-production-eq-CLASS g t c =
       so_far = λ s a f v k o e h.
           walked_other s a c.forests_open.ensures f c.loop-node.left.now c.in-Some.rest.now c.loop-node.all (c.loop-node.invariant.so_far s a f v k o e h)
           p c.in-Branch.count is c.forests_join.ensures other;
+    }
+
+pub loop-node-preserved-then-production-eq-METHOD : goal.loop-node-preserved-then-production-eq-METHOD
+loop-node-preserved-then-production-eq-METHOD g t c =
+    let p = c.in-Branch.production in
+    let count = c.in-Branch.count in
+    let left = c.loop-node.left.now in
+    let rest = c.in-Some.rest.now in
+    let is = c.in-Some.ensures ∙ ap (λ n. n ∷ rest) c.in-Branch.is in
+    let own : (p == METHOD) ≡ true = grind arith in
+    let f = c.loop-node.invariant.forest in
+    let b = c.forests_open.ensures.branch f.0 p count rest (f.1 ∙ is) in
+    record {
+      forest = (b.after, b.rest ∙ sym c.split_at.ensures.back);
+      shorter = rest_shorter p count left rest c.args.nodes.now c.split_at.result.1.now is c.split_at.ensures.back c.loop-node.invariant.shorter;
+      so_far = λ s a f' v k o e h.
+          subst (λ ns. Walked s a f' ns c.loop-node.all) (sym c.split_at.ensures.back)
+          (walked_method s a c.forests_open.ensures f' left rest c.loop-node.all (c.loop-node.invariant.so_far s a f' v k o e h) p count is own);
     }
 
 pub returns : goal.returns

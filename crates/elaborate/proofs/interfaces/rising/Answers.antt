@@ -1,9 +1,9 @@
-use Rattle.std.proofs.Common.{◌≡◌, ◌∙◌, ap, subst, sym}
+use Rattle.std.proofs.Common.{◌≡◌, ◌∙◌, ap, arith, subst, sym}
 use Rattle.std.specs.Prelude.{IfOk}
 use Rattle.std.specs.BTreeSet.{insert_key}
 use Rattle.source_model.specs.Classes.{rising}
 use Rattle.elaborate.specs.Interfaces.{by_order, owners_of}
-use Rattle.elaborate.proofs.InterfaceLemmas.{all_rise, held, put_all, put_in, put_last}
+use Rattle.elaborate.proofs.InterfaceLemmas.{all_rise, few_rise, held, put_all, put_in, put_last}
 use Rattle.elaborate.proofs.interfaces.rising.Goals as goal
 
 pub loop-owner-init : goal.loop-owner-init
@@ -27,3 +27,6 @@ returns c =
     let keys = c.loop-owner.ranked.keys in
     let all : owners_of keys ≡ rising c.args.owners = sym (ap (λ os. put_all os (owners_of keys)) c.in_default.ensures.0) ∙ c.loop-owner.invariant in
     subst (λ os. IfOk c.in_order.result (λ sorted. sorted ≡ os)) all c.in_order.ensures
+
+pub returns-then-len-lt2 : goal.returns-then-len-lt2
+returns-then-len-lt2 c = few_rise c.args.owners (omega (arith, c.len.ensures, c.if-len-lt2.true))
