@@ -4,7 +4,9 @@ pub mod BranchLemmas
 pub mod ClauseCountLemmas
 pub mod ClauseLemmas
 pub mod CodeLemmas
+pub mod CodeLineLemmas
 pub mod EndLemmas
+pub mod LabelWalks
 pub mod NamedLemmas
 pub mod NamingLemmas
 pub mod OffsetLemmas

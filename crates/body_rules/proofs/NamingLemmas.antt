@@ -17,7 +17,7 @@ use Rattle.source_reading.specs.declared.pieces.Piece.{Piece}
 use Rattle.source_reading.specs.declared.pieces.Sought.TheVariants.{LabelNames}
 use Rattle.body_rules.specs.NamingNodes.{is_naming}
 
-abbrev naming : List ℕ
+abbrev pub naming : List ℕ
 naming = productions_of LabelNames
 
 abbrev names : Part → Bool
@@ -89,7 +89,7 @@ is_not q p own other = go (q == p) refl
         let same : q ≡ p = (Decides-eqb q p).0 e in
         let bad : true ≡ false = sym own ∙ ap (is_among instruction_forms) same ∙ other in absurd cc
 
-names_are : (q : ℕ) (b : Forest) → is_among instruction_forms q ≡ true → label_names_in (part q b) ≡ targets (part q b)
+pub names_are : (q : ℕ) (b : Forest) → is_among instruction_forms q ≡ true → label_names_in (part q b) ≡ targets (part q b)
 names_are q b own =
     let first = is_not q TRY_RANGE_NAME own refl in
     let second = is_not q HANDLER_HANDLER own refl in
@@ -107,7 +107,7 @@ is_other q p other own = go (q == p) refl
         let same : q ≡ p = (Decides-eqb q p).0 e in
         let bad : true ≡ false = sym own ∙ sym (ap (is_among naming) same) ∙ other in absurd cc
 
-no_targets : (q : ℕ) (b : Forest) → is_among naming q ≡ false → targets (part q b) ≡ []
+pub no_targets : (q : ℕ) (b : Forest) → is_among naming q ≡ false → targets (part q b) ≡ []
 no_targets q b other =
     let first = is_other q INSTRUCTION_OP_BRANCH other refl in
     let second = is_other q INSTRUCTION_SWITCH other refl in

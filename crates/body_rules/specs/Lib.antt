@@ -1,5 +1,6 @@
 pub mod AllOfBodies
 pub mod ClauseCounts
+pub mod CodeLines
 pub mod CodeParts
 pub mod CodePlaces
 pub mod NamedVariables

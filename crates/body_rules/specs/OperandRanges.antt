@@ -1,5 +1,5 @@
 -- Numbers of instructions that are out of their ranges, by the forms of instructions (ECMA-335 III.1.7.2, III.2.5, III.3.40).
-use Rattle.std.specs.Prelude.{ℕ, ◌==◌, if◌then◌else◌, List, [], ◌++◌}
+use Rattle.std.specs.Prelude.{ℕ, Bool, ◌==◌, ◌||◌, if◌then◌else◌, List, [], ◌++◌}
 use Rattle.opcode_table.specs.declared.kind.OperandKind.{OperandKind}
 use Rattle.opcode_table.specs.declared.kind.OperandKind.TheVariants as kind
 use Rattle.ilasm_grammar.specs.declared.productions.TheConstants.{INSTRUCTION_OP_NUM, INSTRUCTION_OP_REAL, INSTRUCTION_OP_VAR}
@@ -19,6 +19,10 @@ variable_at_fault s f p = if p.production == INSTRUCTION_OP_VAR then variable_ou
 
 abbrev pub operand_at_fault : Source → Forest → Part → List ℕ
 operand_at_fault s f p = number_at_fault s p ++ (real_at_fault s p ++ variable_at_fault s f p)
+
+-- these forms alone can be at fault
+abbrev pub is_ranged : ℕ → Bool
+is_ranged p = p == INSTRUCTION_OP_NUM || (p == INSTRUCTION_OP_REAL || p == INSTRUCTION_OP_VAR)
 
 -- the bytes of the real number of an instruction
 abbrev pub real_size : OperandKind → ℕ

@@ -1,7 +1,7 @@
 //! All rules of bodies, asked of each method at once: what several of them ask for is found once (ECMA-335 II.5.4, II.15.4.1,
 //! II.19, III.1.7.2).
 
-ghost use Rattle.std.specs.Prelude.{◌≡◌, ◌==◌, IfOk, length};
+ghost use Rattle.std.specs.Prelude.{◌≡◌, ◌==◌, IfOk, length, true};
 ghost use Rattle.std.specs.List.{flat_map, list_any};
 ghost use Rattle.source_model.specs.BodyNumbers.{body_numbers_out_of_range_in};
 ghost use Rattle.source_model.specs.Bodies.{code};
@@ -16,6 +16,7 @@ ghost use Rattle.source_reading.specs.Pieces.{ArePieces, AreParts};
 ghost use Rattle.source_reading.specs.Readers.{Reads};
 ghost use Rattle.source_reading.specs.Walk.{IsForest};
 ghost use Rattle.body_rules.specs.AllOfBodies.{backwards_in, broken_in, broken_in_bodies, ends_in, far_in, variables_in};
+ghost use Rattle.body_rules.specs.CodeLines.{IsPlain};
 ghost use Rattle.body_rules.specs.NamedVariables.{ServesVariables};
 ghost use Rattle.body_rules.specs.OperandRanges.{operand_at_fault};
 ghost use Rattle.body_rules.specs.PlainBodies.{is_plain};
@@ -24,16 +25,17 @@ use crate::body_numbers::misnumbered_local;
 use crate::branch_rules::{all_targets, first_at};
 use crate::clause_counts::clause_past_most;
 use crate::clause_rules::first_backwards;
+use crate::code_labels::labels_of;
+use crate::code_lines::lines_in;
 use crate::code_places::CodePlaces;
 use crate::instruction_rules::first_in_code;
 use crate::label_faults::label_fault;
-use crate::operand_ranges::OperandRanges;
-use crate::plain_bodies::is_plain;
+use crate::operand_ranges::{OperandRanges, has_ranged};
 use crate::short_branches::Reach;
 use crate::short_code::is_short_code;
 use crate::sizes::offsets_of;
 use crate::variable_rules::AmongVariables;
-use crate::variables::Variables;
+use crate::variables::{Variables, has_form};
 use il_base::NoMemory;
 use ilasm_grammar::{TreeNode, productions};
 use rule_steps::counts::local_past_most;
@@ -41,7 +43,7 @@ use rule_steps::ranges::{Limit, beyond_in_each};
 use source_reading::label_numbers::Labels;
 use source_reading::least::sooner;
 use source_reading::methods::{MethodRule, first_in_methods};
-use source_reading::pieces::{Piece, Sought, pieces_of};
+use source_reading::pieces::Piece;
 use source_reading::reader::Reader;
 use std::alloc::Global;
 
@@ -66,23 +68,25 @@ impl MethodRule for AllOfBodies {
         reader: &Reader,
         below: &[TreeNode],
     ) -> Result<Option<u32>, NoMemory> {
-        let code = pieces_of(alloc, below, Sought::Instructions)?;
-        let labels = Labels::read(alloc, reader, below, code.as_slice())?;
-        let targets = all_targets(alloc, below, code.as_slice())?;
-        let variables = Variables::read_for(alloc, reader, below, code.as_slice())?;
+        let lines = lines_in(alloc, below)?;
+        let code = lines.instructions.as_slice();
+        let labels = labels_of(alloc, reader, below, code, lines.labels.as_slice())?;
+        let targets = all_targets(alloc, below, code)?;
+        let variables = Variables::read_for(alloc, reader, below, code)?;
         first_of_all(
             alloc,
             reader,
             below,
-            code.as_slice(),
+            code,
             targets.as_slice(),
             &labels,
             &variables,
+            lines.plain,
         )
     }
 }
 
-// The same, from a method's instructions, the names that they branch to, its labels and its variables.
+// The same, from a method's instructions, the names that they branch to, its labels and its variables, and whether it is plain.
 fn first_of_all(
     alloc: Global,
     reader: &Reader,
@@ -91,15 +95,15 @@ fn first_of_all(
     tokens: &[u32],
     labels: &Labels,
     variables: &Variables,
+    plain: bool,
 ) -> Result<Option<u32>, NoMemory>
     requires forest { IsForest method.now }
     requires parts { AreParts method.now code.now }
     ensures { (s : Source) (n : Node) → Reads reader.now s → IsMethod s n → preorder n.below ≡ method.now → ArePieces method.now code.now (instructions_of n.below) →
         tokens.now ≡ flat_map targets (instructions_of n.below) → AreLabels labels.now s n.below → ServesVariables variables.now s n.below →
-        IfOk result (λ k. k ≡ least (broken_in s n)) }
+        (plain ≡ true → IsPlain method.now n.below) → IfOk result (λ k. k ≡ least (broken_in s n)) }
 {
-    let plain = is_plain(method);
-    let label = label_fault(alloc, reader, method, code, tokens, labels)?;
+    let label = label_fault(alloc, reader, method, code, tokens, labels, plain)?;
     let variable = variable_fault(alloc, reader, method, code, variables)?;
     let number = number_fault(alloc, reader, method, code, variables, plain)?;
     let far = branch_fault(alloc, reader, method, code, labels)?;
@@ -124,6 +128,9 @@ fn variable_fault(
     ensures { (s : Source) (n : Node) → Reads reader.now s → IsMethod s n → ArePieces method.now code.now (instructions_of n.below) →
         ServesVariables variables.now s n.below → IfOk result (λ k. k ≡ least (variables_in s n)) }
 {
+    if !has_form(code, productions::INSTRUCTION_OP_VAR) {
+        return Ok(None);
+    }
     let rule = AmongVariables { variables };
     let first = first_in_code(&rule, alloc, reader, method, code)?;
     Ok(first)
@@ -141,7 +148,7 @@ fn number_fault(
     requires forest { IsForest method.now }
     requires parts { AreParts method.now code.now }
     ensures { (s : Source) (n : Node) → Reads reader.now s → IsMethod s n → preorder n.below ≡ method.now →
-        ArePieces method.now code.now (instructions_of n.below) → ServesVariables variables.now s n.below → plain ≡ is_plain method.now →
+        ArePieces method.now code.now (instructions_of n.below) → ServesVariables variables.now s n.below → (plain ≡ true → is_plain method.now ≡ true) →
         IfOk result (λ k. k ≡ least (body_numbers_out_of_range_in s n)) }
 {
     let operand = operand_fault(alloc, reader, method, code, variables)?;
@@ -175,6 +182,9 @@ fn operand_fault(
     ensures { (s : Source) (n : Node) → Reads reader.now s → IsMethod s n → ArePieces method.now code.now (instructions_of n.below) →
         ServesVariables variables.now s n.below → IfOk result (λ k. k ≡ least (flat_map (operand_at_fault s n.below) (instructions_of n.below))) }
 {
+    if !has_ranged(code) {
+        return Ok(None);
+    }
     let rule = OperandRanges { variables };
     let first = first_in_code(&rule, alloc, reader, method, code)?;
     Ok(first)
@@ -212,7 +222,7 @@ fn clause_fault(
     plain: bool,
 ) -> Result<Option<u32>, NoMemory>
     requires { IsForest method.now }
-    ensures { (s : Source) (n : Node) → Reads reader.now s → IsMethod s n → preorder n.below ≡ method.now → plain ≡ is_plain method.now →
+    ensures { (s : Source) (n : Node) → Reads reader.now s → IsMethod s n → preorder n.below ≡ method.now → (plain ≡ true → is_plain method.now ≡ true) →
         IfOk result (λ k. k ≡ least (backwards_in s n)) }
 {
     if plain {

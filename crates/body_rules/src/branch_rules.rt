@@ -14,7 +14,7 @@ ghost use Rattle.source_reading.specs.Readers.{Reads};
 ghost use Rattle.source_reading.specs.Walk.{IsForest};
 
 use il_base::{Items, NoMemory};
-use ilasm_grammar::TreeNode;
+use ilasm_grammar::{TreeNode, productions};
 use source_reading::label_numbers::Labels;
 use source_reading::labels::push_targets;
 use source_reading::least::sooner;
@@ -60,12 +60,19 @@ pub fn all_targets(
     requires { AreParts nodes.now code.now }
     ensures { (ps : List Part) → ArePieces nodes.now code.now ps → IfOk result (λ tokens. tokens ≡ flat_map targets ps) }
 {
-    let mut tokens = Items::new(alloc);
+    let mut tokens = Items::with_capacity(alloc, branches_in(code))?;
     for piece in code {
         let below = nodes_of(nodes, *piece);
         push_targets(alloc, &mut tokens, piece.production, below)?;
     }
     Ok(tokens)
+}
+
+// How many of these instructions are branches to one label.
+fn branches_in(code: &[Piece]) -> usize {
+    code.iter()
+        .filter(|piece| piece.production == productions::INSTRUCTION_OP_BRANCH)
+        .count()
 }
 
 /// The least of these names that stands for this number.

@@ -32,7 +32,7 @@ use source_reading::reader::Reader;
 use std::alloc::Global;
 
 /// The least label of a method that has the name of an earlier one, or name that no label of it has. These are the names that its
-/// instructions branch to.
+/// instructions branch to; in a plain method nothing else names labels. Where the method is plain, nothing else in it names labels.
 pub fn label_fault(
     alloc: Global,
     reader: &Reader,
@@ -40,13 +40,15 @@ pub fn label_fault(
     code: &[Piece],
     tokens: &[u32],
     labels: &Labels,
+    plain: bool,
 ) -> Result<Option<u32>, NoMemory>
     requires { IsForest method.now }
     ensures { (s : Source) (n : Node) → Reads reader.now s → IsMethod s n → preorder n.below ≡ method.now → ArePieces method.now code.now (instructions_of n.below) →
-        tokens.now ≡ flat_map targets (instructions_of n.below) → AreLabels labels.now s n.below → IfOk result (λ k. k ≡ least (twice_in s n ++ undeclared_in s n)) }
+        tokens.now ≡ flat_map targets (instructions_of n.below) → AreLabels labels.now s n.below →
+        (plain ≡ true → label_names n.below ≡ flat_map targets (instructions_of n.below)) → IfOk result (λ k. k ≡ least (twice_in s n ++ undeclared_in s n)) }
 {
     let twice = twice_fault(alloc, method, labels)?;
-    let missing = missing_fault(alloc, reader, method, code, tokens, labels)?;
+    let missing = missing_fault(alloc, reader, method, code, tokens, labels, plain)?;
     Ok(sooner(twice, missing))
 }
 
@@ -84,11 +86,16 @@ fn missing_fault(
     code: &[Piece],
     tokens: &[u32],
     labels: &Labels,
+    plain: bool,
 ) -> Result<Option<u32>, NoMemory>
     requires { IsForest method.now }
     ensures { (s : Source) (n : Node) → Reads reader.now s → IsMethod s n → preorder n.below ≡ method.now → ArePieces method.now code.now (instructions_of n.below) →
-        tokens.now ≡ flat_map targets (instructions_of n.below) → AreLabels labels.now s n.below → IfOk result (λ k. k ≡ least (undeclared_in s n)) }
+        tokens.now ≡ flat_map targets (instructions_of n.below) → AreLabels labels.now s n.below →
+        (plain ≡ true → label_names n.below ≡ flat_map targets (instructions_of n.below)) → IfOk result (λ k. k ≡ least (undeclared_in s n)) }
 {
+    if plain {
+        return first_missing(alloc, reader, &labels.names, tokens);
+    }
     if are_all_in_code(method, code) {
         return first_missing(alloc, reader, &labels.names, tokens);
     }

@@ -1,6 +1,7 @@
 //! Numbers and variables of instructions that are out of their ranges (ECMA-335 III.1.7.2, III.2.5, III.3.38, III.3.40, III.3.43).
 
 ghost use Rattle.std.specs.Prelude.{◌≡◌, ◌∷◌, ◌++◌, [], if◌then◌else◌, pos, IfOk};
+ghost use Rattle.std.specs.List.{list_any};
 ghost use Rattle.ilasm_grammar.specs.declared.productions.TheConstants as production;
 ghost use Rattle.source_model.specs.BodyNumbers.{fits_kind, greatest_variable, number_out_of_range, real_out_of_range, variable_out_of_range};
 ghost use Rattle.source_model.specs.Forest.{Forest, Part, leaf_at, preorder};
@@ -14,7 +15,7 @@ ghost use Rattle.source_reading.specs.Readers.{Reads};
 ghost use Rattle.source_reading.specs.Walk.{IsForest};
 ghost use Rattle.body_rules.specs.NamedVariables.{AreVariables, ServesVariables};
 ghost use Rattle.rule_steps.specs.NumberTests.{bits_in};
-ghost use Rattle.body_rules.specs.OperandRanges.{operand_at_fault, real_size};
+ghost use Rattle.body_rules.specs.OperandRanges.{is_ranged, operand_at_fault, real_size};
 
 use crate::instruction_rules::InstructionRule;
 use crate::variables::Variables;
@@ -24,6 +25,7 @@ use opcode_table::{OperandKind, kind_of};
 use rule_steps::ranges::{Width, outside, outside_width, unless};
 use source_reading::least::sooner;
 use source_reading::operations::op_of;
+use source_reading::pieces::Piece;
 use source_reading::reader::Reader;
 use source_reading::walk::{child, has, leaf_at, the};
 use std::alloc::Global;
@@ -54,6 +56,24 @@ impl<'a> InstructionRule for OperandRanges<'a> {
             _ => Ok(None),
         }
     }
+}
+
+/// Whether one of these instructions has a number, or the number or the name of a variable.
+pub fn has_ranged(code: &[Piece]) -> bool
+    ensures { result ≡ list_any (λ x. is_ranged x.production) code.now }
+{
+    code.iter().any(|piece| is_ranged(piece.production))
+}
+
+fn is_ranged(production: u16) -> bool
+    ensures { result ≡ is_ranged production }
+{
+    matches!(
+        production,
+        productions::INSTRUCTION_OP_NUM
+            | productions::INSTRUCTION_OP_REAL
+            | productions::INSTRUCTION_OP_VAR
+    )
 }
 
 // The number of an instruction that is out of its range.

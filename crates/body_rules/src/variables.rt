@@ -96,8 +96,8 @@ impl Variables {
     }
 }
 
-// Whether one of these instructions has this form.
-fn has_form(code: &[Piece], form: u16) -> bool
+/// Whether one of these instructions has this form.
+pub fn has_form(code: &[Piece], form: u16) -> bool
     ensures { result ≡ list_any (λ x. x.production == form) code.now }
 {
     code.iter().any(|piece| piece.production == form)

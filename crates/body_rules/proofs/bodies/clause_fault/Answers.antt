@@ -10,7 +10,7 @@ use Rattle.body_rules.proofs.bodies.clause_fault.Goals as goal
 
 pub returns-then-plain : goal.returns-then-plain
 returns-then-plain c s n r m e plain =
-    let is : is_plain (preorder n.below) ≡ true = ap is_plain e ∙ sym plain ∙ c.if-plain.true in
+    let is : is_plain (preorder n.below) ≡ true = ap is_plain e ∙ plain c.if-plain.true in
     sym (ap (λ gs. least (flat_map (clause_backwards s n) gs)) (none_guarded none n.below is))
 
 pub returns : goal.returns

@@ -20,7 +20,7 @@ use Rattle.body_rules.proofs.bodies.number_fault.Goals as goal
 pub returns-then-plain : goal.returns-then-plain
 returns-then-plain c s n r m e are variables plain =
     let f = n.below in
-    let is : is_plain (preorder f) ≡ true = ap is_plain e ∙ sym plain ∙ c.if-plain.true in
+    let is : is_plain (preorder f) ≡ true = ap is_plain e ∙ plain c.if-plain.true in
     let operands = c.in_ok-operand.ensures s n r m are variables ∙ by_forms s f in
     let stack : None ≡ least (bounds_out_of_range s f) = sym (ap (λ fs. least (flat_map (λ line. unless is_16_bits s (leaf_at 1 line)) fs)) (no_bounds f is)) in
     let local : None ≡ least (flat_map (local_misnumbered s) (enumerate_from 0 (locals f))) =

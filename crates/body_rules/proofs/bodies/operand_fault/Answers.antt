@@ -1,9 +1,14 @@
-use Rattle.std.proofs.Common.{ap, ◌∙◌}
+use Rattle.std.proofs.Common.{ap, sym, ◌∙◌}
 use Rattle.source_model.specs.Instructions.{instructions_of}
 use Rattle.source_reading.specs.Least.{least}
 use Rattle.body_rules.specs.OperandRanges.{operand_at_fault}
 use Rattle.body_rules.proofs.CodeLemmas.{without_numbers}
+use Rattle.body_rules.proofs.WantedLemmas.{none_ranged}
 use Rattle.body_rules.proofs.bodies.operand_fault.Goals as goal
+
+pub returns-then-not-has_ranged : goal.returns-then-not-has_ranged
+returns-then-not-has_ranged c s n r m are variables =
+    ap least (sym (none_ranged s n.below c.args.method.now c.args.code.now (instructions_of n.below) are (sym c.has_ranged.ensures ∙ c.if-not-has_ranged.true)))
 
 pub returns : goal.returns
 returns c s n r m are variables =

@@ -1,11 +1,18 @@
-use Rattle.std.proofs.Common.{ap, ◌∙◌}
+use Rattle.std.proofs.Common.{ap, sym, ◌∙◌}
 use Rattle.ilasm_grammar.specs.declared.productions.TheConstants.{INSTRUCTION_OP_VAR}
 use Rattle.source_model.specs.BodyFaults.{variable_undeclared}
 use Rattle.source_model.specs.Instructions.{instructions_of}
 use Rattle.source_reading.specs.Least.{least}
 use Rattle.body_rules.specs.NamedVariables.{undeclared_at}
 use Rattle.body_rules.proofs.CodeLemmas.{of_one_form, without_numbers}
+use Rattle.body_rules.proofs.WantedLemmas.{none_asked}
 use Rattle.body_rules.proofs.bodies.variable_fault.Goals as goal
+
+pub returns-then-not-has_form : goal.returns-then-not-has_form
+returns-then-not-has_form c s n r m are variables =
+    let f = n.below in
+    ap least (sym (none_asked (variable_undeclared s f) INSTRUCTION_OP_VAR c.args.method.now c.args.code.now (instructions_of f) are
+    (sym c.has_form.ensures ∙ c.if-not-has_form.true)))
 
 pub returns : goal.returns
 returns c s n r m are variables =

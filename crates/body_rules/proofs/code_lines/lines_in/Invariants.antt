@@ -1,0 +1,19 @@
+use Rattle.std.proofs.Common.{◌≡◌, length, ◌-◌, ◌∷◌, []}
+use Rattle.std.specs.Prelude.{true}
+use Rattle.ilasm_grammar.specs.declared.productions.TheConstants.{ITEM_NAME}
+use Rattle.source_model.specs.Instructions.{instruction_forms}
+use Rattle.source_flags.proofs.PastShut.{Gathered}
+use Rattle.body_rules.specs.CodeLines.{others}
+use Rattle.body_rules.proofs.CodeLineLemmas.{shut}
+use Rattle.body_rules.proofs.LabelWalks.{Named}
+use Rattle.body_rules.proofs.code_lines.lines_in.Given as goal
+
+abbrev pub invariant-loop-node : goal.invariant-loop-node
+invariant-loop-node l = record {
+  pieces : Gathered l.nodes (ITEM_NAME ∷ []) instruction_forms l.at l.instructions;
+  named : Named l.nodes instruction_forms (ITEM_NAME ∷ []) l.at l.labels;
+  plain-is : l.plain ≡ true → Gathered l.nodes shut others l.at [];
+}
+
+abbrev pub decreases-loop-node : goal.decreases-loop-node
+decreases-loop-node l = length l.nodes - l.at
