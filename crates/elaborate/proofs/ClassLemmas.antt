@@ -94,11 +94,11 @@ none_accessed nodes (x ∷ xs) (p ∷ ps) e h =
     let each = neither (x.production == MEMBER_PROPERTY) (x.production == MEMBER_EVENT) own.0 in
     let rest = none_accessed nodes xs ps more own.1 in (
       ap (λ (c : Bool). map (λ (q : Part). tree.the PROPERTY q.below) (if c then p ∷ filter (λ q. q.production == MEMBER_PROPERTY) ps else filter (λ q. q.production == MEMBER_PROPERTY) ps))
-      (ap (λ k. k == MEMBER_PROPERTY) (sym made) ∙ each.0)
-      ∙ rest.0,
+          (ap (λ k. k == MEMBER_PROPERTY) (sym made) ∙ each.0)
+          ∙ rest.0,
       ap (λ (c : Bool). map (λ (q : Part). tree.the EVENT q.below) (if c then p ∷ filter (λ q. q.production == MEMBER_EVENT) ps else filter (λ q. q.production == MEMBER_EVENT) ps))
-      (ap (λ k. k == MEMBER_EVENT) (sym made) ∙ each.1)
-      ∙ rest.1,
+          (ap (λ k. k == MEMBER_EVENT) (sym made) ∙ each.1)
+          ∙ rest.1,
     )
 
 -- ---- its generic parameters

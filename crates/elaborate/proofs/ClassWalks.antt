@@ -88,19 +88,20 @@ module _ (s : Source) (a : Around) where
   none_in : (f : Forest) → parts (CLASS ∷ []) f ≡ [] → classes_in s a f ≡ []
   none_in tree.none e = classes_none
   none_in (tree.leaf k f) e = classes_leaf k f ∙ none_in f e
-  none_in (tree.branch p b f) e = go (CLASS == p) refl
+  none_in (tree.branch p b f) e = go (CLASS == p) refl (λ k. none_in b k) (λ k. none_in f k)
     where
-      go : (c : Bool) → (CLASS == p) ≡ c → classes_in s a (tree.branch p b f) ≡ []
-      go true is =
+      go : (c : Bool) → (CLASS == p) ≡ c → (parts (CLASS ∷ []) b ≡ [] → classes_in s a b ≡ []) → (parts (CLASS ∷ []) f ≡ [] → classes_in s a f ≡ [])
+          → classes_in s a (tree.branch p b f) ≡ []
+      go true is below after =
           let wrong : part p b ∷ parts (CLASS ∷ []) f ≡ [] =
           sym (ap (λ (c : Bool). (if c || false then part p b ∷ [] else parts (CLASS ∷ []) b) ++ parts (CLASS ∷ []) f) is) ∙ e in absurd cc
-      go false is =
+      go false is below after =
           let h = nothing_both (parts (CLASS ∷ []) b) (parts (CLASS ∷ []) f)
           (sym (ap (λ (c : Bool). (if c || false then part p b ∷ [] else parts (CLASS ∷ []) b) ++ parts (CLASS ∷ []) f) is) ∙ e) in
           let other : (p == CLASS) ≡ false = turned CLASS p is in
           classes_branch p b f
           ∙ ap (λ (c : Bool). (if c then class_from s (entered s a p b) b (classes_in s (entered s a p b) b) ∷ [] else classes_in s a b) ++ classes_in s a f) other
-          ∙ ap (λ cs. cs ++ classes_in s a f) (none_in b h.0) ∙ none_in f h.1
+          ∙ ap (λ cs. cs ++ classes_in s a f) (below h.0) ∙ after h.1
 
   classes_past : (b f : Forest) → FitsBody s METHOD b → HasBodies s b → classes_in s a (tree.branch METHOD b f) ≡ classes_in s a f
   classes_past b f fits bodies =

@@ -11,7 +11,7 @@ returns-then-not-has_accessed c s a x f e each are methods =
     let none = none_accessed c.args.nodes.now c.args.found.now (members f) are (sym c.has_accessed.ensures ∙ c.if-not-has_accessed.true) in
     record {
       properties-are = c.new.ensures ∙ sym (ap (map (property s a ms)) none.0);
-      events-are = c.new-2.ensures ∙ sym (ap (map (event s a ms)) none.1);
+      events-are = c.new-then-not-has_accessed.ensures ∙ sym (ap (map (event s a ms)) none.1);
     }
 
 pub returns : goal.returns
