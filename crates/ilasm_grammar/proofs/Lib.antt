@@ -8,4 +8,5 @@ pub mod TableFacts
 pub mod TableLemmas
 pub mod IlasmFacts
 pub mod NodesLemmas
+pub mod PlaceLemmas
 pub mod LawLemmas

@@ -29,6 +29,11 @@ are_rising n [] = true
 are_rising n (x ∷ []) = nat_le x n
 are_rising n (x ∷ y ∷ xs) = nat_le x y && are_rising n (y ∷ xs)
 
+-- each number is at most n
+abbrev pub are_at_most : ℕ → List ℕ → Bool
+are_at_most n [] = true
+are_at_most n (x ∷ xs) = nat_le x n && are_at_most n xs
+
 -- the production that a nonterminal goes on with before a terminal, or before the end, by such tables
 unfoldable pub picked_by : List ℕ → List ℕ → List ℕ → List ℕ → ℕ → ℕ → ℕ
 picked_by rows owners picks fallbacks n terminal =
@@ -55,7 +60,7 @@ ilasm_sets = record {
 abbrev pub IsNoRule : Grammar → ℕ → ℕ → Type 0
 IsNoRule g n p = (body : List Symbol) → g p ≡ Some (rule_of n body) → ⊥
 
--- what is found of a nonterminal's production: its body, or that there is no such production
-abbrev pub MatchBody : Grammar → ℕ → ℕ → Option (List Symbol) → Type 0
-MatchBody g n p None = IsNoRule g n p
-MatchBody g n p (Some body) = g p ≡ Some (rule_of n body)
+-- the body of the production with this number, if there is one
+abbrev pub HasBody : ℕ → Option (List Symbol) → Type 0
+HasBody p None = ilasm p ≡ None
+HasBody p (Some body) = ilasm p ≡ Some (rule_of (slice_index HEADS p) body)

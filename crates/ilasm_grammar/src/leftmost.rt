@@ -1,10 +1,10 @@
 ghost use Rattle.std.specs.Prelude.{◌≡◌, ◌<◌, ◌≤◌, ◌^◌, length, drop, IfOk};
 ghost use Rattle.ilasm_grammar.specs.Choice.{next_of};
 ghost use Rattle.ilasm_grammar.specs.Parsing.{terminals_of, IsOutcome, IsStep, IsTurn};
+ghost use Rattle.ilasm_grammar.specs.Stacked.{symbols_at};
 
-use crate::nonterminals::SOURCE;
-use crate::stack::Stack;
-use crate::table::{body_of, pick};
+use crate::stack::{pop, push_body};
+use crate::table::{begin_of, pick};
 use crate::terminals::{END, terminal_of};
 use crate::{Symbol, Tree, TreeNode};
 use il_base::NoMemory;
@@ -42,19 +42,22 @@ pub(crate) enum Turn {
     Stops,
 }
 
-/// The symbols from which a source is derived.
-static START: [Symbol; 1] = [Symbol::Nonterminal(SOURCE)];
+/// The place of the symbol from which a source is derived, alone.
+const START: usize = 886;
 
 /// Derives the tokens from the top: the nodes are made in preorder, the next token picking each production.
+#[inline(never)]
 pub(crate) fn derive(alloc: Global, tokens: &[Token]) -> Result<Outcome, NoMemory>
     requires { length tokens.now ≤ 2 ^ 24 }
     ensures { IfOk result (IsOutcome (terminals_of tokens.now)) }
 {
     let mut nodes = Tree::with_capacity(alloc, 7 * tokens.len())?;
-    let mut stack = Stack::new(alloc, &START);
+    let mut next = START;
+    let mut behind = Vec::new(alloc);
     let mut at = 0;
     loop {
-        match advance(&mut stack, &mut nodes, terminal_at(tokens, at), at as u32)? {
+        let terminal = terminal_at(tokens, at);
+        match advance(&mut next, &mut behind, &mut nodes, terminal, at as u32)? {
             Turn::Takes => at += 1,
             Turn::Ends => {
                 if at == tokens.len() {
@@ -71,6 +74,7 @@ pub(crate) fn derive(alloc: Global, tokens: &[Token]) -> Result<Outcome, NoMemor
 fn terminal_at(tokens: &[Token], at: usize) -> u16
     ensures is { result ≡ next_of END (drop at (terminals_of tokens.now)) }
     ensures low { at < length tokens.now → result < END }
+    ensures fits { result ≤ 410 }
 {
     match tokens.get(at) {
         Some(token) => terminal_of(token.kind),
@@ -80,11 +84,18 @@ fn terminal_at(tokens: &[Token], at: usize) -> u16
 
 /// Derives the token at place `at`, or the end of the tokens: applies productions to the next symbol until it
 /// is a terminal, and takes that if it is the token.
-fn advance(stack: &mut Stack, nodes: &mut Tree, terminal: u16, at: u32) -> Result<Turn, NoMemory>
-    ensures { IfOk result (IsTurn terminal at stack.old nodes.old stack.new nodes.new) }
+fn advance(
+    next: &mut usize,
+    behind: &mut Vec<u16>,
+    nodes: &mut Tree,
+    terminal: u16,
+    at: u32,
+) -> Result<Turn, NoMemory>
+    requires { terminal ≤ 410 }
+    ensures { IfOk result (IsTurn terminal at (symbols_at next.old behind.old.items) nodes.old (symbols_at next.new behind.new.items) nodes.new) }
 {
     loop {
-        match take_step(stack, terminal, at)? {
+        match take_step(next, behind, terminal, at)? {
             Step::Makes(node) => {
                 nodes.push(node)?;
                 if let TreeNode::Leaf { .. } = node {
@@ -98,13 +109,19 @@ fn advance(stack: &mut Stack, nodes: &mut Tree, terminal: u16, at: u32) -> Resul
 }
 
 /// Applies a production to the next symbol, or takes it if it is the token.
-fn take_step(stack: &mut Stack, terminal: u16, at: u32) -> Result<Step, NoMemory>
-    ensures { IfOk result (IsStep terminal at stack.old stack.new) }
+fn take_step(
+    next: &mut usize,
+    behind: &mut Vec<u16>,
+    terminal: u16,
+    at: u32,
+) -> Result<Step, NoMemory>
+    requires { terminal ≤ 410 }
+    ensures { IfOk result (IsStep terminal at (symbols_at next.old behind.old.items) (symbols_at next.new behind.new.items)) }
 {
-    match stack.pop() {
+    match pop(next, behind) {
         None => Ok(Step::Ends),
-        Some(Symbol::Terminal(next)) => {
-            if next == terminal && next < END {
+        Some(Symbol::Terminal(symbol)) => {
+            if symbol == terminal && symbol < END {
                 Ok(Step::Makes(TreeNode::Leaf { token: at }))
             } else {
                 Ok(Step::Stops)
@@ -112,10 +129,10 @@ fn take_step(stack: &mut Stack, terminal: u16, at: u32) -> Result<Step, NoMemory
         }
         Some(Symbol::Nonterminal(nonterminal)) => {
             let production = pick(nonterminal, terminal);
-            let Some(body) = body_of(nonterminal, production) else {
+            let Some(begin) = begin_of(production) else {
                 return Ok(Step::Stops);
             };
-            stack.push_body(body)?;
+            push_body(next, behind, begin)?;
             Ok(Step::Makes(TreeNode::Branch {
                 production,
                 nodes: 0,

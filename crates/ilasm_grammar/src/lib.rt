@@ -9,6 +9,7 @@ mod laws;
 mod leftmost;
 pub mod nonterminals;
 mod parser;
+mod places;
 pub mod productions;
 mod rules;
 mod stack;

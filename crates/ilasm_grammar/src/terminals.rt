@@ -1,6 +1,6 @@
 //! The terminals of the grammar, by their numbers: a terminal is a kind of token.
 
-ghost use Rattle.std.specs.Prelude.{◌≡◌, ◌<◌};
+ghost use Rattle.std.specs.Prelude.{◌≡◌, ◌<◌, ℕ};
 ghost use Rattle.il_lexer.specs.declared.types.TokenKind.TheVariants.{Word};
 ghost use Rattle.ilasm_grammar.specs.Terminals.{terminal_of};
 
@@ -34,6 +34,17 @@ pub fn terminal_of(kind: TokenKind) -> u16
     ensures is { result ≡ terminal_of kind }
     ensures low { result < END }
 {
+    if let TokenKind::Word(number) = kind {
+        return word_terminal(number);
+    }
+    other_terminal(kind)
+}
+
+/// The terminal of a kind that is no word.
+fn other_terminal(kind: TokenKind) -> u16
+    ensures is { ((number : ℕ) → kind ≡ Word number → ⊥) → result ≡ terminal_of kind }
+    ensures low { result < END }
+{
     match kind {
         TokenKind::Name => NAME,
         TokenKind::Scope => SCOPE,
@@ -43,8 +54,7 @@ pub fn terminal_of(kind: TokenKind) -> u16
         TokenKind::ByteArray => BYTE_ARRAY,
         TokenKind::RealBytes => REAL_BYTES,
         TokenKind::Hash => HASH,
-        TokenKind::Unused => UNUSED,
-        TokenKind::Word(number) => word_terminal(number),
+        TokenKind::Unused | TokenKind::Word(_) => UNUSED,
     }
 }
 

@@ -10,6 +10,7 @@ use Rattle.ilasm_grammar.specs.declared.nonterminals.TheConstants.{SOURCE}
 use Rattle.ilasm_grammar.specs.Choice.{load_of, next_of}
 use Rattle.ilasm_grammar.specs.Ilasm.{ilasm, ilasm_sets, picked}
 use Rattle.ilasm_grammar.specs.Parsing.{IsUnderWay, IsStep}
+use Rattle.ilasm_grammar.specs.Stacked.{symbols_at}
 use Rattle.ilasm_grammar.proofs.ChoiceLemmas.{lighter}
 use Rattle.ilasm_grammar.proofs.CourseLemmas.{applies, shifts, next-drop}
 use Rattle.ilasm_grammar.proofs.IlasmFacts.{ilasm_decided}
@@ -57,21 +58,21 @@ branch_lighter terminal at production count symbols symbols' h =
 pub returns-in-Leaf : goal.returns-in-Leaf
 returns-in-Leaf c kinds next under =
     let made = c.in_ok-push-in-Makes.ensures.ok ∙ ap (λ (x : TreeNode). c.loop-node.nodes ++ x ∷ []) c.in-Leaf.is in
-    let h = subst (λ (x : TreeNode). IsStep c.args.terminal c.args.at c.loop-node.stack c.take_step.new.stack (Makes x)) c.in-Leaf.is
-    (subst (λ (x : Step). IsStep c.args.terminal c.args.at c.loop-node.stack c.take_step.new.stack x) c.in-Makes.is c.in_ok-node.ensures) in
-    leaf_made kinds c.args.terminal c.args.at c.in-Leaf.token c.loop-node.stack c.take_step.new.stack c.loop-node.nodes c.push.new.self h made next
+    let h = subst (λ (x : TreeNode). IsStep c.args.terminal c.args.at (symbols_at c.loop-node.next c.loop-node.behind.items) (symbols_at c.take_step.new.next c.take_step.new.behind.items) (Makes x)) c.in-Leaf.is
+    (subst (λ (x : Step). IsStep c.args.terminal c.args.at (symbols_at c.loop-node.next c.loop-node.behind.items) (symbols_at c.take_step.new.next c.take_step.new.behind.items) x) c.in-Makes.is c.in_ok-node.ensures) in
+    leaf_made kinds c.args.terminal c.args.at c.in-Leaf.token (symbols_at c.loop-node.next c.loop-node.behind.items) (symbols_at c.take_step.new.next c.take_step.new.behind.items) c.loop-node.nodes c.push.new.self h made next
     (c.loop-node.invariant kinds next under)
 
 pub loop-node-smaller : goal.loop-node-smaller
 loop-node-smaller c =
-    let h = subst (λ (x : TreeNode). IsStep c.args.terminal c.args.at c.loop-node.stack c.take_step.new.stack (Makes x)) c.in_default.is
-    (subst (λ (x : Step). IsStep c.args.terminal c.args.at c.loop-node.stack c.take_step.new.stack x) c.in-Makes.is c.in_ok-node.ensures) in
-    branch_lighter c.args.terminal c.args.at c.in_default.field-0 c.in_default.field-1 c.loop-node.stack c.take_step.new.stack h
+    let h = subst (λ (x : TreeNode). IsStep c.args.terminal c.args.at (symbols_at c.loop-node.next c.loop-node.behind.items) (symbols_at c.take_step.new.next c.take_step.new.behind.items) (Makes x)) c.in_default.is
+    (subst (λ (x : Step). IsStep c.args.terminal c.args.at (symbols_at c.loop-node.next c.loop-node.behind.items) (symbols_at c.take_step.new.next c.take_step.new.behind.items) x) c.in-Makes.is c.in_ok-node.ensures) in
+    branch_lighter c.args.terminal c.args.at c.in_default.field-0 c.in_default.field-1 (symbols_at c.loop-node.next c.loop-node.behind.items) (symbols_at c.take_step.new.next c.take_step.new.behind.items) h
 
 pub loop-node-preserved : goal.loop-node-preserved
 loop-node-preserved c kinds next under =
     let made = c.in_ok-push-in-Makes.ensures.ok ∙ ap (λ (x : TreeNode). c.loop-node.nodes ++ x ∷ []) c.in_default.is in
-    let h = subst (λ (x : TreeNode). IsStep c.args.terminal c.args.at c.loop-node.stack c.take_step.new.stack (Makes x)) c.in_default.is
-    (subst (λ (x : Step). IsStep c.args.terminal c.args.at c.loop-node.stack c.take_step.new.stack x) c.in-Makes.is c.in_ok-node.ensures) in
-    branch_made kinds c.args.terminal c.args.at c.in_default.field-0 c.in_default.field-1 c.loop-node.stack c.take_step.new.stack c.loop-node.nodes c.push.new.self
+    let h = subst (λ (x : TreeNode). IsStep c.args.terminal c.args.at (symbols_at c.loop-node.next c.loop-node.behind.items) (symbols_at c.take_step.new.next c.take_step.new.behind.items) (Makes x)) c.in_default.is
+    (subst (λ (x : Step). IsStep c.args.terminal c.args.at (symbols_at c.loop-node.next c.loop-node.behind.items) (symbols_at c.take_step.new.next c.take_step.new.behind.items) x) c.in-Makes.is c.in_ok-node.ensures) in
+    branch_made kinds c.args.terminal c.args.at c.in_default.field-0 c.in_default.field-1 (symbols_at c.loop-node.next c.loop-node.behind.items) (symbols_at c.take_step.new.next c.take_step.new.behind.items) c.loop-node.nodes c.push.new.self
     h made next (c.loop-node.invariant kinds next under)

@@ -1,0 +1,200 @@
+-- The bodies that stand at places of the tables of symbols.
+use Rattle.std.proofs.Common.{◌≡◌, ◌⊎◌, inl, inr, ℕ, zero, suc, ◌+◌, ◌<◌, ◌≤◌, List, [], ◌∷◌, ◌++◌, length, get_or, drop, Bool, true, false, ◌&&◌, ◌||◌, ⊎_elim, refl, sym, ap, ◌∙◌, subst, arith, Some, None}
+use Rattle.std.specs.Prelude.{◌==◌, nat_lt, nat_le, slice_index, flat_map, if◌then◌else◌}
+use Rattle.std.proofs.lemmas.Bool.{and_parts, leb-true, ltb-true, lt-ltb, le-ltb, eqb-true, false≢true}
+use Rattle.std.proofs.lemmas.List.{reverse-append}
+use Rattle.ilasm_grammar.specs.declared.rules.TheConstants.{HEADS, STARTS, BODIES}
+use Rattle.ilasm_grammar.specs.declared.choices.TheConstants.{ROWS, FALLBACKS, OWNERS, PICKS}
+use Rattle.ilasm_grammar.specs.declared.places.TheConstants.{SYMBOLS, NEXTS, BEGINS}
+use Rattle.ilasm_grammar.specs.declared.symbol.Symbol.{Symbol}
+use Rattle.ilasm_grammar.specs.declared.symbol.Symbol.TheVariants.{Terminal, Nonterminal}
+use Rattle.ilasm_grammar.specs.Ilasm.{are_at_most, body_at, ilasm, picked, picked_by}
+use Rattle.ilasm_grammar.specs.Grammar.{rule_of}
+use Rattle.ilasm_grammar.specs.Stacked.{symbol_of, body_in, joined, rest_at, are_nexts, are_numbers, IsKnown}
+use Rattle.ilasm_grammar.proofs.Tables.{all_below}
+use Rattle.ilasm_grammar.proofs.TableFacts.{all_below-at}
+use Rattle.ilasm_grammar.proofs.TableLemmas.{rule_by-at, rule_by-is, rule_by-past}
+
+or_parts : (a b : Bool) → a || b ≡ true → (a ≡ true) ⊎ (b ≡ true)
+or_parts true b e = inl refl
+or_parts false b e = inr e
+
+-- the rest at a place is the symbol there and the rest behind it
+body_in-step : (numbers nexts : List ℕ) (k : ℕ) → k < length numbers → k < length nexts →
+    body_in (drop k numbers) (drop k nexts) ≡
+    symbol_of (get_or numbers k 0) ∷ (if get_or nexts k 0 == 887 then [] else body_in (drop (suc k) numbers) (drop (suc k) nexts))
+body_in-step [] nexts k lt le = absurd (omega arith)
+body_in-step (x ∷ numbers) [] k lt le = absurd (omega arith)
+body_in-step (x ∷ numbers) (y ∷ nexts) zero lt le = refl
+body_in-step (x ∷ numbers) (y ∷ nexts) (suc k) lt le = body_in-step numbers nexts k (omega arith) (omega arith)
+
+no_nexts : (numbers : List ℕ) → body_in numbers [] ≡ []
+no_nexts [] = refl
+no_nexts (x ∷ numbers) = refl
+
+-- behind the last place there is nothing
+body_in-past : (numbers nexts : List ℕ) (k : ℕ) → length numbers ≤ k → body_in (drop k numbers) (drop k nexts) ≡ []
+body_in-past [] nexts zero le = refl
+body_in-past [] nexts (suc k) le = refl
+body_in-past (x ∷ numbers) nexts zero le = absurd (omega arith)
+body_in-past (x ∷ numbers) [] (suc k) le = no_nexts (drop k numbers)
+body_in-past (x ∷ numbers) (y ∷ nexts) (suc k) le = body_in-past numbers nexts k (omega arith)
+
+nexts-at : (from : ℕ) (nexts : List ℕ) (k : ℕ) → are_nexts from nexts ≡ true → k < length nexts →
+    (get_or nexts k 0 ≡ 887) ⊎ (get_or nexts k 0 ≡ suc (from + k))
+nexts-at from [] k e lt = absurd (omega arith)
+nexts-at from (x ∷ nexts) zero e lt =
+    let a = and_parts (x == 887 || x == suc from) (are_nexts (suc from) nexts) e in
+    ⊎_elim (λ h. inl (eqb-true x 887 h)) (λ h. inr (eqb-true x (suc from) h ∙ omega arith)) (or_parts (x == 887) (x == suc from) a.0)
+nexts-at from (x ∷ nexts) (suc k) e lt =
+    let a = and_parts (x == 887 || x == suc from) (are_nexts (suc from) nexts) e in
+    let same : suc (suc from + k) ≡ suc (from + suc k) = omega arith in
+    ⊎_elim (λ h. inl h) (λ h. inr (h ∙ same)) (nexts-at (suc from) nexts k a.1 (omega arith))
+
+pub numbers-at : (numbers : List ℕ) (k : ℕ) → are_numbers numbers ≡ true → k < length numbers → IsKnown (symbol_of (get_or numbers k 0))
+numbers-at [] k e lt = absurd (omega arith)
+numbers-at (x ∷ numbers) zero e lt = let a = and_parts _ _ e in known x (or_parts _ _ a.0)
+  where
+    known : (x : ℕ) → (nat_lt x 165 ≡ true) ⊎ (nat_le 256 x ≡ true) → IsKnown (symbol_of x)
+    known x (inl h) = let lt : x < 165 = ltb-true _ _ h in let low : nat_lt x 256 ≡ true = lt-ltb x 256 (omega arith) in rw low lt
+    known x (inr h) = let le : 256 ≤ x = leb-true _ _ h in let high : nat_lt x 256 ≡ false = le-ltb x 256 le in rw high tt
+numbers-at (x ∷ numbers) (suc k) e lt = numbers-at numbers k (and_parts _ _ e).1 (omega arith)
+
+-- ---- where bodies begin
+
+abbrev same_symbol : Symbol → Symbol → Bool
+same_symbol (Terminal a) (Terminal b) = a == b
+same_symbol (Terminal a) (Nonterminal b) = false
+same_symbol (Nonterminal a) (Terminal b) = false
+same_symbol (Nonterminal a) (Nonterminal b) = a == b
+
+abbrev same_body : List Symbol → List Symbol → Bool
+same_body [] [] = true
+same_body [] (y ∷ ys) = false
+same_body (x ∷ xs) [] = false
+same_body (x ∷ xs) (y ∷ ys) = same_symbol x y && same_body xs ys
+
+same_symbol-is : (x y : Symbol) → same_symbol x y ≡ true → x ≡ y
+same_symbol-is (Terminal a) (Terminal b) e = ap (λ (n : ℕ). Terminal n) (eqb-true _ _ e)
+same_symbol-is (Nonterminal a) (Nonterminal b) e = ap (λ (n : ℕ). Nonterminal n) (eqb-true _ _ e)
+same_symbol-is (Terminal a) (Nonterminal b) e = absurd (false≢true e)
+same_symbol-is (Nonterminal a) (Terminal b) e = absurd (false≢true e)
+
+same_body-is : (xs ys : List Symbol) → same_body xs ys ≡ true → xs ≡ ys
+same_body-is [] [] e = refl
+same_body-is [] (y ∷ ys) e = absurd (false≢true e)
+same_body-is (x ∷ xs) [] e = absurd (false≢true e)
+same_body-is (x ∷ xs) (y ∷ ys) e =
+    let a = and_parts _ _ e in let h = same_symbol-is x y a.0 in let t = same_body-is xs ys a.1 in cc
+
+abbrev begin_ok : ℕ → Bool
+begin_ok p = same_body (rest_at (slice_index BEGINS p)) (body_at p)
+
+t_begins : all_below begin_ok 641 ≡ true
+unfolding rest_at body_at
+t_begins = refl
+
+begin-is : (p : ℕ) → p < 641 → rest_at (slice_index BEGINS p) ≡ body_at p
+begin-is p lt = same_body-is _ _ (all_below-at begin_ok 641 t_begins p lt)
+
+pub has_begin : (p : ℕ) → p < 641 → ilasm p ≡ Some (rule_of (slice_index HEADS p) (rest_at (slice_index BEGINS p)))
+unfolding ilasm body_at
+has_begin p lt = rule_by-at HEADS STARTS BODIES p lt ∙ ap (λ (b : List Symbol). Some (rule_of (slice_index HEADS p) b)) (sym (begin-is p lt))
+
+pub has_no_rule : (p : ℕ) → 641 ≤ p → ilasm p ≡ None
+unfolding ilasm
+has_no_rule p le = rule_by-past HEADS STARTS BODIES p le
+
+-- ---- what the tables pick is a production of the nonterminal
+
+abbrev head_ok : ℕ → ℕ → Bool
+head_ok n p = nat_le 165 n || (nat_le 641 p || slice_index HEADS p == n)
+
+abbrev heads_ok : List ℕ → List ℕ → Bool
+heads_ok [] picks = true
+heads_ok (n ∷ owners) [] = true
+heads_ok (n ∷ owners) (p ∷ picks) = head_ok n p && heads_ok owners picks
+
+t_picks : heads_ok OWNERS PICKS ≡ true
+t_picks = refl
+
+t_fallbacks : all_below (λ n. head_ok n (slice_index FALLBACKS n)) 165 ≡ true
+t_fallbacks = refl
+
+t_rows : are_at_most 2445 ROWS ≡ true
+t_rows = refl
+
+head-is : (n p : ℕ) → head_ok n p ≡ true → n < 165 → p < 641 → slice_index HEADS p ≡ n
+head-is n p e lt low =
+    ⊎_elim (λ h. let le : 165 ≤ n = leb-true 165 n h in absurd (omega arith))
+    (λ h. ⊎_elim (λ h1. let le : 641 ≤ p = leb-true 641 p h1 in absurd (omega arith)) (λ h1. eqb-true (slice_index HEADS p) n h1)
+    (or_parts (nat_le 641 p) (slice_index HEADS p == n) h))
+    (or_parts (nat_le 165 n) (nat_le 641 p || slice_index HEADS p == n) e)
+
+heads-at : (owners picks : List ℕ) (k : ℕ) → heads_ok owners picks ≡ true → k < length owners → k < length picks →
+    head_ok (get_or owners k 0) (get_or picks k 0) ≡ true
+heads-at [] picks k e lt le = absurd (omega arith)
+heads-at (n ∷ owners) [] k e lt le = absurd (omega arith)
+heads-at (n ∷ owners) (p ∷ picks) zero e lt le = (and_parts _ _ e).0
+heads-at (n ∷ owners) (p ∷ picks) (suc k) e lt le = heads-at owners picks k (and_parts _ _ e).1 (omega arith) (omega arith)
+
+pub at_most_at : (n : ℕ) (xs : List ℕ) (k : ℕ) → are_at_most n xs ≡ true → get_or xs k 0 ≤ n
+at_most_at n [] k e = omega arith
+at_most_at n (x ∷ xs) zero e = leb-true _ _ (and_parts _ _ e).0
+at_most_at n (x ∷ xs) (suc k) e = at_most_at n xs k (and_parts _ _ e).1
+
+by_cases : (b : Bool) → (b ≡ true) ⊎ (b ≡ false)
+by_cases true = inl refl
+by_cases false = inr refl
+
+picked-head : (n k : ℕ) → n < 165 → k ≤ 410 → picked n k < 641 → slice_index HEADS (picked n k) ≡ n
+unfolding picked picked_by
+picked-head n k lt le low =
+    let cell = slice_index ROWS n + k in
+    let within : cell < 2856 = omega (arith, at_most_at 2445 ROWS n t_rows) in
+    ⊎_elim
+    (λ own. let o : slice_index OWNERS cell ≡ n = eqb-true _ _ own in
+    let p : picked n k ≡ slice_index PICKS cell = rw own refl in
+    let ok = subst (λ (x : ℕ). head_ok x (slice_index PICKS cell) ≡ true) o (heads-at OWNERS PICKS cell t_picks within within) in
+    ap (slice_index HEADS) p ∙ head-is n (slice_index PICKS cell) ok lt (subst (λ (x : ℕ). x < 641) p low))
+    (λ other. let p : picked n k ≡ slice_index FALLBACKS n = rw other refl in
+    let ok = all_below-at (λ m. head_ok m (slice_index FALLBACKS m)) 165 t_fallbacks n lt in
+    ap (slice_index HEADS) p ∙ head-is n (slice_index FALLBACKS n) ok lt (subst (λ (x : ℕ). x < 641) p low))
+    (by_cases (slice_index OWNERS cell == n))
+
+pub picked-rule : (n k p : ℕ) (body : List Symbol) → n < 165 → k ≤ 410 → p ≡ picked n k →
+    ilasm p ≡ Some (rule_of (slice_index HEADS p) body) → ilasm p ≡ Some (rule_of n body)
+unfolding ilasm
+picked-rule n k p body lt le is e =
+    let low : p < 641 = (rule_by-is HEADS STARTS BODIES p _ e).0 in
+    let head : slice_index HEADS p ≡ n = ap (slice_index HEADS) is ∙ picked-head n k lt le (subst (λ (x : ℕ). x < 641) is low) in
+    e ∙ ap (λ (x : ℕ). Some (rule_of x body)) head
+
+-- ---- the rests at places
+
+pub rest_at_past : (k : ℕ) → 887 ≤ k → rest_at k ≡ []
+unfolding rest_at
+rest_at_past k le = body_in-past SYMBOLS NEXTS k le
+
+pub joined-push : (places : List ℕ) (place : ℕ) → joined (places ++ place ∷ []) ≡ rest_at place ++ joined places
+joined-push places place = ap (λ (x : List ℕ). flat_map rest_at x) (reverse-append places (place ∷ []))
+
+module _ (numbers nexts : List ℕ) (all : length numbers ≡ 887) (each : length nexts ≡ 887) where
+  chosen : (b : Bool) (xs ys : List Symbol) → (b ≡ true → xs ≡ ys) → (if b then xs else ys) ≡ ys
+  chosen true xs ys h = h refl
+  chosen false xs ys h = refl
+
+  moved : (m k : ℕ) → (m ≡ 887) ⊎ (m ≡ suc (0 + k)) →
+      (if m == 887 then [] else body_in (drop (suc k) numbers) (drop (suc k) nexts)) ≡ body_in (drop m numbers) (drop m nexts)
+  moved m k (inl e) = rw e (sym (body_in-past numbers nexts 887 (omega (arith, all))))
+  moved m k (inr e) =
+      let here : m ≡ suc k = e ∙ omega arith in
+      rw here (chosen (suc k == 887) [] (body_in (drop (suc k) numbers) (drop (suc k) nexts))
+      (λ h. sym (body_in-past numbers nexts (suc k) (omega (arith, all, eqb-true (suc k) 887 h)))))
+
+  pub body_in-next : (k : ℕ) → are_nexts 0 nexts ≡ true → k < 887 →
+      body_in (drop k numbers) (drop k nexts) ≡
+      symbol_of (get_or numbers k 0) ∷ body_in (drop (get_or nexts k 0) numbers) (drop (get_or nexts k 0) nexts)
+  body_in-next k e lt =
+      body_in-step numbers nexts k (omega (arith, all)) (omega (arith, each)) ∙
+      ap (λ (x : List Symbol). symbol_of (get_or numbers k 0) ∷ x) (moved (get_or nexts k 0) k (nexts-at 0 nexts k e (omega (arith, each))))
