@@ -1,5 +1,6 @@
 mod AnyTexts
 mod BlockLemmas
+mod Feeds
 mod FirstBytes
 mod FoundTokens
 mod FrontLemmas

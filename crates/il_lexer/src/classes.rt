@@ -7,7 +7,7 @@ ghost use Rattle.il_lexer.specs.Classes.{is_blank, is_digit, is_octal, is_hex, i
 pub fn is_blank(b: u8) -> bool
     ensures { result ≡ is_blank b }
 {
-    matches!(b, b'\t' | b'\n' | b'\r' | b' ')
+    b <= b' ' && matches!(b, b'\t' | b'\n' | b'\r' | b' ')
 }
 
 /// A decimal digit.

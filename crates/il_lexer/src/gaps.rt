@@ -1,8 +1,8 @@
 //! Gaps: blanks and comments.
 
-ghost use Rattle.std.specs.Prelude.{◌≡◌, ◌<◌, ◌≤◌, ◌==◌, not, length, drop, IfSome};
+ghost use Rattle.std.specs.Prelude.{◌≡◌, ◌+◌, ◌<◌, ◌≤◌, ◌==◌, not, length, drop, IfSome};
 ghost use Rattle.il_lexer.specs.Runs.{front};
-ghost use Rattle.il_lexer.specs.Gaps.{is_close, block_length, comment_length, gap_piece, gap};
+ghost use Rattle.il_lexer.specs.Gaps.{is_close, is_feed_among, block_length, comment_length, gap_piece, gap};
 
 use crate::bytes::{behind, stands_at};
 use crate::classes::is_blank;
@@ -35,7 +35,51 @@ pub fn line_length(rest: &[u8]) -> usize
     ensures value { result ≡ front (λ c. not (c == 10)) rest.now }
     ensures fits { result ≤ length rest.now }
 {
+    let mut tail = rest;
+    let mut at = 0;
+    while let Some(more) = past_eight(tail) {
+        tail = more;
+        at += 8;
+    }
+    at + feed_at(tail)
+}
+
+// The same, byte by byte.
+fn feed_at(rest: &[u8]) -> usize
+    ensures value { result ≡ front (λ c. not (c == 10)) rest.now }
+    ensures fits { result ≤ length rest.now }
+{
     rest.iter().take_while(|b| **b != b'\n').count()
+}
+
+// The bytes behind the first eight, where no line feed is among these.
+#[tactic(auto, using(crate::proofs::Feeds::eight_on))]
+fn past_eight(bytes: &[u8]) -> Option<&[u8]>
+    ensures passed { IfSome result (λ more. front (λ c. not (c == 10)) bytes.now ≡ 8 + front (λ c. not (c == 10)) more.now) }
+    ensures fewer { IfSome result (λ more. length bytes.now ≡ 8 + length more.now) }
+{
+    let [a, b, c, d, e, f, g, h, more @ ..] = bytes else {
+        return None;
+    };
+    if is_feed_among(*a, *b, *c, *d, *e, *f, *g, *h) {
+        None
+    } else {
+        Some(more)
+    }
+}
+
+// Whether one of eight bytes is a line feed.
+fn is_feed_among(a: u8, b: u8, c: u8, d: u8, e: u8, f: u8, g: u8, h: u8) -> bool
+    ensures { result ≡ is_feed_among a b c d e f g h }
+{
+    a == b'\n'
+        || b == b'\n'
+        || c == b'\n'
+        || d == b'\n'
+        || e == b'\n'
+        || f == b'\n'
+        || g == b'\n'
+        || h == b'\n'
 }
 
 // The rest of a comment after its `/`.

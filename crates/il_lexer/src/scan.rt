@@ -136,6 +136,7 @@ fn next_token(source: &[u8], at: usize, line: &mut Line) -> Result<Option<Token>
 }
 
 // The tokens of a source that is UTF-8, or the first place where it breaks a rule.
+#[inline(never)]
 fn scan(alloc: Global, source: &[u8]) -> Result<Tokens, LexFault>
     requires short { length source.now ≤ 2 ^ 27 }
     requires utf8 { IsUtf8 source.now }

@@ -2,7 +2,7 @@
 
 ghost use Rattle.std.specs.Prelude.{◌≡◌, ◌+◌, ◌<◌, ◌≤◌, length, IfSome};
 ghost use Rattle.il_lexer.specs.Classes.{is_digit, is_hex, is_id_part};
-ghost use Rattle.il_lexer.specs.Runs.{front};
+ghost use Rattle.il_lexer.specs.Runs.{front, run_of};
 ghost use Rattle.il_lexer.specs.Spellings.{id_length, empty_piece, is_empty_quote, quoted_part, part_length, dotted_part, name_length, is_exponent, is_barred, hex_length, decimal_length, int_length};
 
 use crate::bytes::{behind, digit_at, hex_at, stands_at};
@@ -103,7 +103,16 @@ pub fn name_length(rest: &[u8]) -> Option<usize>
     if !stands_at(rest, n, b'.') {
         return Some(n);
     }
-    Some(n + run_of(&DottedPart, behind(rest, n)).bytes)
+    Some(n + dotted_parts(behind(rest, n)))
+}
+
+// The parts with dots before them.
+#[inline(never)]
+fn dotted_parts(rest: &[u8]) -> usize
+    ensures value { result ≡ (run_of dotted_part rest.now).bytes }
+    ensures within { result ≤ length rest.now }
+{
+    run_of(&DottedPart, rest).bytes
 }
 
 // After `e` or `E`: an optional sign and a digit.
