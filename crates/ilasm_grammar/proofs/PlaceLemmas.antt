@@ -5,10 +5,11 @@ use Rattle.std.proofs.lemmas.Bool.{and_parts, leb-true, ltb-true, lt-ltb, le-ltb
 use Rattle.std.proofs.lemmas.List.{reverse-append}
 use Rattle.ilasm_grammar.specs.declared.rules.TheConstants.{HEADS, STARTS, BODIES}
 use Rattle.ilasm_grammar.specs.declared.choices.TheConstants.{ROWS, FALLBACKS, OWNERS, PICKS}
-use Rattle.ilasm_grammar.specs.declared.places.TheConstants.{SYMBOLS, NEXTS, BEGINS}
+use Rattle.ilasm_grammar.specs.declared.places.TheConstants.{SYMBOLS, NEXTS, BEGINS, ARITIES}
 use Rattle.ilasm_grammar.specs.declared.symbol.Symbol.{Symbol}
 use Rattle.ilasm_grammar.specs.declared.symbol.Symbol.TheVariants.{Terminal, Nonterminal}
 use Rattle.ilasm_grammar.specs.Ilasm.{are_at_most, body_at, ilasm, picked, picked_by}
+use Rattle.ilasm_grammar.specs.Counts.{arity_of}
 use Rattle.ilasm_grammar.specs.Grammar.{rule_of}
 use Rattle.ilasm_grammar.specs.Stacked.{symbol_of, body_in, joined, rest_at, are_nexts, are_numbers, IsKnown}
 use Rattle.ilasm_grammar.proofs.Tables.{all_below}
@@ -104,6 +105,20 @@ has_begin p lt = rule_by-at HEADS STARTS BODIES p lt ∙ ap (λ (b : List Symbol
 pub has_no_rule : (p : ℕ) → 641 ≤ p → ilasm p ≡ None
 unfolding ilasm
 has_no_rule p le = rule_by-past HEADS STARTS BODIES p le
+
+abbrev arity_ok : ℕ → Bool
+arity_ok p = slice_index ARITIES p == length (body_at p)
+
+t_arities : all_below arity_ok 641 ≡ true
+unfolding body_at
+t_arities = refl
+
+pub has_arity : (p : ℕ) → p < 641 → slice_index ARITIES p ≡ arity_of (ilasm p)
+unfolding ilasm body_at
+has_arity p lt = eqb-true _ _ (all_below-at arity_ok 641 t_arities p lt) ∙ sym (ap arity_of (rule_by-at HEADS STARTS BODIES p lt))
+
+pub has_no_arity : (p : ℕ) → 641 ≤ p → 0 ≡ arity_of (ilasm p)
+has_no_arity p le = sym (ap arity_of (has_no_rule p le))
 
 -- ---- what the tables pick is a production of the nonterminal
 

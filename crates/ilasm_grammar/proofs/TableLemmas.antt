@@ -1,26 +1,12 @@
--- Numbers that never fall, and look-ups in tables.
-use Rattle.std.proofs.Common.{◌≡◌, ℕ, zero, suc, ◌+◌, ◌<◌, ◌≤◌, List, [], ◌∷◌, length, get_or, take, drop, true, false, eqb, Option, Some, None, ap, ◌∙◌, sym, refl, arith}
-use Rattle.std.specs.Prelude.{IsTrue, nat_le, option_map, slice_get, slice_index}
-use Rattle.std.proofs.lemmas.Bool.{and_parts, leb-true, eq-eqb, ne_eqb}
+-- Look-ups in tables.
+use Rattle.std.proofs.Common.{◌≡◌, ℕ, ◌+◌, ◌<◌, ◌≤◌, List, length, get_or, take, drop, true, false, eqb, Option, Some, None, ap, ◌∙◌, sym, refl}
+use Rattle.std.specs.Prelude.{option_map, slice_get, slice_index}
+use Rattle.std.proofs.lemmas.Bool.{eq-eqb, ne_eqb}
 use Rattle.std.proofs.lemmas.Option.{slice_get_within, slice_get-get_or, slice_get_past}
 use Rattle.std.proofs.lemmas.List.{get_or-take, get_or-drop}
 use Rattle.ilasm_grammar.specs.declared.symbol.Symbol.{Symbol}
 use Rattle.ilasm_grammar.specs.Grammar.{Rule, rule_of}
-use Rattle.ilasm_grammar.specs.Ilasm.{are_rising, body_by, rule_by, picked_by}
-
-rising-first : (n x : ℕ) (xs : List ℕ) → IsTrue (are_rising n (x ∷ xs)) → x ≤ n
-rising-first n x [] e = leb-true x n e
-rising-first n x (y ∷ xs) e =
-    let a = and_parts (nat_le x y) (are_rising n (y ∷ xs)) e in
-    let h = rising-first n y xs a.1 in
-    let le = leb-true x y a.0 in omega arith
-
-pub rising-at : (n : ℕ) (xs : List ℕ) (i : ℕ) → IsTrue (are_rising n xs) → suc i < length xs → (get_or xs i 0 ≤ get_or xs (suc i) 0) × (get_or xs (suc i) 0 ≤ n)
-rising-at n [] i e lt = absurd (omega arith)
-rising-at n (x ∷ []) i e lt = absurd (omega arith)
-rising-at n (x ∷ y ∷ xs) zero e lt =
-    let a = and_parts (nat_le x y) (are_rising n (y ∷ xs)) e in (leb-true x y a.0, rising-first n y xs a.1)
-rising-at n (x ∷ y ∷ xs) (suc i) e lt = rising-at n (y ∷ xs) i (and_parts (nat_le x y) (are_rising n (y ∷ xs)) e).1 (omega arith)
+use Rattle.ilasm_grammar.specs.Ilasm.{body_by, rule_by, picked_by}
 
 -- the production at a place
 pub rule_by-at : (heads starts : List ℕ) (bodies : List Symbol) (p : ℕ) → p < length heads →

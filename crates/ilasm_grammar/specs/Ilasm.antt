@@ -23,12 +23,6 @@ rule_by heads starts bodies p = option_map (λ (head : ℕ). rule_of head (body_
 unfoldable pub ilasm : Grammar
 ilasm = rule_by HEADS STARTS BODIES
 
--- the numbers never fall, and stay up to n
-abbrev pub are_rising : ℕ → List ℕ → Bool
-are_rising n [] = true
-are_rising n (x ∷ []) = nat_le x n
-are_rising n (x ∷ y ∷ xs) = nat_le x y && are_rising n (y ∷ xs)
-
 -- each number is at most n
 abbrev pub are_at_most : ℕ → List ℕ → Bool
 are_at_most n [] = true

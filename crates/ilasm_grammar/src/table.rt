@@ -1,12 +1,10 @@
 ghost use Rattle.std.specs.Prelude.{◌≡◌, ◌+◌, ◌<◌, ◌≤◌, IsTrue, length, option_map, slice_index};
 ghost use Rattle.ilasm_grammar.specs.Counts.{arity_of};
-ghost use Rattle.ilasm_grammar.specs.Ilasm.{are_at_most, are_rising, HasBody, ilasm, picked, picked_by, rule_by};
+ghost use Rattle.ilasm_grammar.specs.Ilasm.{are_at_most, HasBody, ilasm, picked, picked_by};
 ghost use Rattle.ilasm_grammar.specs.Stacked.{rest_at};
 
-use crate::Symbol;
 use crate::choices::{FALLBACKS, OWNERS, PICKS, ROWS};
-use crate::places::BEGINS;
-use crate::rules::{BODIES, HEADS, STARTS};
+use crate::places::{ARITIES, BEGINS};
 
 /// The production that `nonterminal` goes on with before `terminal`, or a number that none of its
 /// productions has.
@@ -32,11 +30,15 @@ pub(crate) fn begin_of(production: u16) -> Option<u16>
 }
 
 /// The number of symbols in the body of a production, or 0 where there is none of this number.
-#[tactic(auto, unfolding(crate::specs::Ilasm::ilasm))]
+#[tactic(auto, using(crate::proofs::PlaceLemmas::has_arity, crate::proofs::PlaceLemmas::has_no_arity))]
 pub(crate) fn arity_of(production: u16) -> usize
     ensures { result ≡ arity_of (ilasm production) }
 {
-    arity_by(&HEADS, &STARTS, &BODIES, production)
+    if production < 641 {
+        ARITIES[production as usize] as usize
+    } else {
+        0
+    }
 }
 
 /// The production that these tables pick.
@@ -64,17 +66,4 @@ fn pick_by(
     } else {
         fallbacks[nonterminal as usize]
     }
-}
-
-/// The number of symbols in these tables of a production's body.
-fn arity_by(heads: &[u16], starts: &[u16], bodies: &[Symbol], production: u16) -> usize
-    requires each { length starts.now ≡ length heads.now + 1 }
-    requires rising { IsTrue (are_rising (length bodies.now) starts.now) }
-    ensures { result ≡ arity_of (rule_by heads.now starts.now bodies.now production) }
-{
-    let place = production as usize;
-    if place >= heads.len() {
-        return 0;
-    }
-    starts[place + 1] as usize - starts[place] as usize
 }
