@@ -12,6 +12,7 @@ mod LongestLemmas
 mod Marks
 mod Named
 mod Outcomes
+mod PlainNames
 mod PlaceLemmas
 mod Reached
 mod ReachedMarks

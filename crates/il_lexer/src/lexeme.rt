@@ -1,16 +1,19 @@
 //! The token at the front of some bytes.
 
-ghost use Rattle.std.specs.Prelude.{◌≡◌, ◌+◌, ◌<◌, ◌≤◌, length, IfSome, IfOk};
-ghost use Rattle.il_lexer.specs.Tokens.{token, word_of, longer_word, bytearray_token, named, id_token, quoted_name_token, string_token, digits_token, minus_token, dot_token, hash_token, bracket_token, equals_token, paren_token, slash_token, doubled_token, mark_token, token_at};
+ghost use Rattle.std.specs.Prelude.{◌≡◌, ◌+◌, ◌<◌, ◌≤◌, false, length, take, drop, IfSome, IfOk};
+ghost use Rattle.il_lexer.specs.Classes.{first_is};
+ghost use Rattle.opcode_table.specs.Lookup.{hash_from};
+ghost use Rattle.il_lexer.specs.Tokens.{token, word_of, longer_word, bytearray_token, name_or_word, named, id_token, quoted_name_token, string_token, digits_token, minus_token, dot_token, hash_token, bracket_token, equals_token, paren_token, slash_token, doubled_token, mark_token, token_at};
 
 use crate::bytes::{behind, digit_at, stands_at};
 use crate::classes::{is_digit, is_id_start};
+use crate::names::{Parts, plain_name};
 use crate::pairs::{bytes_length, pairs_in};
 use crate::quotes::{quote_fault, quoted_length};
 use crate::spellings::{id_length, int_length, name_length};
 use crate::types::{Lexeme, TokenKind};
 use crate::word;
-use crate::words::word_number;
+use crate::words::{number_of_hash, word_number};
 
 // A token of `length` bytes.
 fn token(kind: TokenKind, length: usize) -> Result<Lexeme, u8>
@@ -87,7 +90,17 @@ fn named(rest: &[u8], n: usize) -> Lexeme
     if let Some(found) = longer_word(rest, n) {
         return found;
     }
-    match word_number(&rest[..n]) {
+    name_or_word(rest, n, word_number(&rest[..n]))
+}
+
+// The token that is a name of `n` bytes with this number of a word, or without.
+fn name_or_word(rest: &[u8], n: usize, number: Option<u16>) -> Lexeme
+    requires within { n ≤ length rest.now }
+    requires some { 0 < n }
+    ensures value { result ≡ name_or_word rest.now n number }
+    ensures fits { (0 < result.length) × (result.length ≤ length rest.now) }
+{
+    match number {
         None => Lexeme {
             kind: TokenKind::Name,
             length: n,
@@ -100,12 +113,29 @@ fn named(rest: &[u8], n: usize) -> Lexeme
     }
 }
 
+// The token that begins with a name without a dot behind it.
+#[tactic(auto, using(crate::proofs::PlainNames::named_plain))]
+fn plain_token(rest: &[u8], name: Parts) -> Lexeme
+    requires within { name.length ≤ length rest.now }
+    requires some { 0 < name.length }
+    requires undotted { first_is 46 (drop name.length rest.now) ≡ false }
+    requires hash { name.hash ≡ hash_from 0 (take name.length rest.now) }
+    ensures value { result ≡ named rest.now name.length }
+    ensures fits { (0 < result.length) × (result.length ≤ length rest.now) }
+{
+    let n = name.length;
+    name_or_word(rest, n, number_of_hash(&rest[..n], name.hash))
+}
+
 // At the first byte of an identifier.
 #[tactic(auto, unfolding(crate::specs::Tokens::id_token))]
 fn id_token(rest: &[u8]) -> Result<Lexeme, u8>
     ensures value { result ≡ id_token rest.now }
     ensures fits { IfOk result (λ l. (0 < l.length) × (l.length ≤ length rest.now)) }
 {
+    if let Some(name) = plain_name(rest) {
+        return Ok(plain_token(rest, name));
+    }
     match name_length(rest) {
         Some(n) => Ok(named(rest, n)),
         None => Err(5),

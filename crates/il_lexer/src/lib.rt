@@ -7,6 +7,7 @@ mod gaps;
 mod laws;
 mod lexeme;
 mod lines;
+mod names;
 mod pairs;
 mod quotes;
 mod runs;

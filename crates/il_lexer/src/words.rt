@@ -1,5 +1,7 @@
 ghost use Rattle.std.specs.Prelude.{◌≡◌, ◌<◌, slice_index_or, []};
 ghost use Rattle.il_lexer.specs.WordList.{words, word_number};
+ghost use Rattle.il_lexer.specs.declared.words.TheConstants.{SHIFTS, SLOTS};
+ghost use Rattle.opcode_table.specs.Lookup.{candidate, hash_from, place_of_hash};
 
 use crate::bytes::is_same;
 use opcode_table::candidate;
@@ -462,7 +464,30 @@ pub fn word_text(k: u16) -> &'static str
 pub fn word_number(text: &[u8]) -> Option<u16>
     ensures { result ≡ word_number text.now }
 {
-    let place = candidate(&SHIFTS, &SLOTS, text);
+    word_at(text, candidate(&SHIFTS, &SLOTS, text))
+}
+
+/// The same of a text whose hash is known.
+pub(crate) fn number_of_hash(text: &[u8], hash: usize) -> Option<u16>
+    requires { hash ≡ hash_from 0 text.now }
+    ensures { result ≡ word_number text.now }
+{
+    word_at(text, place_of_hash(hash))
+}
+
+// The only place at which a word with this hash can stand.
+fn place_of_hash(hash: usize) -> usize
+    ensures { result ≡ place_of_hash SHIFTS SLOTS hash }
+{
+    let shift = SHIFTS[hash % 128] as usize;
+    SLOTS[(hash / 128 + shift) % 512] as usize
+}
+
+// The number of the word that `text` is, which can stand only at `place`.
+fn word_at(text: &[u8], place: usize) -> Option<u16>
+    requires { place ≡ candidate SHIFTS SLOTS text.now }
+    ensures { result ≡ word_number text.now }
+{
     if place >= 401 {
         return None;
     }
