@@ -1,6 +1,6 @@
 -- Chains without items, with one more, and a step of a search.
 use Rattle.std.proofs.Common.{◌≡◌, ℕ, suc, zero, ◌+◌, ◌<◌, ◌≤◌, ◌⊎◌, inl, inr, List, [], ◌∷◌, ◌++◌, Option, Some, None, length, cond, take, sym, ◌∙◌, ap, refl, arith}
-use Rattle.std.specs.Prelude.{slice_get, nat_eq}
+use Rattle.std.specs.Prelude.{slice_get, slice_set, nat_eq}
 use Rattle.std.proofs.lemmas.Option.{slice_get_within, same_Some}
 use Rattle.std.proofs.lemmas.List.{length-append, take_at}
 use Rattle.std.proofs.lemmas.Bool.{cases_eq, eq-eqb, eqb-true, cases_Bool}
@@ -23,6 +23,13 @@ snoc_new [] x zero e = refl
 snoc_new [] x (suc n) e = absurd (omega arith)
 snoc_new (z ∷ xs) x zero e = absurd (omega arith)
 snoc_new (z ∷ xs) x (suc n) e = snoc_new xs x n (omega arith)
+
+-- the last item is replaced
+pub set_last : {X : Type 0} (xs : List X) (x y : X) (n : ℕ) → n ≡ length xs → slice_set (xs ++ x ∷ []) n y ≡ xs ++ y ∷ []
+set_last [] x y zero e = refl
+set_last [] x y (suc n) e = absurd (omega arith)
+set_last (z ∷ xs) x y zero e = absurd (omega arith)
+set_last (z ∷ xs) x y (suc n) e = ap (λ l. z ∷ l) (set_last xs x y n (omega arith))
 
 module _ {X : Type 0} (hash : X → ℕ) where
   pub IsChained-none : (newest : ℕ → Option ℕ) → ((h : ℕ) → newest h ≡ None) → IsChained hash newest [] []

@@ -1,4 +1,5 @@
 -- The text of a name and the place of its last part in it (ECMA-335 II.5.3).
+use Rattle.type_terms.specs.declared.name.TypeId.{TypeId}
 use Rattle.std.specs.Prelude.{ℕ, suc, ◌-◌, ◌≡◌, ◌==◌, ◌||◌, nat_le, if◌then◌else◌, true, ◌⊎◌, List, [], ◌∷◌, Option, None, Some, take, drop}
 use Rattle.il_lexer.specs.Classes.{first_is}
 use Rattle.source_model.specs.Values.{dotted, last_text, all_but_last}
@@ -9,6 +10,10 @@ pub record IsTextOf (parts : List (List ℕ)) (text : List ℕ) (last : ℕ) : T
   pub whole : text ≡ dotted parts
   pub space : take (last - 1) text ≡ dotted (all_but_last parts)
   pub name : drop last text ≡ last_text parts
+
+-- the name of a type with this space and this name
+abbrev pub id_with : List ℕ → List ℕ → TypeId
+id_with space name = record { space = space; name = name }
 
 -- what stands behind a part of a name: nothing, or a dot
 abbrev pub EndsPart : List ℕ → Type 0

@@ -3,13 +3,13 @@
 //! the newest is the first.
 
 ghost use Rattle.std.specs.Prelude.{◌≡◌, ◌<◌, ◌^◌, ◌∷◌, [], length, position, bytes_eq, slice_index_or, OnOk, OnErr, nat_eq};
-ghost use Rattle.indexmap.specs.IndexMap.{get};
+ghost use Rattle.hash_places.specs.Slots.{place_of};
 ghost use Rattle.source_reading.specs.TextHash.{text_hash};
 
 use crate::equality::are_equal;
 use crate::hashes::text_hash;
+use hash_places::HashPlaces;
 use il_base::{Items, NoMemory, Text};
-use indexmap::IndexMap;
 use std::alloc::Global;
 use std::marker::Model;
 
@@ -17,15 +17,15 @@ use std::marker::Model;
 #[derive(Drop)]
 pub struct ChainedNames {
     // From a hash to the place of the newest name with it.
-    newest: IndexMap<u64, usize>,
+    newest: HashPlaces,
     // The names, from the last to the first.
     names: Items<Text>,
     nexts: Items<Option<usize>>,
 }
 
 impl Model for ChainedNames {
-    ghost use Rattle.std.specs.Prelude.{ℕ, List, nat_eq, reverse};
-    ghost use Rattle.indexmap.specs.IndexMap.{get};
+    ghost use Rattle.std.specs.Prelude.{ℕ, List, reverse};
+    ghost use Rattle.hash_places.specs.Slots.{place_of};
     ghost use Rattle.source_reading.specs.Chains.{IsChained};
     ghost use Rattle.source_reading.specs.TextHash.{text_hash};
 
@@ -33,7 +33,7 @@ impl Model for ChainedNames {
 
     ghost view = { λ n. reverse n.names };
 
-    ghost invariant = { λ n. IsChained text_hash (get nat_eq n.newest) n.names n.nexts };
+    ghost invariant = { λ n. IsChained text_hash (place_of n.newest) n.names n.nexts };
 }
 
 impl ChainedNames {
@@ -42,7 +42,7 @@ impl ChainedNames {
         ensures { result ≡ [] }
     {
         ChainedNames {
-            newest: IndexMap::new(alloc),
+            newest: HashPlaces::new(alloc),
             names: Items::new(alloc),
             nexts: Items::new(alloc),
         }
@@ -60,7 +60,7 @@ impl ChainedNames {
     pub fn find(&self, text: &[u8]) -> Option<usize>
         ensures { result ≡ position (bytes_eq text.now) self.now }
     {
-        let mut at = self.newest.get(&text_hash(text)).copied();
+        let mut at = self.newest.get(text_hash(text));
         while let Some(place) = at {
             if are_equal(self.names.at(place).as_bytes(), text) {
                 return Some(self.names.len() - 1 - place);
@@ -85,15 +85,17 @@ impl ChainedNames {
         ensures err { OnErr result (self.new ≡ self.old) }
     {
         let hash = text_hash(name.as_bytes());
-        let next = self.newest.get(&hash).copied();
-        let place = self.names.len();
+        let place = self.names.as_slice().len();
         self.names.push(name)?;
-        if let Err(error) = self.nexts.push(next) {
+        if let Err(error) = self.nexts.push(None) {
             self.names.truncate(place);
             return Err(error);
         }
         match self.newest.insert(hash, place) {
-            Ok(_) => Ok(()),
+            Ok(next) => {
+                self.nexts.set(place, next);
+                Ok(())
+            }
             Err(_) => {
                 self.names.truncate(place);
                 self.nexts.truncate(place);

@@ -2,15 +2,16 @@
 //! II.10.6). Number 0 is the outside of all classes, and that of a class is one more than its place in the list.
 
 ghost use Rattle.std.specs.Prelude.{◌≡◌, ◌++◌, ◌∷◌, [], None, OnErr, OnOk, length, nat_eq};
-ghost use Rattle.indexmap.specs.IndexMap.{get};
+ghost use Rattle.hash_places.specs.Slots.{place_of};
 ghost use Rattle.assembly_tree.specs.DataSize.{is_id};
 ghost use Rattle.source_reading.specs.ClassNumbers.{IsNumber, class_hash, class_in, class_of, id_of, is_class, outer_of};
+ghost use Rattle.source_reading.specs.NameTexts.{id_with};
 ghost use Rattle.source_reading.specs.Nested.{IsNested};
 
 use crate::equality::are_equal;
 use crate::hashes::{mix, mix_text, text_hash};
+use hash_places::HashPlaces;
 use il_base::{Items, NoMemory};
-use indexmap::IndexMap;
 use std::alloc::Global;
 use std::marker::Model;
 use type_terms::TypeId;
@@ -26,15 +27,15 @@ pub struct ClassName {
 #[derive(Drop)]
 pub struct ClassPaths {
     // From a hash to the place of the newest class with it.
-    newest: IndexMap<u64, usize>,
+    newest: HashPlaces,
     classes: Items<ClassName>,
     // From each class to the newest older one with the same hash.
     nexts: Items<Option<usize>>,
 }
 
 impl Model for ClassPaths {
-    ghost use Rattle.std.specs.Prelude.{List, length, nat_eq};
-    ghost use Rattle.indexmap.specs.IndexMap.{get};
+    ghost use Rattle.std.specs.Prelude.{List, length};
+    ghost use Rattle.hash_places.specs.Slots.{place_of};
     ghost use Rattle.source_reading.specs.ClassNumbers.{AreFound};
     ghost use Rattle.source_reading.specs.declared.class_paths.ClassName.{ClassName};
 
@@ -42,7 +43,7 @@ impl Model for ClassPaths {
 
     ghost view = { λ n. n.classes };
 
-    ghost invariant = { λ n. AreFound (get nat_eq n.newest) n.classes n.nexts };
+    ghost invariant = { λ n. AreFound (place_of n.newest) n.classes n.nexts };
 }
 
 impl ClassPaths {
@@ -51,7 +52,7 @@ impl ClassPaths {
         ensures { result ≡ [] }
     {
         ClassPaths {
-            newest: IndexMap::new(alloc),
+            newest: HashPlaces::new(alloc),
             classes: Items::new(alloc),
             nexts: Items::new(alloc),
         }
@@ -62,10 +63,18 @@ impl ClassPaths {
         ensures found { result ≡ class_in self.now id.now outer }
         ensures nested { IsNested outer_of id_of is_id self.now }
     {
+        self.child_named(outer, id.space.as_bytes(), id.name.as_bytes())
+    }
+
+    /// The number of the class with this space and this name in the class of a number. Takes no memory.
+    pub fn child_named(&self, outer: usize, space: &[u8], name: &[u8]) -> Option<usize>
+        ensures found { result ≡ class_in self.now (id_with space.now name.now) outer }
+        ensures nested { IsNested outer_of id_of is_id self.now }
+    {
         let classes = self.classes.as_slice();
-        let mut at = self.newest.get(&class_hash(outer, id)).copied();
+        let mut at = self.newest.get(class_hash(outer, space, name));
         while let Some(place) = at {
-            if is_class(&classes[place], outer, id) {
+            if is_class(&classes[place], outer, space, name) {
                 return Some(place + 1);
             }
             at = *self.nexts.at(place);
@@ -80,16 +89,18 @@ impl ClassPaths {
         ensures ok { OnOk result (self.new ≡ self.old ++ class_of outer id ∷ []) }
         ensures err { OnErr result (self.new ≡ self.old) }
     {
-        let hash = class_hash(outer, &id);
-        let next = self.newest.get(&hash).copied();
-        let place = self.classes.len();
+        let hash = class_hash(outer, id.space.as_bytes(), id.name.as_bytes());
+        let place = self.classes.as_slice().len();
         self.classes.push(ClassName { outer, id })?;
-        if let Err(error) = self.nexts.push(next) {
+        if let Err(error) = self.nexts.push(None) {
             self.classes.truncate(place);
             return Err(error);
         }
         match self.newest.insert(hash, place) {
-            Ok(_) => Ok(()),
+            Ok(next) => {
+                self.nexts.set(place, next);
+                Ok(())
+            }
             Err(_) => {
                 self.classes.truncate(place);
                 self.nexts.truncate(place);
@@ -108,18 +119,19 @@ impl ClassPaths {
 
 // The hash of a class.
 #[tactic(auto, unfolding(crate::specs::ClassNumbers::class_hash))]
-fn class_hash(outer: usize, id: &TypeId) -> u64
-    ensures { result ≡ class_hash (class_of outer id.now) }
+fn class_hash(outer: usize, space: &[u8], name: &[u8]) -> u64
+    ensures { result ≡ class_hash (class_of outer (id_with space.now name.now)) }
 {
-    let space = text_hash(id.space.as_bytes());
-    mix(mix_text(space, id.name.as_bytes()), outer as u64)
+    mix(mix_text(text_hash(space), name), outer as u64)
 }
 
 // Whether a class has a name and stands in the class of a number.
-fn is_class(class: &ClassName, outer: usize, id: &TypeId) -> bool
-    ensures { result ≡ is_class outer id.now class.now }
+fn is_class(class: &ClassName, outer: usize, space: &[u8], name: &[u8]) -> bool
+    ensures { result ≡ is_class outer (id_with space.now name.now) class.now }
 {
-    class.outer == outer && is_id(&class.id, id)
+    class.outer == outer
+        && are_equal(class.id.space.as_bytes(), space)
+        && are_equal(class.id.name.as_bytes(), name)
 }
 
 /// Whether two types' names are equal.

@@ -9,9 +9,11 @@ ghost use Rattle.source_model.specs.Nodes.{type_id};
 ghost use Rattle.source_model.specs.Source.{Source, spelling, word_at, is_word};
 ghost use Rattle.source_model.specs.Values.{array_bytes, equals_bytes, int_at, name_text, real_bytes, scope_text};
 ghost use Rattle.source_reading.specs.Integers.{distance};
+ghost use Rattle.source_reading.specs.NameTexts.{id_with};
 ghost use Rattle.source_reading.specs.Readers.{IsOf, Reads};
 
 use crate::narrowing::word_of;
+use crate::values::type_names::PlainId;
 use crate::values::{byte_lists, integers, spellings, type_names};
 use il_base::{Bytes, NoMemory, Text};
 use il_lexer::{Token, the_longest_spelling_is_taken, tokens_are_spellings};
@@ -100,6 +102,13 @@ impl<'a> Reader<'a> {
         ensures { (s : Source) → Reads self.now s → IsOf s Name token → IfOk result (λ id. id ≡ type_id s token) }
     {
         type_names::type_id(alloc, self.spelling(token))
+    }
+
+    /// A name as that of a type, where it is spelled by itself; None where it may have quotes. Takes no memory.
+    pub fn plain_id(&self, token: u32) -> Option<PlainId<'a>>
+        ensures { (s : Source) → Reads self.now s → IsOf s Name token → IfSome result (λ id. id_with id.space.now id.name.now ≡ type_id s token) }
+    {
+        type_names::plain_id(self.spelling(token))
     }
 
     /// The bytes of `= ( .. )`.

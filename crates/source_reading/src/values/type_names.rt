@@ -6,13 +6,20 @@ ghost use Rattle.il_lexer.specs.declared.types.TokenKind.TheVariants.{Scope};
 ghost use Rattle.il_lexer.specs.Spelled.{IsName, IsSpelling};
 ghost use Rattle.source_model.specs.Nodes.{id_of_texts};
 ghost use Rattle.source_model.specs.Values.{between_quotes, dotted, part_texts};
-ghost use Rattle.source_reading.specs.NameTexts.{IsTextOf};
+ghost use Rattle.source_reading.specs.NameTexts.{IsTextOf, id_with};
 
 use crate::values::names::{last_in, name_of, plain_last, space_in};
 use crate::values::texts::scope_of;
 use il_base::{NoMemory, Text};
 use std::alloc::Global;
 use type_terms::TypeId;
+
+/// The name of a type, whose space and name are lent.
+#[derive(Clone, Copy)]
+pub struct PlainId<'a> {
+    pub space: &'a [u8],
+    pub name: &'a [u8],
+}
 
 /// The text of a name: its parts, without quotes, joined by dots.
 pub fn name_text(alloc: Global, spelling: &[u8]) -> Result<Text, NoMemory>
@@ -30,6 +37,19 @@ pub fn plain_name(spelling: &[u8]) -> Option<&[u8]>
 {
     match plain_last(spelling) {
         Some(_) => Some(spelling),
+        None => None,
+    }
+}
+
+/// The name of a type that is spelled by itself; None where it may have quotes.
+pub fn plain_id(spelling: &[u8]) -> Option<PlainId<'_>>
+    ensures { IsName spelling.now → IfSome result (λ id. id_with id.space.now id.name.now ≡ id_of_texts (part_texts spelling.now)) }
+{
+    match plain_last(spelling) {
+        Some(last) => Some(PlainId {
+            space: space_in(spelling, last),
+            name: last_in(spelling, last),
+        }),
         None => None,
     }
 }
@@ -57,13 +77,13 @@ pub fn type_id(alloc: Global, spelling: &[u8]) -> Result<TypeId, NoMemory>
     ensures { IsName spelling.now → IsUtf8 spelling.now → IfOk result (λ id. id ≡ id_of_texts (part_texts spelling.now)) }
 {
     match plain_last(spelling) {
-        Some(last) => plain_id(alloc, spelling, last),
+        Some(last) => copied_id(alloc, spelling, last),
         None => quoted_id(alloc, spelling),
     }
 }
 
 // The name of a type that is its own text, whose last part begins at a place.
-fn plain_id(alloc: Global, spelling: &[u8], last: usize) -> Result<TypeId, NoMemory>
+fn copied_id(alloc: Global, spelling: &[u8], last: usize) -> Result<TypeId, NoMemory>
     requires { IsAscii spelling.now }
     ensures { IsTextOf (part_texts spelling.now) spelling.now last → IfOk result (λ id. id ≡ id_of_texts (part_texts spelling.now)) }
 {
