@@ -39,6 +39,7 @@ pub mod SizeLemmas
 pub mod SoundLemmas
 pub mod Stepping
 pub mod SuffixLemmas
+pub mod TextLemmas
 pub mod Texts
 pub mod TypeLemmas
 pub mod TypeNames

@@ -1,4 +1,5 @@
 pub mod BaseTypes
+pub mod ChainedTexts
 pub mod Chains
 pub mod ClassNumbers
 pub mod Derived

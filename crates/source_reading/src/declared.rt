@@ -1,33 +1,35 @@
-//! The names of a list of declarations, which are put in front one by one. Most lists have few names: the first of those that
-//! are put there are searched one by one, and only those in front of them are found by hash.
+//! The names of a list of declarations, which are put in front one by one. They are found by their hash; only one that was to
+//! be the only one is kept apart.
 
-ghost use Rattle.std.specs.Prelude.{◌≡◌, ◌<◌, ◌∷◌, [], length, position, bytes_eq, reverse, slice_index_or, IfOk, OnOk, OnErr};
+ghost use Rattle.std.specs.Prelude.{◌≡◌, ◌<◌, ◌∷◌, [], length, position, bytes_eq, slice_index_or, IfOk, OnOk, OnErr};
+ghost use Rattle.source_reading.specs.ChainedTexts.{one_of};
 ghost use Rattle.source_reading.specs.Repeats.{is_repeat};
 
 use crate::chained_names::ChainedNames;
 use crate::equality::are_equal;
-use il_base::{Items, NoMemory, Text};
+use il_base::{Bytes, NoMemory, Text};
 use std::alloc::Global;
 use std::marker::Model;
-
-/// How many names are searched one by one.
-const FEW: usize = 8;
 
 /// The names of declarations. Contracts see the list of them.
 #[derive(Drop)]
 pub struct Declared {
-    // The first few names that were put there, from the last to the first.
-    few: Items<Text>,
-    // The names in front of them.
+    alloc: Global,
+    // Whether there is room for several names.
+    many: bool,
+    // The name that was put there first, where there was no room for several.
+    only: Option<Bytes>,
+    // The names in front of it.
     more: ChainedNames,
 }
 
 impl Model for Declared {
-    ghost use Rattle.std.specs.Prelude.{ℕ, List, reverse, ◌++◌};
+    ghost use Rattle.std.specs.Prelude.{ℕ, List, ◌++◌};
+    ghost use Rattle.source_reading.specs.ChainedTexts.{one_of};
 
     ghost Value = { List (List ℕ) };
 
-    ghost view = { λ n. n.more ++ reverse n.few };
+    ghost view = { λ n. n.more ++ one_of n.only };
 }
 
 impl Declared {
@@ -36,19 +38,26 @@ impl Declared {
         ensures { result ≡ [] }
     {
         Declared {
-            few: Items::new(alloc),
+            alloc,
+            many: false,
+            only: None,
             more: ChainedNames::new(alloc),
         }
     }
 
-    /// No names, with room for so many if they are few.
+    /// No names, with room for so many.
     pub fn with_room(alloc: Global, count: usize) -> Result<Declared, NoMemory>
         ensures { IfOk result (λ names. names ≡ []) }
     {
-        let few = Items::with_capacity(alloc, count.min(FEW))?;
+        if count < 2 {
+            return Ok(Declared::new(alloc));
+        }
+        let more = ChainedNames::with_room(alloc, count)?;
         Ok(Declared {
-            few,
-            more: ChainedNames::new(alloc),
+            alloc,
+            many: true,
+            only: None,
+            more,
         })
     }
 
@@ -56,7 +65,7 @@ impl Declared {
     pub fn len(&self) -> usize
         ensures { result ≡ length self.now }
     {
-        self.more.len() + self.few.as_slice().len()
+        self.more.len() + count_of(&self.only)
     }
 
     /// The number of the first name that is this text. Takes no memory.
@@ -65,7 +74,7 @@ impl Declared {
     {
         match self.more.find(text) {
             Some(k) => Some(k),
-            None => match last_place(self.few.as_slice(), text) {
+            None => match place_of(&self.only, text) {
                 Some(k) => Some(self.more.len() + k),
                 None => None,
             },
@@ -88,12 +97,10 @@ impl Declared {
         requires { k < length self.now }
         ensures { result.now ≡ slice_index_or self.now k [] }
     {
-        let ahead = self.more.len();
-        if k < ahead {
+        if k < self.more.len() {
             self.more.text_at(k)
         } else {
-            let place = self.few.len() - 1 - (k - ahead);
-            self.few.at(place).as_bytes()
+            text_of(&self.only)
         }
     }
 
@@ -102,26 +109,59 @@ impl Declared {
         ensures ok { OnOk result (self.new ≡ name ∷ self.old) }
         ensures err { OnErr result (self.new ≡ self.old) }
     {
-        if self.more.len() == 0 && self.few.len() < FEW {
-            self.few.push(name)?;
+        self.push_text(name.as_bytes())?;
+        Ok(())
+    }
+
+    /// Puts a name with this text in front.
+    pub fn push_text(&mut self, text: &[u8]) -> Result<(), NoMemory>
+        ensures ok { OnOk result (self.new ≡ text.now ∷ self.old) }
+        ensures err { OnErr result (self.new ≡ self.old) }
+    {
+        if !self.many && self.more.len() == 0 && count_of(&self.only) == 0 {
+            let name = Bytes::from_slice(self.alloc, text)?;
+            self.only = Some(name);
             Ok(())
         } else {
-            self.more.push_front(name)?;
+            self.more.push_text(text)?;
             Ok(())
         }
     }
 }
 
-// The place from the end of the last name that is this text.
-fn last_place(names: &[Text], text: &[u8]) -> Option<usize>
-    ensures { result ≡ position (bytes_eq text.now) (reverse names.now) }
+// How many names these are.
+fn count_of(only: &Option<Bytes>) -> usize
+    ensures count { result ≡ length (one_of only.now) }
+    ensures few { result < 2 }
 {
-    let mut place = names.len();
-    while place > 0 {
-        place -= 1;
-        if are_equal(names[place].as_bytes(), text) {
-            return Some(names.len() - 1 - place);
-        }
+    match only {
+        Some(_) => 1,
+        None => 0,
     }
-    None
+}
+
+// The place of the name, if it is this text.
+fn place_of(only: &Option<Bytes>, text: &[u8]) -> Option<usize>
+    ensures { result ≡ position (bytes_eq text.now) (one_of only.now) }
+{
+    match only {
+        Some(name) => {
+            if are_equal(text, name.as_slice()) {
+                Some(0)
+            } else {
+                None
+            }
+        }
+        None => None,
+    }
+}
+
+// The text of the name; none where there is no name.
+fn text_of(only: &Option<Bytes>) -> &[u8]
+    ensures { result.now ≡ slice_index_or (one_of only.now) 0 [] }
+{
+    match only {
+        Some(name) => name.as_slice(),
+        None => &[],
+    }
 }

@@ -1,6 +1,7 @@
 //! The labels of a method, and the names that stand for them (ECMA-335 II.5.4, II.15.4.1).
 
 ghost use Rattle.std.specs.Prelude.{◌≡◌, ◌∷◌, ◌++◌, [], map, IfOk, MatchOption, OnOk};
+ghost use Rattle.il_lexer.specs.declared.types.TokenKind.TheVariants.{Name};
 ghost use Rattle.source_model.specs.BodyFaults.{label_names, label_names_in};
 ghost use Rattle.source_model.specs.Forest.{Forest, Part, preorder};
 ghost use Rattle.source_model.specs.Instructions.{labels, names_in, targets};
@@ -8,7 +9,7 @@ ghost use Rattle.source_model.specs.Source.{Source};
 ghost use Rattle.source_model.specs.Values.{name_text};
 ghost use Rattle.source_reading.specs.Labels.{switch_names};
 ghost use Rattle.source_reading.specs.Methods.{AreNames};
-ghost use Rattle.source_reading.specs.Readers.{Reads};
+ghost use Rattle.source_reading.specs.Readers.{IsOf, Reads};
 ghost use Rattle.source_reading.specs.Walk.{IsForest};
 
 use crate::declared::Declared;
@@ -36,11 +37,28 @@ pub fn names_at(alloc: Global, reader: &Reader, tokens: &[u32]) -> Result<Declar
     let mut names = Declared::with_room(alloc, tokens.len())?;
     let mut left = tokens;
     while let Some((token, before)) = last(left) {
-        let name = reader.name_text(alloc, token)?;
-        names.push_front(name)?;
+        put_name(alloc, &mut names, reader, token)?;
         left = before;
     }
     Ok(names)
+}
+
+/// Puts the name that a token is in front of others.
+pub fn put_name(
+    alloc: Global,
+    names: &mut Declared,
+    reader: &Reader,
+    token: u32,
+) -> Result<(), NoMemory>
+    ensures { (s : Source) → Reads reader.now s → IsOf s Name token → OnOk result (names.new ≡ name_text s token ∷ names.old) }
+{
+    if let Some(text) = reader.plain_name(token) {
+        names.push_text(text)?;
+        return Ok(());
+    }
+    let name = reader.name_text(alloc, token)?;
+    names.push_front(name)?;
+    Ok(())
 }
 
 // The last token and those before it, where there is one.

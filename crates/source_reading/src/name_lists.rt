@@ -17,6 +17,7 @@ ghost use Rattle.source_reading.specs.Walk.{IsForest};
 
 use crate::declared::Declared;
 use crate::derived::derivations_have_bodies;
+use crate::labels::put_name;
 use crate::least::sooner;
 use crate::reader::Reader;
 use crate::walk::{child, count_below, cut, has, is_of, leaf_at, next, the};
@@ -169,8 +170,7 @@ pub fn texts(alloc: Global, reader: &Reader, tokens: &[u32]) -> Result<Declared,
     let mut more = tokens.len();
     while more > 0 {
         more -= 1;
-        let text = reader.name_text(alloc, tokens[more])?;
-        names.push_front(text)?;
+        put_name(alloc, &mut names, reader, tokens[more])?;
     }
     Ok(names)
 }

@@ -16,7 +16,6 @@ loop-token-preserved c =
       token ∷ done,
       whole,
       λ s r names.
-          c.in_ok-push_front.ensures.ok
-          ∙ ap (λ n. n ∷ c.loop-token.names) (c.in_ok-name.ensures s r (in_middle (IsOf s Name) before token done (subst (AreNames s) (sym whole) names)))
+          c.in_ok-put_name.ensures s r (in_middle (IsOf s Name) before token done (subst (AreNames s) (sym whole) names))
           ∙ ap (λ ns. name_text s token ∷ ns) (c.loop-token.invariant.2 s r names),
     )

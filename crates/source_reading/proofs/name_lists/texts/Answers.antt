@@ -8,7 +8,6 @@ loop-more-preserved c =
     record {
       within = omega (arith, within);
       so_far = λ s r all.
-          text_before s c.args.tokens.now c.loop-more.names c.push_front.new.self c.loop-more.more _ c.in_ok-text.text c.loop-more-test.true
-          c.loop-more.invariant.within refl (c.in_ok-text.ensures s r (all (c.loop-more.more - 1) 0 within)) (c.loop-more.invariant.so_far s r all)
-          c.in_ok-push_front.ensures.ok;
+          text_before s c.args.tokens.now c.loop-more.names c.put_name.new.names c.loop-more.more _ _ c.loop-more-test.true
+          c.loop-more.invariant.within refl refl (c.loop-more.invariant.so_far s r all) (c.in_ok-put_name.ensures s r (all (c.loop-more.more - 1) 0 within));
     }
