@@ -8,6 +8,7 @@ pub mod DerivedLemmas
 pub mod FieldLemmas
 pub mod FirstLemmas
 pub mod GapLemmas
+pub mod KeptClasses
 pub mod LabelLemmas
 pub mod LabelTokens
 pub mod LeastLemmas

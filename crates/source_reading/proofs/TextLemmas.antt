@@ -1,7 +1,7 @@
 -- Names whose texts stand in one list of bytes: none, one more, and one that wasn't kept.
 use Rattle.std.proofs.Common.{◌≡◌, ℕ, zero, suc, ◌+◌, ◌-◌, ◌<◌, ◌≤◌, inl, inr, List, [], ◌∷◌, ◌++◌, Option, Some, None, length, map, cond, take, drop, reverse, sym, ◌∙◌, ap, refl, arith, length-append, length-drop}
 use Rattle.std.specs.Prelude.{slice_get, slice_set, nat_eq, option_map}
-use Rattle.std.proofs.lemmas.List.{length-map, drop-append-le, take-append-le}
+use Rattle.std.proofs.lemmas.List.{length-map, map_push, drop-append-le, take-append-le}
 use Rattle.std.proofs.lemmas.Option.{slice_get-map, slice_get_within, same_Some}
 use Rattle.std.proofs.Math.Seq.{drop-append_seam, take-length}
 use Rattle.source_reading.specs.Chains.{HasHash, IsChained}
@@ -49,10 +49,6 @@ new_text texts text name start len =
     ap (λ n. take n (drop name.start (texts ++ text))) len
     ∙ ap (λ n. take (length text) (drop n (texts ++ text))) start
     ∙ ap (take (length text)) (drop-append_seam texts text) ∙ take-length text
-
-map_push : {X Y : Type 0} (f : X → Y) (xs : List X) (x : X) → map f (xs ++ x ∷ []) ≡ map f xs ++ f x ∷ []
-map_push f [] x = refl
-map_push f (y ∷ xs) x = ap (λ ys. f y ∷ ys) (map_push f xs x)
 
 pub texts_push : (texts text : List ℕ) (names : List ChainedName) (name : ChainedName) → AreWithin texts names → name.start ≡ length texts
     → name.len ≡ length text → texts_in (texts ++ text) (names ++ name ∷ []) ≡ texts_in texts names ++ text ∷ []

@@ -2,6 +2,7 @@ pub mod BaseTypes
 pub mod ChainedTexts
 pub mod Chains
 pub mod ClassNumbers
+pub mod ClassTexts
 pub mod Derived
 pub mod Dimensions
 pub mod Gaps

@@ -1,26 +1,37 @@
 //! The classes of a source, each by the number of the class around it and by its own name, and found by a hash of both (ECMA-335
 //! II.10.6). Number 0 is the outside of all classes, and that of a class is one more than its place in the list.
 
-ghost use Rattle.std.specs.Prelude.{◌≡◌, ◌++◌, ◌∷◌, [], None, OnErr, OnOk, length, nat_eq};
-ghost use Rattle.hash_places.specs.Slots.{place_of};
+ghost use Rattle.std.specs.Prelude.{◌≡◌, ◌+◌, ◌≤◌, ◌++◌, ◌∷◌, [], None, OnErr, OnOk, length};
 ghost use Rattle.assembly_tree.specs.DataSize.{is_id};
 ghost use Rattle.source_reading.specs.ClassNumbers.{IsNumber, class_hash, class_in, class_of, id_of, is_class, outer_of};
+ghost use Rattle.source_reading.specs.ClassTexts.{class_at};
 ghost use Rattle.source_reading.specs.NameTexts.{id_with};
 ghost use Rattle.source_reading.specs.Nested.{IsNested};
 
 use crate::equality::are_equal;
 use crate::hashes::{mix, mix_text, text_hash};
 use hash_places::HashPlaces;
-use il_base::{Items, NoMemory};
+use il_base::{Bytes, Items, NoMemory};
 use std::alloc::Global;
 use std::marker::Model;
 use type_terms::TypeId;
 
-/// A class, by the number of the class around it and by its own name.
+/// A class, by the number of the class around it and by its own name, as contracts see it.
 #[derive(Drop)]
 pub struct ClassName {
     pub outer: usize,
     pub id: TypeId,
+}
+
+// A class: the number of that around it, and where its space and, right behind it, its name stand among the texts of all
+// classes; the newest older class with the same hash.
+#[derive(Clone, Copy)]
+struct KeptClass {
+    outer: usize,
+    start: usize,
+    space: usize,
+    name: usize,
+    next: Option<usize>,
 }
 
 /// The classes of a source. Contracts see the list of them.
@@ -28,22 +39,21 @@ pub struct ClassName {
 pub struct ClassPaths {
     // From a hash to the place of the newest class with it.
     newest: HashPlaces,
-    classes: Items<ClassName>,
-    // From each class to the newest older one with the same hash.
-    nexts: Items<Option<usize>>,
+    texts: Bytes,
+    classes: Items<KeptClass>,
 }
 
 impl Model for ClassPaths {
-    ghost use Rattle.std.specs.Prelude.{List, length};
+    ghost use Rattle.std.specs.Prelude.{List};
     ghost use Rattle.hash_places.specs.Slots.{place_of};
-    ghost use Rattle.source_reading.specs.ClassNumbers.{AreFound};
+    ghost use Rattle.source_reading.specs.ClassTexts.{AreKept, classes_in};
     ghost use Rattle.source_reading.specs.declared.class_paths.ClassName.{ClassName};
 
     ghost Value = { List ClassName };
 
-    ghost view = { λ n. n.classes };
+    ghost view = { λ n. classes_in n.texts n.classes };
 
-    ghost invariant = { λ n. AreFound (place_of n.newest) n.classes n.nexts };
+    ghost invariant = { λ n. AreKept (place_of n.newest) n.texts n.classes };
 }
 
 impl ClassPaths {
@@ -53,8 +63,8 @@ impl ClassPaths {
     {
         ClassPaths {
             newest: HashPlaces::new(alloc),
+            texts: Bytes::new(alloc),
             classes: Items::new(alloc),
-            nexts: Items::new(alloc),
         }
     }
 
@@ -74,10 +84,11 @@ impl ClassPaths {
         let classes = self.classes.as_slice();
         let mut at = self.newest.get(class_hash(outer, space, name));
         while let Some(place) = at {
-            if is_class(&classes[place], outer, space, name) {
+            let class = classes[place];
+            if is_class(self.texts.as_slice(), class, outer, space, name) {
                 return Some(place + 1);
             }
-            at = *self.nexts.at(place);
+            at = class.next;
         }
         None
     }
@@ -89,21 +100,34 @@ impl ClassPaths {
         ensures ok { OnOk result (self.new ≡ self.old ++ class_of outer id ∷ []) }
         ensures err { OnErr result (self.new ≡ self.old) }
     {
-        let hash = class_hash(outer, id.space.as_bytes(), id.name.as_bytes());
+        self.push_named(outer, id.space.as_bytes(), id.name.as_bytes())?;
+        Ok(())
+    }
+
+    /// Adds a class that isn't there, with this space and this name.
+    pub fn push_named(&mut self, outer: usize, space: &[u8], name: &[u8]) -> Result<(), NoMemory>
+        requires within { IsNumber self.old outer }
+        requires fresh { class_in self.old (id_with space.now name.now) outer ≡ None }
+        ensures ok { OnOk result (self.new ≡ self.old ++ class_of outer (id_with space.now name.now) ∷ []) }
+        ensures err { OnErr result (self.new ≡ self.old) }
+    {
         let place = self.classes.as_slice().len();
-        self.classes.push(ClassName { outer, id })?;
-        if let Err(error) = self.nexts.push(None) {
-            self.classes.truncate(place);
-            return Err(error);
-        }
-        match self.newest.insert(hash, place) {
+        let class = KeptClass {
+            outer,
+            start: self.texts.len(),
+            space: space.len(),
+            name: name.len(),
+            next: None,
+        };
+        push_both(&mut self.texts, space, name)?;
+        self.classes.push(class)?;
+        match self.newest.insert(class_hash(outer, space, name), place) {
             Ok(next) => {
-                self.nexts.set(place, next);
+                self.classes.set(place, KeptClass { next, ..class });
                 Ok(())
             }
             Err(_) => {
                 self.classes.truncate(place);
-                self.nexts.truncate(place);
                 Err(NoMemory)
             }
         }
@@ -126,12 +150,30 @@ fn class_hash(outer: usize, space: &[u8], name: &[u8]) -> u64
 }
 
 // Whether a class has a name and stands in the class of a number.
-fn is_class(class: &ClassName, outer: usize, space: &[u8], name: &[u8]) -> bool
-    ensures { result ≡ is_class outer (id_with space.now name.now) class.now }
+fn is_class(texts: &[u8], class: KeptClass, outer: usize, space: &[u8], name: &[u8]) -> bool
+    requires { class.start + class.space + class.name ≤ length texts.now }
+    ensures { result ≡ is_class outer (id_with space.now name.now) (class_at texts.now class) }
 {
+    let middle = class.start + class.space;
     class.outer == outer
-        && are_equal(class.id.space.as_bytes(), space)
-        && are_equal(class.id.name.as_bytes(), name)
+        && are_equal(&texts[class.start..middle], space)
+        && are_equal(&texts[middle..middle + class.name], name)
+}
+
+// Adds two texts, or none.
+fn push_both(texts: &mut Bytes, space: &[u8], name: &[u8]) -> Result<(), NoMemory>
+    ensures ok { OnOk result (texts.new ≡ texts.old ++ (space.now ++ name.now)) }
+    ensures err { OnErr result (texts.new ≡ texts.old) }
+{
+    let before = texts.len();
+    texts.extend(space)?;
+    match texts.extend(name) {
+        Ok(()) => Ok(()),
+        Err(error) => {
+            texts.truncate(before);
+            Err(error)
+        }
+    }
 }
 
 /// Whether two types' names are equal.
