@@ -4,10 +4,9 @@ use Rattle.std.specs.Prelude.{slice_get, slice_index_or, nat_eq, option_map}
 use Rattle.std.proofs.lemmas.List.{get_or_default, length-map, map_push, drop-append-le, take-append-le}
 use Rattle.std.proofs.lemmas.Option.{slice_get-get_or, slice_get-map}
 use Rattle.std.proofs.Math.Seq.{drop-append_seam, take-append_seam, take-length}
-use Rattle.source_reading.specs.ClassNumbers.{AreFound, IsNumber, class_hash, class_in, class_of}
+use Rattle.source_reading.specs.ClassNumbers.{IsNumber, class_hash, class_in, class_of}
 use Rattle.source_reading.specs.ClassTexts.{AreKept, AreWithin, class_at, classes_in, name_at, older_of, space_at}
 use Rattle.source_reading.specs.NameTexts.{id_with}
-use Rattle.source_reading.specs.declared.class_paths.ClassName.{ClassName}
 use Rattle.source_reading.specs.declared.class_paths.KeptClass.{KeptClass}
 use Rattle.source_reading.proofs.ChainLemmas.{snoc_cases}
 use Rattle.source_reading.proofs.ClassLemmas.{found_none, found_push}

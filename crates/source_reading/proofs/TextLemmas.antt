@@ -1,14 +1,13 @@
 -- Names whose texts stand in one list of bytes: none, one more, and one that wasn't kept.
-use Rattle.std.proofs.Common.{◌≡◌, ℕ, zero, suc, ◌+◌, ◌-◌, ◌<◌, ◌≤◌, inl, inr, List, [], ◌∷◌, ◌++◌, Option, Some, None, length, map, cond, take, drop, reverse, sym, ◌∙◌, ap, refl, arith, length-append, length-drop}
-use Rattle.std.specs.Prelude.{slice_get, slice_set, nat_eq, option_map}
+use Rattle.std.proofs.Common.{◌≡◌, ℕ, suc, ◌+◌, ◌≤◌, inl, inr, List, [], ◌∷◌, ◌++◌, Option, Some, None, length, map, cond, take, drop, reverse, sym, ◌∙◌, ap, refl, arith, length-append, length-drop}
+use Rattle.std.specs.Prelude.{slice_get, nat_eq, option_map}
 use Rattle.std.proofs.lemmas.List.{length-map, map_push, drop-append-le, take-append-le}
-use Rattle.std.proofs.lemmas.Option.{slice_get-map, slice_get_within, same_Some}
+use Rattle.std.proofs.lemmas.Option.{slice_get-map}
 use Rattle.std.proofs.Math.Seq.{drop-append_seam, take-length}
-use Rattle.source_reading.specs.Chains.{HasHash, IsChained}
 use Rattle.source_reading.specs.ChainedTexts.{AreChained, AreWithin, next_of, text_in, texts_in}
 use Rattle.source_reading.specs.TextHash.{text_hash}
 use Rattle.source_reading.specs.declared.chained_names.ChainedName.{ChainedName}
-use Rattle.source_reading.proofs.ChainLemmas.{IsChained-none, chain_push, set_last, snoc_cases}
+use Rattle.source_reading.proofs.ChainLemmas.{IsChained-none, chain_push, snoc_cases}
 use Rattle.source_reading.proofs.FirstLemmas.{reverse_push}
 
 pub texts_none : (newest : ℕ → Option ℕ) (texts : List ℕ) → ((h : ℕ) → newest h ≡ None) → AreChained newest texts []

@@ -1,9 +1,9 @@
-use Rattle.std.proofs.Common.{◌≡◌, ℕ, ◌≤◌, List, Some, sym, ◌∙◌, ap, arith}
+use Rattle.std.proofs.Common.{◌≡◌, ℕ, ◌≤◌, Some, sym, ◌∙◌, ap, arith}
 use Rattle.std.specs.Prelude.{slice_get, position, bytes_eq}
-use Rattle.std.proofs.lemmas.Option.{slice_get_within, same_Some}
+use Rattle.std.proofs.lemmas.Option.{same_Some}
 use Rattle.std.proofs.lemmas.Slice.Eq.{bytes_eq-Decides}
 use Rattle.hash_places.specs.Slots.{place_of}
-use Rattle.source_reading.specs.ChainedTexts.{next_of, text_in, texts_in}
+use Rattle.source_reading.specs.ChainedTexts.{text_in, texts_in}
 use Rattle.source_reading.specs.TextHash.{text_hash}
 use Rattle.source_reading.proofs.ChainLemmas.{ahead_next, ahead_of-smaller, hashed_next, smaller_next}
 use Rattle.source_reading.proofs.FirstLemmas.{newest_is_first, absent_is_nowhere}

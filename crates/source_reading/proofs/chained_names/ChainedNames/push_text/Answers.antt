@@ -1,4 +1,4 @@
-use Rattle.std.proofs.Common.{rules, ◌≡◌, ◌∙◌, ℕ, List, [], ◌∷◌, ◌++◌, None, Some, cond, length, take, reverse, ap, sym, refl}
+use Rattle.std.proofs.Common.{rules, ◌≡◌, ◌∙◌, ℕ, [], ◌∷◌, ◌++◌, None, Some, cond, length, take, reverse, ap, sym, refl}
 use Rattle.std.specs.Prelude.{nat_eq, slice_set}
 use Rattle.std.proofs.lemmas.List.{take_at}
 use Rattle.std.specs.Prelude.{OnErr, Result, Ok, Err}

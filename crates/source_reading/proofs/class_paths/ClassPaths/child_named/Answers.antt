@@ -1,10 +1,9 @@
-use Rattle.std.proofs.Common.{◌≡◌, ◌∙◌, true, false, ℕ, ◌+◌, suc, length, Some, None, ap, sym, arith}
-use Rattle.std.specs.Prelude.{slice_get}
+use Rattle.std.proofs.Common.{◌≡◌, ◌∙◌, true, false, ◌+◌, suc, length, Some, ap, sym, arith}
 use Rattle.std.proofs.lemmas.Option.{same_Some, slice_get_within}
 use Rattle.hash_places.specs.Slots.{place_of}
 use Rattle.source_reading.specs.NameTexts.{id_with}
 use Rattle.source_reading.specs.ClassNumbers.{class_hash, class_in, class_of, is_class}
-use Rattle.source_reading.specs.ClassTexts.{class_at, classes_in, older_of}
+use Rattle.source_reading.specs.ClassTexts.{class_at, classes_in}
 use Rattle.source_reading.proofs.ChainLemmas.{ahead_next, hashed_next, smaller_next, ahead_of-smaller}
 use Rattle.source_reading.proofs.ClassLemmas.{is_apart, nowhere, place_is}
 use Rattle.source_reading.proofs.KeptClasses.{class_is, classes_long, older_is, read, read_is}

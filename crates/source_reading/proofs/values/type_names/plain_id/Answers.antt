@@ -1,4 +1,4 @@
-use Rattle.std.proofs.Common.{◌≡◌, List, sym, ap, ◌∙◌}
+use Rattle.std.proofs.Common.{◌≡◌, List, sym, ◌∙◌}
 use Rattle.std.specs.Prelude.{ℕ, drop, take, ◌-◌}
 use Rattle.source_model.specs.Nodes.{id_of_texts}
 use Rattle.source_model.specs.Values.{part_texts}
