@@ -82,7 +82,11 @@ pub fn typar_names(alloc: Global, reader: &Reader, below: &[TreeNode]) -> Result
     requires { IsForest below.now }
     ensures { (s : Source) (f : Forest) → Reads reader.now s → preorder f ≡ below.now → HasBodies s f → IfOk result (λ names. names ≡ typar_names s f) }
 {
-    let tokens = name_tokens(alloc, child(below, TYPARS_OPT_SOME), Naming::Typar)?;
+    let typars = child(below, TYPARS_OPT_SOME);
+    if typars.is_empty() {
+        return Ok(Declared::new(alloc));
+    }
+    let tokens = name_tokens(alloc, typars, Naming::Typar)?;
     let names = texts(alloc, reader, tokens.as_slice())?;
     Ok(names)
 }
