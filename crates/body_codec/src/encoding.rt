@@ -21,6 +21,7 @@ use crate::decoding::sections::ClauseRow;
 use assembly_tree::Body;
 use clauses::rows_of;
 use code::draft_of;
+use draft::Draft;
 use header::{locals_token, push_header};
 use il_lists::{Bytes, Items, NoMemory};
 pub use laws::written_is_read;
@@ -36,17 +37,50 @@ pub fn encode<N: Numberer>(alloc: Global, body: &Body, map: &N) -> Result<Bytes,
     ensures fault { IfErr result (IsFarFault body.now.code) }
     ensures only { (at : ℕ) → IsFirstFar body.now.code at → Answers result (Err (faults.Far at)) }
 {
-    let draft = draft_of(alloc, body.code.as_slice(), map)?;
-    let rows = rows_of(
-        alloc,
-        body.clauses.as_slice(),
-        draft.offsets.as_slice(),
-        map,
-    )?;
-    // The longest header has 12 bytes, and most bodies have no clauses.
-    let mut out = Items::with_capacity(alloc, draft.bytes.len().saturating_add(12))?;
-    push_body(&mut out, body, draft.bytes.as_slice(), rows.as_slice(), map)?;
+    let mut writer = BodyWriter::new(alloc);
+    let mut out = Items::new(alloc);
+    writer.write(alloc, body, map, &mut out)?;
     Ok(out)
+}
+
+/// Writes bodies one after another, each with the memory that those before it took.
+#[derive(Drop)]
+pub struct BodyWriter {
+    draft: Draft,
+}
+
+impl BodyWriter {
+    /// A writer that has taken no memory.
+    pub fn new(alloc: Global) -> BodyWriter {
+        BodyWriter {
+            draft: Draft::new(alloc),
+        }
+    }
+
+    /// Puts the bytes of a body, as [`encode`] answers them, in the place of those in `out`.
+    pub fn write<N: Numberer>(
+        &mut self,
+        alloc: Global,
+        body: &Body,
+        map: &N,
+        out: &mut Bytes,
+    ) -> Result<(), BodyFault>
+        requires { CanBeWritten (token_map (N.owner_tokens map.now) (N.method_tokens map.now) (N.field_tokens map.now) (N.locals_tokens map.now) (N.text_tokens map.now)) body.now }
+        ensures written { OnOk result (IsWritten (token_map (N.owner_tokens map.now) (N.method_tokens map.now) (N.field_tokens map.now) (N.locals_tokens map.now) (N.text_tokens map.now)) body.now out.new) }
+        ensures fault { IfErr result (IsFarFault body.now.code) }
+        ensures only { (at : ℕ) → IsFirstFar body.now.code at → Answers result (Err (faults.Far at)) }
+    {
+        draft_of(&mut self.draft, body.code.as_slice(), map)?;
+        let rows = rows_of(
+            alloc,
+            body.clauses.as_slice(),
+            self.draft.offsets.as_slice(),
+            map,
+        )?;
+        out.truncate(0);
+        push_body(out, body, self.draft.bytes.as_slice(), rows.as_slice(), map)?;
+        Ok(())
+    }
 }
 
 /// Adds the bytes of a body: its header, its code, which has these bytes, and its clauses.

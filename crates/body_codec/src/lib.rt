@@ -8,6 +8,6 @@ mod fault;
 mod laws;
 
 pub use decoding::{decode, named_tokens};
-pub use encoding::{encode, written_is_read};
+pub use encoding::{BodyWriter, encode, written_is_read};
 pub use fault::BodyFault;
 pub use laws::{bytes_name_one_list, bytes_spell_one_body};

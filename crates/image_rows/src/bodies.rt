@@ -1,5 +1,5 @@
 //! The bodies of methods, one after another (ECMA-335 II.25.4).
-ghost use Rattle.std.specs.Prelude.{◌≡◌, ℕ, ◌+◌, ◌^◌, ◌≤◌, ◌∷◌, [], map, Some, length, IfOk};
+ghost use Rattle.std.specs.Prelude.{◌≡◌, ℕ, ◌+◌, ◌^◌, ◌≤◌, ◌∷◌, [], map, Some, length, IfOk, OnOk};
 ghost use Rattle.body_codec.specs.Encoding.{CanBeWritten, IsFirstFar, IsWritten};
 ghost use Rattle.image_references.specs.BodyTokens.{HasBodyTokens};
 ghost use Rattle.image_references.specs.NamesWeight.{names_weight};
@@ -9,11 +9,18 @@ ghost use Rattle.image_references.specs.References.{size, AreKnown};
 
 use crate::placing::put_bytes;
 use assembly_tree::{Body, Method};
-use body_codec::{BodyFault, encode};
+use body_codec::{BodyFault, BodyWriter};
 use il_base::{Bytes, Items, NoMemory};
 use image_references::body_tokens::note_body;
 use image_references::references::References;
 use std::alloc::Global;
+
+/// Where bodies are written, one after another, before they are added to the code.
+#[derive(Drop)]
+struct Space {
+    writer: BodyWriter,
+    bytes: Bytes,
+}
 
 /// Adds the bodies of methods to the code, and answers where each stands, as an RVA; 0 for a method that
 /// has none.
@@ -26,9 +33,13 @@ pub fn push_bodies<'a>(
     requires { CanPushBodies (map body_of (lent methods.now)) refs.old code.old }
     ensures { IfOk result (AddsBodies (map body_of (lent methods.now)) refs.old refs.new code.old code.new) }
 {
-    let mut rvas = Items::new(alloc);
+    let mut space = Space {
+        writer: BodyWriter::new(alloc),
+        bytes: Items::new(alloc),
+    };
+    let mut rvas = Items::with_capacity(alloc, methods.len())?;
     for method in methods {
-        let rva = push_stated(alloc, refs, code, &method.body)?;
+        let rva = push_stated(alloc, refs, code, &mut space, &method.body)?;
         rvas.push(rva)?;
     }
     Ok(rvas)
@@ -39,6 +50,7 @@ fn push_stated<'a>(
     alloc: Global,
     refs: &mut References<'a>,
     code: &mut Bytes,
+    space: &mut Space,
     body: &'a Option<Body>,
 ) -> Result<u32, NoMemory>
     requires { CanPushBodies (body.now ∷ []) refs.old code.old }
@@ -46,7 +58,7 @@ fn push_stated<'a>(
 {
     match body {
         None => Ok(0),
-        Some(body) => push_body(alloc, refs, code, body),
+        Some(body) => push_body(alloc, refs, code, space, body),
     }
 }
 
@@ -55,6 +67,7 @@ fn push_body<'a>(
     alloc: Global,
     refs: &mut References<'a>,
     code: &mut Bytes,
+    space: &mut Space,
     body: &'a Body,
 ) -> Result<u32, NoMemory>
     requires known { AreKnown refs.old }
@@ -64,20 +77,28 @@ fn push_body<'a>(
     ensures { IfOk result (AddsBody body.now refs.old refs.new code.old code.new) }
 {
     note_body(alloc, refs, body)?;
-    let bytes = bytes_of(alloc, refs, body)?;
-    put_bytes(code, 4, bytes.as_slice())
+    write_body(alloc, refs, space, body)?;
+    put_bytes(code, 4, space.bytes.as_slice())
 }
 
-/// The bytes of a body, all of whose names have tokens.
-fn bytes_of<'a>(alloc: Global, refs: &References<'a>, body: &Body) -> Result<Bytes, NoMemory>
+/// Writes a body, all of whose names have tokens.
+fn write_body<'a>(
+    alloc: Global,
+    refs: &References<'a>,
+    space: &mut Space,
+    body: &Body,
+) -> Result<(), NoMemory>
     requires known { AreKnown refs.now }
     requires tokens { HasBodyTokens refs.now body.now }
     requires form { CanBeWritten any_token body.now }
     requires reaches { (at : ℕ) → IsFirstFar body.now.code at → ⊥ }
-    ensures { IfOk result (IsWritten (all_tokens refs.now) body.now) }
+    ensures { OnOk result (IsWritten (all_tokens refs.now) body.now space.new.bytes) }
 {
-    match encode(alloc, body, &refs.known) {
-        Ok(bytes) => Ok(bytes),
+    match space
+        .writer
+        .write(alloc, body, &refs.known, &mut space.bytes)
+    {
+        Ok(_) => Ok(()),
         Err(fault) => match fault {
             BodyFault::NoMemory => Err(NoMemory),
             // No branch is too far.

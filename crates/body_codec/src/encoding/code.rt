@@ -1,4 +1,4 @@
-ghost use Rattle.std.specs.Prelude.{◌≡◌, ◌<◌, ◌+◌, ◌++◌, ◌^◌, ℕ, List, [], length, slice_index, slice_index_or, IfOk, IfErr, OnOk};
+ghost use Rattle.std.specs.Prelude.{◌≡◌, ◌<◌, ◌+◌, ◌++◌, ◌^◌, ℕ, List, [], length, slice_index, slice_index_or, IfErr, OnOk};
 ghost use Rattle.std.specs.List.{All};
 ghost use Rattle.assembly_tree.specs.declared.body.Ins.{Ins};
 ghost use Rattle.assembly_tree.specs.declared.body.Operand.TheVariants as operands;
@@ -14,32 +14,31 @@ use assembly_tree::Ins;
 use il_lists::NoMemory;
 use opcode_table::kind_of;
 use sig_codec::Numberer;
-use std::alloc::Global;
 
-/// The code of these instructions (III.1.9), written in one pass. `Far` at the first short branch that doesn't reach.
+/// Writes the code of these instructions (III.1.9) in one pass, in the place of what the draft had. `Far` at the first short branch that doesn't reach.
 pub(crate) fn draft_of<N: Numberer>(
-    alloc: Global,
+    draft: &mut Draft,
     code: &[Ins],
     map: &N,
-) -> Result<Draft, BodyFault>
+) -> Result<(), BodyFault>
     requires end { offset code.now (length code.now) < 2 ^ 31 }
     requires fits { All (λ ins. OperandFits (token_map (N.owner_tokens map.now) (N.method_tokens map.now) (N.field_tokens map.now) (N.locals_tokens map.now) (N.text_tokens map.now)) (length code.now) (kind ins.op) ins.operand) code.now }
-    ensures offsets { IfOk result (λ d. AreOffsets code.now d.offsets) }
-    ensures written { IfOk result (λ d. d.bytes ≡ code_bytes (token_map (N.owner_tokens map.now) (N.method_tokens map.now) (N.field_tokens map.now) (N.locals_tokens map.now) (N.text_tokens map.now)) d.offsets code.now) }
+    ensures offsets { OnOk result (AreOffsets code.now draft.new.offsets) }
+    ensures written { OnOk result (draft.new.bytes ≡ code_bytes (token_map (N.owner_tokens map.now) (N.method_tokens map.now) (N.field_tokens map.now) (N.locals_tokens map.now) (N.text_tokens map.now)) draft.new.offsets code.now) }
     ensures tokens { OnOk result (All (λ ins. HasToken (token_map (N.owner_tokens map.now) (N.method_tokens map.now) (N.field_tokens map.now) (N.locals_tokens map.now) (N.text_tokens map.now)) ins.operand) code.now) }
-    ensures near { IfOk result (λ d. (k : ℕ) (i : Ins) → k < length code.now → Reaches d.offsets (slice_index d.offsets (k + 1)) (kind (slice_index_or code.now k i).op) (slice_index_or code.now k i).operand) }
+    ensures near { OnOk result ((k : ℕ) (i : Ins) → k < length code.now → Reaches draft.new.offsets (slice_index draft.new.offsets (k + 1)) (kind (slice_index_or code.now k i).op) (slice_index_or code.now k i).operand) }
     ensures far { IfErr result (IsFarFault code.now) }
 {
-    let mut draft = Draft::new(alloc, code.len())?;
+    draft.restart(code.len())?;
     for (k, ins) in code.iter().enumerate() {
         draft.begin()?;
-        push_ins(&mut draft, ins, k as u32, map)?;
+        push_ins(draft, ins, k as u32, map)?;
     }
     let end = draft.bytes.len() as u32;
     draft.offsets.push(end)?;
     match draft.far {
         Some(at) => Err(BodyFault::Far { at }),
-        None => Ok(draft),
+        None => Ok(()),
     }
 }
 

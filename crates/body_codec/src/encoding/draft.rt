@@ -27,27 +27,34 @@ pub(crate) struct Draft {
 }
 
 impl Draft {
-    /// Nothing of code with so many instructions.
-    pub fn new(alloc: Global, count: usize) -> Result<Draft, NoMemory>
-        ensures bytes { IfOk result (λ d. d.bytes ≡ []) }
-        ensures offsets { IfOk result (λ d. d.offsets ≡ []) }
-        ensures sites { IfOk result (λ d. d.sites ≡ []) }
-        ensures far { IfOk result (λ d. d.far ≡ None) }
-        ensures count { IfOk result (λ d. length d.latest ≡ count) }
-        ensures latest { IfOk result (λ d. All (λ o. o ≡ None) d.latest) }
-    {
-        let mut latest = Items::with_capacity(alloc, count)?;
-        for _ in 0..count {
-            latest.push(None)?;
-        }
-        Ok(Draft {
-            // Most instructions take fewer bytes, and most bodies have fewer branches.
-            bytes: Items::with_capacity(alloc, count.saturating_mul(4))?,
-            offsets: Items::with_capacity(alloc, count.saturating_add(1))?,
-            latest,
-            sites: Items::with_capacity(alloc, count / 4)?,
+    /// Nothing of any code. Takes no memory.
+    pub fn new(alloc: Global) -> Draft {
+        Draft {
+            bytes: Items::new(alloc),
+            offsets: Items::new(alloc),
+            latest: Items::new(alloc),
+            sites: Items::new(alloc),
             far: None,
-        })
+        }
+    }
+
+    /// Begins anew, with nothing of code with so many instructions. The memory is used again.
+    pub fn restart(&mut self, count: usize) -> Result<(), NoMemory>
+        ensures bytes { OnOk result (self.new.bytes ≡ []) }
+        ensures offsets { OnOk result (self.new.offsets ≡ []) }
+        ensures sites { OnOk result (self.new.sites ≡ []) }
+        ensures far { OnOk result (self.new.far ≡ None) }
+        ensures count { OnOk result (length self.new.latest ≡ count) }
+        ensures latest { OnOk result (All (λ o. o ≡ None) self.new.latest) }
+    {
+        self.bytes.truncate(0);
+        self.offsets.truncate(0);
+        self.sites.truncate(0);
+        self.far = None;
+        wait_for_none(&mut self.latest, count)?;
+        // Most instructions take fewer bytes.
+        self.bytes.reserve(count.saturating_mul(4))?;
+        self.offsets.reserve(count.saturating_add(1))
     }
 
     /// Begins the next instruction at the end of the bytes: what waits for it is written.
@@ -137,4 +144,17 @@ impl Draft {
         self.latest.set(to, Some(number));
         Ok(())
     }
+}
+
+/// Nothing waits for any of so many instructions.
+fn wait_for_none(latest: &mut Items<Option<u32>>, count: usize) -> Result<(), NoMemory>
+    ensures count { OnOk result (length latest.new ≡ count) }
+    ensures none { OnOk result (All (λ o. o ≡ None) latest.new) }
+{
+    latest.truncate(0);
+    latest.reserve(count)?;
+    for _ in 0..count {
+        latest.push(None)?;
+    }
+    Ok(())
 }

@@ -10,7 +10,7 @@ use Rattle.image_rows.proofs.bodies.push_bodies.Goals as goal
 
 pub loop-method-init : goal.loop-method-init
 loop-method-init c =
-    subst (λ (rs : List ℕ). BodiesTo c.args.refs.now c.args.refs.now c.args.code.now c.args.code.now rs (map body_of (lent c.args.methods.now)) (map body_of (lent c.args.methods.now))) (sym c.new-rvas.ensures)
+    subst (λ (rs : List ℕ). BodiesTo c.args.refs.now c.args.refs.now c.args.code.now c.args.code.now rs (map body_of (lent c.args.methods.now)) (map body_of (lent c.args.methods.now))) (sym c.in_ok-rvas.ensures)
     (bodies_begin c.args.refs.now c.args.code.now (map body_of (lent c.args.methods.now)) c.requires)
 
 pub push_stated-requires : goal.push_stated-requires

@@ -17,12 +17,12 @@ use Rattle.body_codec.proofs.encoding.code.draft_of.Goals as goal
 
 pub loop-k-init : goal.loop-k-init
 loop-k-init g c =
-    let e = c.in_ok-draft.ensures in
+    let e = c.in_ok-restart.ensures in
     record {
-      linked = rw (e.bytes, e.offsets, e.sites) (linked_none c.in_ok-draft.draft.latest e.latest);
+      linked = rw (e.bytes, e.offsets, e.sites) (linked_none c.restart.new.self.latest e.latest);
       count = e.count;
       begun = ap length e.offsets;
-      draft = rw (e.bytes, e.offsets, e.sites, e.far) (draft_none c.args.code.now (length c.in_ok-draft.draft.latest) e.count);
+      draft = rw (e.bytes, e.offsets, e.sites, e.far) (draft_none c.args.code.now (length c.restart.new.self.latest) e.count);
       tokens = λ j i h. absurd (omega arith);
     }
 
