@@ -41,7 +41,23 @@ fn is_path(a: &[TypeId], b: &[TypeId]) -> bool
 fn is_id(a: &TypeId, b: &TypeId) -> bool
     ensures { IsTrue result ↔ (a.now ≡ b.now) }
 {
-    a.name.as_bytes() == b.name.as_bytes() && a.space.as_bytes() == b.space.as_bytes()
+    are_bytes(a.name.as_bytes(), b.name.as_bytes())
+        && are_bytes(a.space.as_bytes(), b.space.as_bytes())
+}
+
+/// Whether two texts are equal. Most are short: a plain loop over their bytes takes the least time.
+fn are_bytes(a: &[u8], b: &[u8]) -> bool
+    ensures { IsTrue result ↔ (a.now ≡ b.now) }
+{
+    if a.len() != b.len() {
+        return false;
+    }
+    for k in 0..a.len() {
+        if a[k] != b[k] {
+            return false;
+        }
+    }
+    true
 }
 
 /// Whether two types are equal.
@@ -104,7 +120,7 @@ fn is_sentinel(a: Option<u32>, b: Option<u32>) -> bool
 pub fn is_method(a: &MethodRef, b: &MethodRef) -> bool
     ensures { IsTrue result ↔ (a.now ≡ b.now) }
 {
-    a.name.as_bytes() == b.name.as_bytes()
+    are_bytes(a.name.as_bytes(), b.name.as_bytes())
         && is_owner(&a.owner, &b.owner)
         && is_signature(&a.sig, &b.sig)
         && are_arguments(a, b)
@@ -124,7 +140,9 @@ fn are_arguments(a: &MethodRef, b: &MethodRef) -> bool
 pub fn is_field(a: &FieldRef, b: &FieldRef) -> bool
     ensures { IsTrue result ↔ (a.now ≡ b.now) }
 {
-    a.name.as_bytes() == b.name.as_bytes() && is_owner(&a.owner, &b.owner) && is_type(&a.of, &b.of)
+    are_bytes(a.name.as_bytes(), b.name.as_bytes())
+        && is_owner(&a.owner, &b.owner)
+        && is_type(&a.of, &b.of)
 }
 
 /// Whether two texts are equal.
