@@ -1,11 +1,10 @@
 -- The rows of InterfaceImpl.
-use Rattle.std.proofs.Common.{◌≡◌, ap, refl, sym, ◌∙◌, subst, ℕ, suc, ◌+◌, ◌-◌, ◌<◌, ◌≤◌, ◌^◌, List, [], ◌∷◌, ◌++◌, map, length, arith}
+use Rattle.std.proofs.Common.{◌≡◌, ap, refl, sym, ◌∙◌, subst, ℕ, ◌+◌, ◌-◌, ◌<◌, ◌≤◌, ◌^◌, List, [], ◌∷◌, ◌++◌, map, length, arith}
 use Rattle.std.specs.Prelude.{sum_by}
 use Rattle.std.specs.List.{AllByRecursion, AllZip}
-use Rattle.std.specs.List.Sorted.{IsPermutation, IsNonDecreasing}
 use Rattle.std.proofs.lemmas.Grind.{flat_map-append}
 use Rattle.std.proofs.lemmas.List.{append-nil, append_assoc, length-append, length-map}
-use Rattle.std.proofs.lemmas.List.Sorted.{length_permutation}
+use Rattle.std.proofs.lemmas.List.Sorted.{IsPermutation-refl, length_permutation}
 use Rattle.std.proofs.lemmas.List.Sums.{sum_by-cons, sum_by-append}
 use Rattle.metadata_tables.specs.Encoding.{rows_of, rows_in, AddsRow, IsRowOf}
 use Rattle.metadata_tables.specs.Laws.{RowOfColumns}
@@ -112,6 +111,13 @@ interfaces_pushed a b from to row owners found sorted f s h = record {
   adds = subst (λ rows. AddsRows 0x09 rows from to) (sym (append-nil (map (λ index. row ∷ index ∷ []) sorted))) h;
   each = (record { found = found; each = f.each; indexes = sorted; same = s.same; rise = s.rise; are = refl }, tt);
 }
+
+-- a type without interfaces has no rows
+pub nothing_pushed : (a : References) (from : Tables) (row : ℕ) (owners : List Owner) → owners ≡ [] → AreKnown a → PushesInterfaces ((row, owners) ∷ []) a a from from
+nothing_pushed a from row owners none known =
+    subst (λ (os : List Owner). PushesInterfaces ((row, os) ∷ []) a a from from) (sym none)
+    (interfaces_pushed a a from from row [] [] [] (record { grows = grows_refl a; known = known; room = omega arith; each = tt })
+    (record { same = IsPermutation-refl []; rise = λ i j d le within. absurd (omega arith) }) (rows_none 0x09 from))
 
 pub interfaces_room : (a : References) (from : Tables) (row : ℕ) (owners : List Owner) → CanPushInterfaces ((row, owners) ∷ []) a from → size a + sum_by owner_weight owners ≤ 2 ^ 26
 interfaces_room a from row owners h = let room = h.room in let one = sum_by-cons interface_bytes (row, owners) [] in omega arith

@@ -1,6 +1,7 @@
 -- The rows of EventMap and PropertyMap.
-use Rattle.std.proofs.Common.{◌≡◌, ap, sym, ◌∙◌, subst, ℕ, ◌+◌, ◌-◌, ◌<◌, ◌≤◌, ◌^◌, ◌==◌, Bool, true, false, cond, List, [], ◌∷◌, ◌++◌, length, arith}
+use Rattle.std.proofs.Common.{◌≡◌, ap, refl, sym, ◌∙◌, subst, ℕ, ◌+◌, ◌-◌, ◌<◌, ◌≤◌, ◌^◌, ◌==◌, Bool, true, false, cond, List, [], ◌∷◌, ◌++◌, length, arith}
 use Rattle.std.specs.Prelude.{sum_by}
+use Rattle.std.specs.List.{flat_map}
 use Rattle.std.proofs.lemmas.List.{length-append}
 use Rattle.std.proofs.lemmas.List.Sums.{sum_by-cons}
 use Rattle.metadata_tables.specs.Encoding.{rows_of, rows_in, AddsRow, IsRowOf}
@@ -10,6 +11,7 @@ use Rattle.metadata_tables.specs.Schema.{schema}
 use Rattle.image_rows.specs.MapRows.{run_rows, map_rows}
 use Rattle.image_rows.specs.Pushing.{Tables, AddsRows}
 use Rattle.image_rows.specs.declared.classes.Class.{Class}
+use Rattle.image_rows.proofs.EmptinessLemmas.{no_front, no_back}
 use Rattle.image_rows.proofs.PushLemmas.{rows_none, rows_one, rows_both}
 
 pub event_map_cells : RowOfColumns → (row cell : ℕ) → IsRowOf 0x12 (row ∷ cell ∷ [])
@@ -31,6 +33,15 @@ a_run table row cell count from to e h = subst (λ b. AddsRows table (cond b [] 
 short : (b : Bool) (row cell : ℕ) → length (cond b [] ((row ∷ cell ∷ []) ∷ [])) ≤ 1
 short true row cell = omega arith
 short false row cell = omega arith
+
+-- where no type has items, none has a row
+pub no_runs : {X : Type 0} (items : Class → List X) (all row first : ℕ) (classes : List Class) → flat_map items classes ≡ []
+    → map_rows (λ c. length (items c)) all row first classes ≡ []
+no_runs items all row first [] e = refl
+no_runs items all row first (c ∷ cs) e =
+    let none = no_front (items c) (flat_map items cs) e in
+    ap (λ xs. run_rows row (run_cell all first) (length xs) ++ map_rows (λ x. length (items x)) all (row + 1) (first + length (items c)) cs) none
+    ∙ no_runs items all (row + 1) (first + length (items c)) cs (no_back (items c) (flat_map items cs) e)
 
 -- ---- each type in turn
 

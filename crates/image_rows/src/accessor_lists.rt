@@ -1,11 +1,13 @@
 //! The tables whose rows have accessors, each with those of its rows (ECMA-335 II.22.28).
-ghost use Rattle.std.specs.Prelude.{◌≡◌, ◌+◌, ◌^◌, ◌<◌, ◌++◌, length, map, sum_by, IfOk, OnOk};
+ghost use Rattle.std.specs.Prelude.{◌≡◌, ◌+◌, ◌^◌, ◌<◌, ◌++◌, [], length, map, sum_by, IsTrue, IfOk, OnOk};
 ghost use Rattle.image_rows.specs.DeclaredMembers.{methods_count, class_methods};
 ghost use Rattle.image_rows.specs.Lists.{access_of, event_access, property_access, access_from, accessor_lists};
+ghost use Rattle.image_rows.specs.Places.{lent};
 ghost use Rattle.image_rows.specs.SemanticsRows.{methods_of, with_methods};
 
 use crate::carrying::Carries;
 use crate::classes::Class;
+use crate::order::Ordered;
 use crate::semantics_rows::{Access, Accessing};
 use assembly_tree::{Accessors, Assembly};
 use il_base::{Items, NoMemory};
@@ -35,6 +37,13 @@ pub fn accessor_tables<'a>(
         of: properties,
     })?;
     Ok(tables)
+}
+
+/// Whether nothing is declared that has accessors.
+pub fn have_no_accessors(ordered: &Ordered) -> bool
+    ensures { IsTrue result → (lent ordered.now.events ≡ []) × (lent ordered.now.properties ≡ []) }
+{
+    ordered.events.is_empty() && ordered.properties.is_empty()
 }
 
 /// The accessors of each event of types whose methods follow one another from this row on.

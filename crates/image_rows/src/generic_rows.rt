@@ -40,7 +40,7 @@ pub fn push_all_generics<'a>(
 }
 
 /// Whether any row of these tables has generic parameters.
-pub(crate) fn have_generics(tables: &[Parametric]) -> bool
+pub fn have_generics(tables: &[Parametric]) -> bool
     ensures { result ≡ false → (k : ℕ) → generics_at tables.now k ≡ [] }
 {
     for table in tables {

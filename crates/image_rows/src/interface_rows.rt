@@ -47,6 +47,9 @@ fn push_interfaces<'a>(
     requires { CanPushInterfaces ((row, interfaces.now) ∷ []) refs.old rows.old }
     ensures { OnOk result (PushesInterfaces ((row, interfaces.now) ∷ []) refs.old refs.new rows.old rows.new) }
 {
+    if interfaces.is_empty() {
+        return Ok(());
+    }
     let found = indexes_of(alloc, refs, interfaces)?;
     let indexes = rising(alloc, found.as_slice())?;
     push_indexes(rows, row, indexes.as_slice())

@@ -1,4 +1,4 @@
-use Rattle.std.proofs.Common.{◌≡◌, ◌∙◌, ap, sym, subst, ℕ, ◌+◌, ◌<◌, List, length, refl, inl, ◌^◌}
+use Rattle.std.proofs.Common.{sym, subst, ℕ, ◌+◌, ◌<◌, List, length, refl, inl, ◌^◌}
 use Rattle.std.proofs.lemmas.Result.{IfOk-weaker}
 use Rattle.image_rows.specs.CodeBytes.{all_tokens, AddsBody}
 use Rattle.image_rows.specs.Placing.{Puts}

@@ -1,9 +1,10 @@
-use Rattle.std.proofs.Common.{◌≡◌, sym, subst, ℕ, ◌+◌, ◌^◌, ◌<◌, List, [], ◌∷◌, map, length}
+use Rattle.std.proofs.Common.{rules, ◌≡◌, sym, subst, ℕ, ◌+◌, ◌^◌, ◌<◌, List, [], ◌∷◌, map, length}
+use Rattle.std.proofs.lemmas.List.{nil_from_length}
 use Rattle.std.proofs.lemmas.Result.{on_ok_weaker}
 use Rattle.metadata_tables.specs.Encoding.{rows_in}
 use Rattle.image_rows.specs.InterfaceRows.{IsRising}
 use Rattle.image_rows.specs.Pushing.{AddsRows}
-use Rattle.image_rows.proofs.InterfaceLemmas.{interfaces_room, interfaces_few, interfaces_pushed}
+use Rattle.image_rows.proofs.InterfaceLemmas.{nothing_pushed, interfaces_room, interfaces_few, interfaces_pushed}
 use Rattle.image_rows.proofs.interface_rows.push_interfaces.Goals as goal
 
 pub indexes_of-requires-clause-known : goal.indexes_of-requires-clause-known
@@ -34,3 +35,8 @@ returns c =
     (λ h. interfaces_pushed c.args.refs.now c.indexes_of.new.refs from to c.args.row c.args.interfaces.now found sorted c.in_ok-found.ensures rises
     (subst (λ (xs : List ℕ). AddsRows 0x09 (map (λ (index : ℕ). c.args.row ∷ index ∷ []) xs) from to) c.as_slice-2.ensures.value h))
     c.push_indexes.ensures
+
+pub returns-then-is_empty : goal.returns-then-is_empty
+returns-then-is_empty c =
+    let long : length c.args.interfaces.now ≡ 0 = search rules in
+    nothing_pushed c.args.refs.now c.args.rows.now c.args.row c.args.interfaces.now (nil_from_length c.args.interfaces.now long) c.requires.known
