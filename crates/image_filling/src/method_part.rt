@@ -14,7 +14,7 @@ use image_rows::classes::Class;
 use image_rows::method_rows::push_methods;
 use image_rows::order::Ordered;
 use image_rows::override_rows::push_all_overrides;
-use image_rows::param_rows::push_all_params;
+use image_rows::param_rows::push_params;
 use metadata_tables::Rows;
 use std::alloc::Global;
 use tree_weights::laws::overrides_are_counted;
@@ -40,7 +40,7 @@ pub fn push_method_part<'a>(
     let methods = ordered.methods.as_slice();
     let bodies = push_bodies(alloc, refs, code, methods)?;
     push_methods(refs, rows, methods, bodies.as_slice(), ordered.params.len())?;
-    push_all_params(refs, rows, a.methods.as_slice(), classes)?;
+    push_params(refs, rows, ordered.params.as_slice())?;
     push_all_overrides(alloc, refs, rows, methods)?;
     Ok(())
 }

@@ -21,7 +21,7 @@ use image_rows::bound_rows::push_all_bounds;
 use image_rows::classes::Class;
 use image_rows::constant_rows::{Valued, push_all_constants};
 use image_rows::generic_order::generics_in_order;
-use image_rows::generic_rows::{Parametric, push_all_generics};
+use image_rows::generic_rows::{Parametric, have_generics, push_all_generics};
 use image_rows::longest::{longest_attributed, longest_parametric, longest_valued};
 use image_rows::order::Ordered;
 use image_rows::owned_lists::{attribute_tables, constant_tables, generic_tables};
@@ -72,6 +72,9 @@ fn push_generic_rows<'a>(
     ensures pushes { OnOk result (Pushes 0x2A IsGenericRow generic_bytes (generics_in (map counted tables.now)) refs.old refs.new rows.old rows.new) }
     ensures order { IfOk result (λ generics. lent generics ≡ map generic_of (generics_in (map counted tables.now))) }
 {
+    if !have_generics(tables) {
+        return Ok(Items::new(alloc));
+    }
     let count = longest_parametric(tables);
     push_all_generics(refs, rows, tables, count)?;
     let generics = generics_in_order(alloc, tables, count)?;

@@ -11,7 +11,7 @@ ghost use Rattle.image_filling.specs.Filling.{property_part, IsReady, Fills};
 use assembly_tree::Assembly;
 use il_base::NoMemory;
 use image_references::references::References;
-use image_rows::accessor_lists::accessor_tables;
+use image_rows::accessor_lists::{accessor_tables, have_no_accessors};
 use image_rows::classes::Class;
 use image_rows::event_rows::push_events;
 use image_rows::longest::longest_accessing;
@@ -36,7 +36,7 @@ pub fn push_property_part<'a>(
 {
     push_properties(alloc, refs, rows, ordered.properties.as_slice())?;
     push_events(alloc, refs, rows, ordered.events.as_slice())?;
-    push_accessor_rows(alloc, rows, a, classes)?;
+    push_accessor_rows(alloc, rows, a, classes, ordered)?;
     Ok(())
 }
 
@@ -46,12 +46,17 @@ fn push_accessor_rows<'a>(
     rows: &mut Rows,
     a: &Assembly,
     classes: &[Class<'a>],
+    ordered: &Ordered<'a>,
 ) -> Result<(), NoMemory>
+    requires ordered { IsOrdered a.now classes.now ordered.now }
     requires counted { methods_count a.now classes.now < 2 ^ 24 }
     requires owners { longest_of (accessor_lists a.now classes.now) < 2 ^ 24 }
     requires can { CanAddAccessors (accessor_items a.now classes.now) rows.old }
     ensures { OnOk result (AddsRows 0x18 (map semantics_row (accessor_items a.now classes.now)) rows.old rows.new) }
 {
+    if have_no_accessors(ordered) {
+        return Ok(());
+    }
     let tables = accessor_tables(alloc, a, classes)?;
     let count = longest_accessing(tables.as_slice());
     push_all_accessors(rows, tables.as_slice(), count)?;

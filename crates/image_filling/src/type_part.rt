@@ -11,7 +11,7 @@ use image_references::references::References;
 use image_rows::class_rows::{push_layouts, push_nested};
 use image_rows::classes::Class;
 use image_rows::interface_rows::push_all_interfaces;
-use image_rows::map_rows::{push_event_map, push_property_map};
+use image_rows::map_rows::{push_event_runs, push_property_runs};
 use image_rows::order::Ordered;
 use image_rows::type_rows::{Counts, Runs, push_module_type, push_types};
 use metadata_tables::Rows;
@@ -35,8 +35,8 @@ pub fn push_type_part<'a>(
     push_all_interfaces(alloc, refs, rows, classes)?;
     push_layouts(rows, classes)?;
     push_nested(rows, classes)?;
-    push_event_map(rows, classes, ordered.events.len())?;
-    push_property_map(rows, classes, ordered.properties.len())?;
+    push_event_runs(rows, classes, ordered.events.as_slice())?;
+    push_property_runs(rows, classes, ordered.properties.as_slice())?;
     Ok(())
 }
 

@@ -1,9 +1,15 @@
-use Rattle.std.proofs.Common.{◌≡◌, ap, sym, ◌∙◌, subst, ℕ, ◌<◌, ◌^◌, List, map, arith}
+use Rattle.std.proofs.Common.{◌≡◌, ap, sym, ◌∙◌, subst, ℕ, map, arith}
+use Rattle.std.specs.List.{range_with_len}
+use Rattle.assembly_tree.specs.declared.members.Generic.{Generic}
 use Rattle.metadata_tables.specs.declared.coded.Coded.TheVariants.{TypeOrMethodDef}
 use Rattle.image_rows.specs.ByNumber.{by_number}
-use Rattle.image_rows.specs.GenericRows.{counted, generic_of, generic_bytes, IsGenericRow, CanPushGeneric}
+use Rattle.image_rows.specs.GenericRows.{counted, generic_of, generics_at, generic_bytes, IsGenericRow, CanPushGeneric}
+use Rattle.image_rows.specs.Lists.{longest_of}
 use Rattle.image_rows.specs.Places.{lent}
 use Rattle.image_rows.specs.Pushing.{Pushes, CanPush}
+use Rattle.image_rows.proofs.EmptinessLemmas.{nothing_in_all}
+use Rattle.image_rows.proofs.GenericLemmas.{generic_kind}
+use Rattle.image_rows.proofs.KindLemmas.{none_pushed}
 use Rattle.image_filling.proofs.owned_part.push_generic_rows.Goals as goal
 
 pub longest_parametric-count-requires : goal.longest_parametric-count-requires
@@ -25,3 +31,13 @@ returns-clause-pushes c =
 pub returns-clause-order : goal.returns-clause-order
 returns-clause-order c =
     subst (λ (n : ℕ). lent c.in_ok-generics.generics ≡ map generic_of (by_number TypeOrMethodDef (map counted c.args.tables.now) n)) c.longest_parametric-count.ensures c.in_ok-generics.ensures
+
+pub returns-then-not-have_generics-clause-pushes : goal.returns-then-not-have_generics-clause-pushes
+returns-then-not-have_generics-clause-pushes c =
+    let none = nothing_in_all (generics_at c.args.tables.now) (c.have_generics.ensures c.if-not-have_generics.true) (range_with_len 0 (longest_of (map counted c.args.tables.now))) in
+    subst (λ xs. Pushes 0x2A IsGenericRow generic_bytes xs c.args.refs.now c.args.refs.now c.args.rows.now c.args.rows.now) (sym none) (none_pushed generic_kind c.args.refs.now c.args.rows.now c.requires.can.known)
+
+pub returns-then-not-have_generics-clause-order : goal.returns-then-not-have_generics-clause-order
+returns-then-not-have_generics-clause-order c =
+    let none = nothing_in_all (generics_at c.args.tables.now) (c.have_generics.ensures c.if-not-have_generics.true) (range_with_len 0 (longest_of (map counted c.args.tables.now))) in
+    ap (lent {X = Generic}) c.new.ensures ∙ ap (map generic_of) (sym none)

@@ -1,10 +1,11 @@
-use Rattle.std.proofs.Common.{◌≡◌, ap, sym, ◌∙◌, subst, ℕ, ◌<◌, ◌^◌, List, map}
+use Rattle.std.proofs.Common.{◌≡◌, ap, sym, ◌∙◌, subst, ℕ, ◌<◌, ◌^◌, List, [], map}
 use Rattle.metadata_tables.specs.declared.coded.Coded.TheVariants.{HasSemantics}
 use Rattle.image_rows.specs.ByNumber.{by_number}
 use Rattle.image_rows.specs.Lists.{Owned, longest_of, accessor_lists, accessor_items}
 use Rattle.image_rows.specs.Pushing.{AddsRows}
-use Rattle.image_rows.specs.SemanticsRows.{semantics_row, with_methods, all_accessors, CanAddAccessors}
-use Rattle.image_rows.specs.declared.semantics_rows.Accessing.{Accessing}
+use Rattle.image_rows.specs.SemanticsRows.{semantics_row, with_methods, CanAddAccessors}
+use Rattle.image_rows.proofs.EmptinessLemmas.{no_accessors}
+use Rattle.image_rows.proofs.PushLemmas.{rows_none}
 use Rattle.image_filling.proofs.property_part.push_accessor_rows.Goals as goal
 
 pub longest_accessing-count-requires : goal.longest_accessing-count-requires
@@ -33,3 +34,10 @@ returns c =
     subst (λ (ls : List (Owned (ℕ × ℕ))). AddsRows 0x18 (map semantics_row (by_number HasSemantics ls (longest_of (accessor_lists c.args.a.now c.args.classes.now)))) c.args.rows.now c.push_all_accessors.new.rows) lists
     (subst (λ (n : ℕ). AddsRows 0x18 (map semantics_row (by_number HasSemantics (map with_methods c.as_slice-2.result.now) n)) c.args.rows.now c.push_all_accessors.new.rows) count
     c.in_ok-push_all_accessors.ensures)
+
+pub returns-then-have_no_accessors : goal.returns-then-have_no_accessors
+returns-then-have_no_accessors c =
+    let none = c.have_no_accessors.ensures c.if-have_no_accessors.true in
+    let nothing : accessor_items c.args.a.now c.args.classes.now ≡ [] =
+    no_accessors c.args.a.now c.args.classes.now (sym c.requires.ordered.events ∙ none.0) (sym c.requires.ordered.properties ∙ none.1) in
+    subst (λ (xs : List (ℕ × (ℕ × ℕ))). AddsRows 0x18 (map semantics_row xs) c.args.rows.now c.args.rows.now) (sym nothing) (rows_none 0x18 c.args.rows.now)
