@@ -47,7 +47,7 @@ pub map_end : {A B : Type 0} (f : A → B) (xs : List A) (x : A) → map f (xs +
 map_end f [] x = refl
 map_end f (y ∷ xs) x = ap (λ t. f y ∷ t) (map_end f xs x)
 
-cond_other : (h q : ℕ) (x y : Option ℕ) → (q ≡ h → ⊥) → cond (nat_eq h q) x y ≡ y
+pub cond_other : (h q : ℕ) (x y : Option ℕ) → (q ≡ h → ⊥) → cond (nat_eq h q) x y ≡ y
 cond_other h q x y n = elim (cases_Bool (nat_eq h q)) [
   | inl e ↦ absurd (n (sym (eqb-true h q e)))
   | inr e ↦ ap (λ b. cond b x y) e

@@ -18,6 +18,7 @@ pub mod OperandLemmas
 pub mod PathLemmas
 pub mod RowLemmas
 pub mod RowListLemmas
+pub mod RowSetLemmas
 pub mod SignatureLemmas
 pub mod SizeLemmas
 pub mod SpellingSizes

@@ -1,5 +1,6 @@
 -- Rows that are found again by their cells.
 use Rattle.std.specs.Prelude.{◌≡◌, ℕ, ◌-◌, ◌<◌, ◌&&◌, ◌⊎◌, Bool, nat_eq, List, [], ◌∷◌, ◌++◌, Option, Some, slice_get}
+use Rattle.image_references.specs.Hashing.{start, mix}
 use Rattle.image_references.specs.declared.row_set.Cells.{Cells}
 
 -- the row with this number, counted from 1, has these cells
@@ -33,3 +34,8 @@ are_same a b = nat_eq a.first b.first && (nat_eq a.second b.second && nat_eq a.t
 pub record LeadsTo (places : Cells → Option ℕ) (rows : List Cells) : Type 0 where
   pub right : (cells : Cells) (k : ℕ) → places cells ≡ Some k → slice_get rows k ≡ Some cells
   pub reached : (cells : Cells) (k : ℕ) → slice_get rows k ≡ Some cells → (j : ℕ) × (places cells ≡ Some j)
+
+-- ---- the hash by which a row is found
+
+abbrev pub cells_hash : Cells → ℕ
+cells_hash cells = mix (mix (mix start cells.first) cells.second) cells.third

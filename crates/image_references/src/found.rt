@@ -2,8 +2,8 @@
 ghost use Rattle.std.specs.Prelude.{◌≡◌, ◌++◌, ◌∷◌, ◌⊎◌, [], Some, None, IfOk, OnOk, OnErr};
 ghost use Rattle.image_references.specs.Found.{token_in};
 
+use hash_places::HashPlaces;
 use il_base::{Items, NoMemory};
-use indexmap::IndexMap;
 use std::alloc::Global;
 use std::marker::Model;
 
@@ -40,20 +40,20 @@ struct Entry<'a, T> {
 #[derive(Drop)]
 pub struct Found<'a, T: Term> {
     // From a hash to the place of the newest entry with it.
-    newest: IndexMap<u64, usize>,
+    newest: HashPlaces,
     entries: Items<Entry<'a, T>>,
 }
 
 impl<'a, T: Term> Model for Found<'a, T> {
-    ghost use Rattle.std.specs.Prelude.{List, ℕ, map, nat_eq};
-    ghost use Rattle.indexmap.specs.IndexMap.{get};
+    ghost use Rattle.std.specs.Prelude.{List, ℕ, map};
+    ghost use Rattle.hash_places.specs.Slots.{place_of};
     ghost use Rattle.image_references.specs.Chains.{IsChained};
 
     ghost Value = { List (T × ℕ) };
 
     ghost view = { λ f. map (λ e. (e.term.now, e.token)) f.entries };
 
-    ghost invariant = { λ f. IsChained T.hash (get nat_eq f.newest) (map (λ e. e.term.now) f.entries) (map (λ e. e.next) f.entries) };
+    ghost invariant = { λ f. IsChained T.hash (place_of f.newest) (map (λ e. e.term.now) f.entries) (map (λ e. e.next) f.entries) };
 }
 
 impl<'a, T: Term> Found<'a, T> {
@@ -62,17 +62,25 @@ impl<'a, T: Term> Found<'a, T> {
         ensures { result ≡ [] }
     {
         Found {
-            newest: IndexMap::new(alloc),
+            newest: HashPlaces::new(alloc),
             entries: Items::new(alloc),
         }
     }
 
     /// The token of a term. Takes no memory.
-    #[tactic(auto, using(crate::proofs::FoundLemmas::at_map))]
     pub fn find(&self, term: &T) -> Option<u32>
         ensures { result ≡ token_in T.stored self.now term.now }
     {
-        let mut at = self.newest.get(&term.hashed()).copied();
+        self.find_hashed(term.hashed(), term)
+    }
+
+    /// The token of a term with this hash. Takes no memory.
+    #[tactic(auto, using(crate::proofs::FoundLemmas::at_map))]
+    pub fn find_hashed(&self, hash: u64, term: &T) -> Option<u32>
+        requires { hash ≡ T.hash term.now }
+        ensures { result ≡ token_in T.stored self.now term.now }
+    {
+        let mut at = self.newest.get(hash);
         while let Some(place) = at {
             let entry = self.entries.at(place);
             if entry.term.is_same(term) {
@@ -89,10 +97,11 @@ impl<'a, T: Term> Found<'a, T> {
         ensures found { IfOk result (λ given. token_in T.stored self.new term.now ≡ Some given) }
         ensures kept { OnOk result ((self.new ≡ self.old) ⊎ (self.new ≡ self.old ++ (term.now, token) ∷ [])) }
     {
-        if let Some(given) = self.find(term) {
+        let hash = term.hashed();
+        if let Some(given) = self.find_hashed(hash, term) {
             return Ok(given);
         }
-        self.add(term, token)?;
+        self.add_hashed(hash, term, token)?;
         Ok(token)
     }
 
@@ -102,9 +111,18 @@ impl<'a, T: Term> Found<'a, T> {
         ensures ok { OnOk result (self.new ≡ self.old ++ (term.now, token) ∷ []) }
         ensures err { OnErr result (self.new ≡ self.old) }
     {
-        let hash = term.hashed();
-        let next = self.newest.get(&hash).copied();
-        let place = self.entries.len();
+        self.add_hashed(term.hashed(), term, token)
+    }
+
+    /// Adds a term with this hash, which isn't there, with its token.
+    pub fn add_hashed(&mut self, hash: u64, term: &'a T, token: u32) -> Result<(), NoMemory>
+        requires hash { hash ≡ T.hash term.now }
+        requires none { token_in T.stored self.old term.now ≡ None }
+        ensures ok { OnOk result (self.new ≡ self.old ++ (term.now, token) ∷ []) }
+        ensures err { OnErr result (self.new ≡ self.old) }
+    {
+        let next = self.newest.get(hash);
+        let place = self.entries.as_slice().len();
         self.entries.push(Entry { term, token, next })?;
         match self.newest.insert(hash, place) {
             Ok(_) => Ok(()),

@@ -2,7 +2,7 @@
 //! are made of.
 ghost use Rattle.std.specs.Prelude.{◌≡◌};
 ghost use Rattle.type_terms.specs.Order.{prim_place};
-ghost use Rattle.image_references.specs.Hashing.{mix, mix_text, mix_id, mix_path, mix_scope, mix_name, mix_type, mix_owner, mix_types, mix_signature, mix_method, mix_field};
+ghost use Rattle.image_references.specs.Hashing.{start, mix, mix_text, mix_id, mix_path, mix_scope, mix_name, mix_type, mix_owner, mix_types, mix_signature, mix_method, mix_field};
 
 use il_base::Units;
 use type_terms::{FieldRef, MethodRef, MethodSig, Owner, Prim, Scope, SigType, TypeId, TypeName};
@@ -16,6 +16,14 @@ fn mix(hash: u64, number: u64) -> u64
     ensures { result ≡ mix hash number }
 {
     (hash ^ number).wrapping_mul(0x0000_0100_0000_01B3)
+}
+
+/// The hash of the cells of a row.
+pub fn hash_cells(first: u32, second: u32, third: u32) -> u64
+    ensures { result ≡ mix (mix (mix start first) second) third }
+{
+    let hash = mix(START, u64::from(first));
+    mix(mix(hash, u64::from(second)), u64::from(third))
 }
 
 #[tactic(auto, unfolding(crate::specs::Hashing::mix_text))]

@@ -7,7 +7,7 @@ ghost use Rattle.image_references.specs.NameTokens.{HasNameToken, IsNameable, Ar
 ghost use Rattle.image_references.specs.Texts.{KeepsTexts, IsPlainId};
 ghost use Rattle.image_references.specs.TypePaths.{GoesOn, path_size};
 
-use crate::found::Found;
+use crate::found::{Found, Term};
 use crate::row_set::RowSet;
 use crate::tokens::{ASSEMBLY_REF, TYPE_DEF, TYPE_REF, index_of, token_of};
 use crate::type_paths::{declared_row, referred_row};
@@ -72,10 +72,11 @@ pub fn name_token<'a>(
     ensures size { length strings.new.bytes ≤ length strings.old.bytes + path_size name.now.path }
     ensures more { length referred.new ≤ length referred.old + length name.now.path }
 {
-    if let Some(token) = known.find(name) {
+    let hash = name.hashed();
+    if let Some(token) = known.find_hashed(hash, name) {
         return Ok(token);
     }
     let token = token_by_rows(strings, declared, referred, name)?;
-    known.add(name, token)?;
+    known.add_hashed(hash, name, token)?;
     Ok(token)
 }

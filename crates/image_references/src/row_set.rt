@@ -1,8 +1,10 @@
 //! Rows that are found again by their cells.
 ghost use Rattle.std.specs.Prelude.{◌≡◌, ℕ, ◌-◌, ◌^◌, ◌<◌, ◌++◌, ◌∷◌, ◌⊎◌, [], length, slice_get, Some, IfSome, IfNone, IfOk, OnOk, OnErr};
+ghost use Rattle.image_references.specs.Rows.{cells_hash};
 
-use il_base::NoMemory;
-use indexmap::IndexSet;
+use crate::hashing::hash_cells;
+use hash_places::HashPlaces;
+use il_base::{Items, NoMemory};
 use std::alloc::Global;
 use std::marker::Model;
 
@@ -14,23 +16,34 @@ pub struct Cells {
     pub third: u32,
 }
 
+/// A row, and the place of the newest older row with the same hash.
+#[derive(Clone, Copy)]
+struct Linked {
+    cells: Cells,
+    next: Option<usize>,
+}
+
 /// Distinct rows of one table, numbered from 1. Contracts see the list of them.
 #[derive(Drop)]
 pub struct RowSet {
-    rows: IndexSet<Cells>,
+    // From a hash to the place of the newest row with it.
+    newest: HashPlaces,
+    rows: Items<Linked>,
 }
 
 impl Model for RowSet {
-    ghost use Rattle.std.specs.Prelude.{List, ◌<◌, ◌^◌, length};
+    ghost use Rattle.std.specs.Prelude.{List, ◌<◌, ◌^◌, length, map};
+    ghost use Rattle.hash_places.specs.Slots.{place_of};
+    ghost use Rattle.image_references.specs.Chains.{IsChained};
     ghost use Rattle.image_references.specs.declared.row_set.Cells.{Cells};
 
     ghost Value = { List Cells };
 
-    ghost view = { λ r. r.rows.keys };
+    ghost view = { λ r. map (λ e. e.cells) r.rows };
 
-    ghost use Rattle.image_references.specs.Rows.{AreDistinct};
+    ghost use Rattle.image_references.specs.Rows.{cells_hash};
 
-    ghost invariant = { λ r. (length r.rows.keys < 2 ^ 24) × AreDistinct r.rows.keys };
+    ghost invariant = { λ r. (length r.rows < 2 ^ 24) × IsChained cells_hash (place_of r.newest) (map (λ e. e.cells) r.rows) (map (λ e. e.next) r.rows) };
 }
 
 impl RowSet {
@@ -41,7 +54,8 @@ impl RowSet {
         ensures { result ≡ [] }
     {
         RowSet {
-            rows: IndexSet::new(alloc),
+            newest: HashPlaces::new(alloc),
+            rows: Items::new(alloc),
         }
     }
 
@@ -59,7 +73,7 @@ impl RowSet {
         requires { k < length self.now }
         ensures { slice_get self.now k ≡ Some result }
     {
-        self.rows.as_slice()[k]
+        self.rows.at(k).cells
     }
 
     /// The number of the row with these cells. Takes no memory.
@@ -69,10 +83,26 @@ impl RowSet {
         ensures none { IfNone result (Lacks self.now cells) }
         ensures few { IfSome result (λ row. row < 2 ^ 24) }
     {
-        match self.rows.get_index_of(&cells) {
-            None => None,
-            Some(place) => Some(place as u32 + 1),
+        self.find_hashed(hash_of(cells), cells)
+    }
+
+    // The number of the row with these cells, which have this hash.
+    fn find_hashed(&self, hash: u64, cells: Cells) -> Option<u32>
+        requires { hash ≡ cells_hash cells }
+        ensures found { IfSome result (IsRowAt self.now cells) }
+        ensures only { IfSome result (λ row. (other : ℕ) → IsRowAt self.now cells other → row ≡ other) }
+        ensures none { IfNone result (Lacks self.now cells) }
+        ensures few { IfSome result (λ row. row < 2 ^ 24) }
+    {
+        let mut at = self.newest.get(hash);
+        while let Some(place) = at {
+            let row = self.rows.at(place);
+            if row.cells == cells {
+                return Some(place as u32 + 1);
+            }
+            at = row.next;
         }
+        None
     }
 
     /// The number of the row with these cells, which is added at the end where it isn't there.
@@ -83,10 +113,38 @@ impl RowSet {
         ensures few { IfOk result (λ row. row < 2 ^ 24) }
         ensures err { OnErr result (self.new ≡ self.old) }
     {
-        if let Some(row) = self.find(cells) {
+        let hash = hash_of(cells);
+        if let Some(row) = self.find_hashed(hash, cells) {
             return Ok(row);
         }
-        self.rows.insert(cells)?;
+        self.add_hashed(hash, cells)?;
         Ok(self.rows.len() as u32)
     }
+
+    // Adds a row with these cells, which have this hash.
+    fn add_hashed(&mut self, hash: u64, cells: Cells) -> Result<(), NoMemory>
+        requires hash { hash ≡ cells_hash cells }
+        requires few { length self.old < 2 ^ 24 - 1 }
+        requires lacks { Lacks self.old cells }
+        ensures ok { OnOk result (self.new ≡ self.old ++ cells ∷ []) }
+        ensures err { OnErr result (self.new ≡ self.old) }
+    {
+        let next = self.newest.get(hash);
+        let place = self.rows.as_slice().len();
+        self.rows.push(Linked { cells, next })?;
+        match self.newest.insert(hash, place) {
+            Ok(_) => Ok(()),
+            Err(_) => {
+                self.rows.truncate(place);
+                Err(NoMemory)
+            }
+        }
+    }
+}
+
+// The hash of cells.
+fn hash_of(cells: Cells) -> u64
+    ensures { result ≡ cells_hash cells }
+{
+    hash_cells(cells.first, cells.second, cells.third)
 }

@@ -12,13 +12,13 @@ returns-in-Some-clause-token c =
 
 pub returns-clause-found : goal.returns-clause-found
 returns-clause-found c =
-    let none : token_in names_apart c.args.known.now c.args.name.now ≡ None = cc (c.find.ensures, c.in_default.is) in
-    ap (λ es. token_in names_apart es c.args.name.now) c.in_ok-add.ensures.ok ∙ found_last names_apart c.args.known.now c.args.name.now c.in_ok-token.token none
+    let none : token_in names_apart c.args.known.now c.args.name.now ≡ None = cc (c.find_hashed.ensures, c.in_default.is) in
+    ap (λ es. token_in names_apart es c.args.name.now) c.in_ok-add_hashed.ensures.ok ∙ found_last names_apart c.args.known.now c.args.name.now c.in_ok-token.token none
 
 pub returns-clause-names : goal.returns-clause-names
 returns-clause-names c =
     let strings = c.token_by_rows.new.strings in
     let rows = c.token_by_rows.new.referred in
     let kept = names_kept c.args.strings.now strings c.args.declared.now c.args.referred.now rows c.args.known.now c.token_by_rows.ensures.keeps c.token_by_rows.ensures.goes_on c.requires.names in
-    subst (λ (es : List (TypeName × ℕ)). AreNames strings c.args.declared.now rows es) (sym c.in_ok-add.ensures.ok)
+    subst (λ (es : List (TypeName × ℕ)). AreNames strings c.args.declared.now rows es) (sym c.in_ok-add_hashed.ensures.ok)
     (names_more strings c.args.declared.now rows c.args.known.now c.args.name.now c.in_ok-token.token kept c.in_ok-token.ensures.token)

@@ -2,7 +2,7 @@ use Rattle.std.proofs.Common.{◌≡◌, ℕ, ◌≤◌, Some, map}
 use Rattle.std.specs.Prelude.{slice_get}
 use Rattle.image_references.specs.Chains.{HasHash}
 use Rattle.image_references.proofs.ChainLemmas.{ahead_of}
-use Rattle.image_references.proofs.found.Found.find.Given as goal
+use Rattle.image_references.proofs.found.Found.find_hashed.Given as goal
 
 abbrev pub invariant-loop-at : goal.invariant-loop-at
 invariant-loop-at g l = record {
