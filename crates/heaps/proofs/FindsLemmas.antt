@@ -4,7 +4,7 @@ use Rattle.std.specs.Prelude.{slice_get, nat_eq}
 use Rattle.std.proofs.lemmas.List.{length-append, length-map, map-append, length-drop, drop-append-le, take-append-le}
 use Rattle.std.proofs.Math.Seq.{drop-append-add, drop-append_seam, take-append_seam}
 use Rattle.std.proofs.lemmas.Bool.{eq-eqb, eqb-true, cases_Bool}
-use Rattle.indexmap.specs.IndexMap.{get}
+use Rattle.hash_places.specs.Slots.{place_of}
 use Rattle.heaps.specs.Chains.{IsChained}
 use Rattle.heaps.specs.Hash.{hash_of}
 use Rattle.heaps.specs.Finds.{Finds, Lacks, content_of}
@@ -23,20 +23,20 @@ module _ (old new : Chains) (bytes : List ℕ) (p : Place) (ok : Finds old bytes
     (fits : p.start + p.len ≤ length bytes)
     (room : length old.places < length bytes)
     (places : new.places ≡ old.places ++ p ∷ [])
-    (next : p.next ≡ get nat_eq old.newest (hash_of (content_of bytes p)))
-    (newest : (q : ℕ) → get nat_eq new.newest q ≡ cond (nat_eq (hash_of (content_of bytes p)) q) (Some (length old.places)) (get nat_eq old.newest q)) where
+    (next : p.next ≡ place_of old.newest (hash_of (content_of bytes p)))
+    (newest : (q : ℕ) → place_of new.newest q ≡ cond (nat_eq (hash_of (content_of bytes p)) q) (Some (length old.places)) (place_of old.newest q)) where
   noted_within : (k : ℕ) (q : Place) → slice_get new.places k ≡ Some q → q.start + q.len ≤ length bytes
   noted_within k q at = elim (snoc_cases old.places p q k (sym (ap (λ ps. slice_get ps k) places) ∙ at)) [
     | inl was ↦ ok.within k q was
     | inr e ↦ rw e.1 fits
   ]
 
-  noted_chained : IsChained hash_of (get nat_eq new.newest) (map (content_of bytes) old.places ++ content_of bytes p ∷ []) (map (λ q. q.next) old.places ++ p.next ∷ [])
+  noted_chained : IsChained hash_of (place_of new.newest) (map (content_of bytes) old.places ++ content_of bytes p ∷ []) (map (λ q. q.next) old.places ++ p.next ∷ [])
   noted_chained =
       let h = hash_of (content_of bytes p) in
-      rw next (IsChained-push hash_of (get nat_eq old.newest) (get nat_eq new.newest) (map (content_of bytes) old.places) (map (λ q. q.next) old.places) (content_of bytes p)
+      rw next (IsChained-push hash_of (place_of old.newest) (place_of new.newest) (map (content_of bytes) old.places) (map (λ q. q.next) old.places) (content_of bytes p)
       ok.chained lacks
-      (newest h ∙ ap (λ b. cond b (Some (length old.places)) (get nat_eq old.newest h)) (eq-eqb h h refl) ∙ ap Some (sym (length-map old.places (content_of bytes))))
+      (newest h ∙ ap (λ b. cond b (Some (length old.places)) (place_of old.newest h)) (eq-eqb h h refl) ∙ ap Some (sym (length-map old.places (content_of bytes))))
       (λ q n. newest q ∙ cond_other h q _ _ n))
 
   pub Finds-note : Finds new bytes

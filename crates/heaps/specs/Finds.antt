@@ -1,6 +1,6 @@
 -- What a heap's chains find among its bytes.
-use Rattle.std.specs.Prelude.{◌≡◌, ℕ, ◌+◌, ◌≤◌, List, [], ◌∷◌, ◌++◌, Some, length, take, drop, map, nat_eq, slice_get}
-use Rattle.indexmap.specs.IndexMap.{get}
+use Rattle.std.specs.Prelude.{◌≡◌, ℕ, ◌+◌, ◌≤◌, List, [], ◌∷◌, ◌++◌, Some, length, take, drop, map, slice_get}
+use Rattle.hash_places.specs.Slots.{place_of}
 use Rattle.heaps.specs.Chains.{IsChained}
 use Rattle.heaps.specs.Hash.{hash_of}
 use Rattle.heaps.specs.declared.chains.Chains.{Chains}
@@ -14,7 +14,7 @@ content_of bytes p = take p.len (drop p.start bytes)
 pub record Finds (chains : Chains) (bytes : List ℕ) : Type 0 where
   pub within : (k : ℕ) (p : Place) → slice_get chains.places k ≡ Some p → p.start + p.len ≤ length bytes
   pub fewer : length chains.places ≤ length bytes
-  pub chained : IsChained hash_of (get nat_eq chains.newest) (map (content_of bytes) chains.places) (map (λ p. p.next) chains.places)
+  pub chained : IsChained hash_of (place_of chains.newest) (map (content_of bytes) chains.places) (map (λ p. p.next) chains.places)
 
 -- the content has a place, whose entry has this index
 abbrev pub IsPlaceOf : Chains → List ℕ → List ℕ → ℕ → Type 0

@@ -3,11 +3,11 @@
 //! A heap's bytes hold each content once. An entry's place says where, and a chain links the entries
 //! with one hash, newest first; a map leads from a hash to the newest. So nothing is copied to find a
 //! content again.
-ghost use Rattle.std.specs.Prelude.{◌≡◌, ◌+◌, ◌<◌, ◌≤◌, ◌^◌, [], length, take, drop, IfSome, IfNone, OnOk, OnErr};
+ghost use Rattle.std.specs.Prelude.{◌≡◌, ◌+◌, ◌<◌, ◌≤◌, ◌^◌, ◌↔◌, [], length, take, drop, IsTrue, IfSome, IfNone, OnOk, OnErr};
 ghost use Rattle.heaps.specs.Hash.{hash_of, mix};
 
+use hash_places::HashPlaces;
 use il_base::{Items, NoMemory};
-use indexmap::IndexMap;
 use std::alloc::Global;
 
 /// Where a content stands: its entry's index, and its own bytes.
@@ -17,14 +17,14 @@ pub struct Place {
     pub start: u32,
     pub len: u32,
     // The newest older entry with the same hash.
-    pub next: Option<u32>,
+    pub next: Option<usize>,
 }
 
 /// The places of a heap's entries, in the order of their coming, with the chains that find them.
 #[derive(Drop)]
 pub struct Chains {
     // From a hash to the number of the newest entry with it.
-    pub newest: IndexMap<u64, u32>,
+    pub newest: HashPlaces,
     pub places: Items<Place>,
 }
 
@@ -36,7 +36,7 @@ impl Chains {
         ensures { Finds result [] }
     {
         Chains {
-            newest: IndexMap::new(alloc),
+            newest: HashPlaces::new(alloc),
             places: Items::new(alloc),
         }
     }
@@ -47,10 +47,10 @@ impl Chains {
         ensures found { IfSome result (IsPlaceOf self.now bytes.now content.now) }
         ensures none { IfNone result (Lacks self.now bytes.now content.now) }
     {
-        let mut at = self.newest.get(&hash_of(content)).copied();
+        let mut at = self.newest.get(hash_of(content));
         while let Some(number) = at {
-            let place = self.places.at(number as usize);
-            if content_at(bytes, place) == content {
+            let place = self.places.at(number);
+            if are_equal(content_at(bytes, place), content) {
                 return Some(place.index);
             }
             at = place.next;
@@ -81,9 +81,9 @@ impl Chains {
             index,
             start,
             len: content.len() as u32,
-            next: self.newest.get(&hash).copied(),
+            next: self.newest.get(hash),
         };
-        let number = self.places.len() as u32;
+        let number = self.places.len();
         self.places.push(place)?;
         match self.newest.insert(hash, number) {
             Ok(_) => Ok(()),
@@ -102,6 +102,21 @@ fn content_at<'a>(bytes: &'a [u8], place: &Place) -> &'a [u8]
 {
     let start = place.start as usize;
     &bytes[start..start + place.len as usize]
+}
+
+// Whether two contents are equal. Most are short: a plain loop over their bytes takes the least time.
+fn are_equal(one: &[u8], other: &[u8]) -> bool
+    ensures { IsTrue result ↔ (one.now ≡ other.now) }
+{
+    if one.len() != other.len() {
+        return false;
+    }
+    for k in 0..one.len() {
+        if one[k] != other[k] {
+            return false;
+        }
+    }
+    true
 }
 
 /// The FNV-1a hash of a content.

@@ -2,8 +2,6 @@ use Rattle.std.proofs.Common.{◌≡◌, ℕ, ◌≤◌, List, Some, map, sym, �
 use Rattle.std.specs.Prelude.{slice_get}
 use Rattle.std.proofs.lemmas.Option.{slice_get-map, same_Some}
 use Rattle.std.proofs.lemmas.Bool.{false≢true}
-use Rattle.std.proofs.lemmas.Slice.Eq.{slice_eq-Decides}
-use Rattle.std.proofs.lemmas.Bool.Decides.{Decides-eqb}
 use Rattle.std.specs.Option.{option_map}
 use Rattle.heaps.specs.Hash.{hash_of}
 use Rattle.heaps.specs.Finds.{content_of}
@@ -40,7 +38,7 @@ loop-at-preserved c =
     let same : hash_of content ≡ hash_of c.args.content.now
     = ap hash_of (same_Some content was.0 (sym here ∙ was.1)) ∙ was.2 in
     let other : content ≡ c.args.content.now → ⊥
-    = λ e. false≢true (sym c.if-eq.false ∙ (slice_eq-Decides Decides-eqb _ _ _ c.eq.ensures).1 (c.content_at.ensures ∙ e)) in
+    = λ e. false≢true (sym c.if-are_equal.false ∙ c.are_equal.ensures.1 (c.content_at.ensures ∙ e)) in
     record {
       hashed = λ j is. hashed_next hash_of _ _ _ c.requires.chained c.args.content.now m j content here (link ∙ ap Some is) same;
       ahead = λ k at. let a = c.loop-at.invariant.ahead k at in
