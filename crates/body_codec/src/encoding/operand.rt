@@ -42,8 +42,11 @@ pub(crate) fn push_opcode(out: &mut Bytes, op: Op) -> Result<(), NoMemory>
     ensures { OnOk result (out.new ≡ out.old ++ opcode_bytes op) }
 {
     match bytes_of(op) {
-        (first, None) => out.extend(&[first]),
-        (first, Some(second)) => out.extend(&[first, second]),
+        (first, None) => out.push(first),
+        (first, Some(second)) => {
+            out.push(first)?;
+            out.push(second)
+        }
     }
 }
 
