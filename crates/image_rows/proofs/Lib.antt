@@ -26,6 +26,7 @@ pub mod ManifestLemmas
 pub mod MapRowLemmas
 pub mod MethodRowLemmas
 pub mod NestLemmas
+pub mod OrderedLemmas
 pub mod OverrideLemmas
 pub mod OwnedLemmas
 pub mod ParamLemmas

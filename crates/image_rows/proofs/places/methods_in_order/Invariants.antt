@@ -1,9 +1,0 @@
-use Rattle.std.proofs.Common.{drop}
-use Rattle.std.specs.List.{flat_map}
-use Rattle.image_rows.specs.DeclaredMembers.{class_methods}
-use Rattle.image_rows.specs.Places.{lent}
-use Rattle.image_rows.proofs.PlaceLemmas.{FilledTo}
-use Rattle.image_rows.proofs.places.methods_in_order.Given as goal
-
-abbrev pub invariant-loop-class : goal.invariant-loop-class
-invariant-loop-class l = FilledTo (lent l.initial.methods) (lent l.methods) (flat_map class_methods l.classes) (flat_map class_methods (drop l.class-index l.classes))
