@@ -1,13 +1,14 @@
 -- What a rule finds at the productions of a forest, piece by piece.
-use Rattle.std.proofs.Common.{◌≡◌, ℕ, suc, ◌<◌, ◌≤◌, List, [], ◌∷◌, ◌++◌, length, take, drop, ap, sym, ◌∙◌, refl, subst, arith, length-drop}
+use Rattle.std.proofs.Common.{◌≡◌, ℕ, suc, ◌<◌, ◌≤◌, List, [], ◌∷◌, ◌++◌, length, map, take, drop, ap, sym, ◌∙◌, refl, subst, arith, length-drop}
 use Rattle.std.specs.Prelude.{Bool, true, false, ◌==◌, ◌||◌, if◌then◌else◌, Option, None, Some}
 use Rattle.std.specs.List.{flat_map}
+use Rattle.std.proofs.lemmas.Bool.{eqb-true}
 use Rattle.std.proofs.lemmas.List.{length-map, length-take, take-append-drop}
 use Rattle.ilasm_grammar.specs.declared.productions.TheConstants.{CLASS, METHOD, TYPAR, TYPARS_OPT_SOME}
 use Rattle.ilasm_grammar.specs.declared.tree.TreeNode.{TreeNode}
 use Rattle.ilasm_grammar.specs.declared.tree.TreeNode.TheVariants.{Branch, Leaf}
 use Rattle.source_model.specs.Forest as tree
-use Rattle.source_model.specs.Forest.{Forest, child, joined, leaf_at, preorder}
+use Rattle.source_model.specs.Forest.{Forest, child, each, joined, leaf_at, preorder}
 use Rattle.source_model.specs.Laws.{ForestOpens, ForestsJoin, OneForest}
 use Rattle.source_model.specs.Nodes.{Around, Node, entered, nodes_in, class_token, type_id, typar_names, typars}
 use Rattle.source_model.specs.Source.{Source}
@@ -27,9 +28,10 @@ use Rattle.source_reading.proofs.SizeLemmas.{child_smaller, few_each}
 abbrev pub Bodied : Source → List TreeNode → Type 0
 Bodied s nodes = (f : Forest) → preorder f ≡ nodes → HasBodies s f
 
--- a source that is read, in which these nodes stand, and what stands around a place
-pub record At (r : Reader) (p : Surrounding) (nodes : List TreeNode) : Type 0 where
+-- a source that is read, in which these nodes stand, what stands around a place, and an empty list of names
+pub record At (r : Reader) (p : Surrounding) (none : List (List ℕ)) (nodes : List TreeNode) : Type 0 where
   pub source : Source
+  pub empty : none ≡ []
   pub around : Around
   pub reads : Reads r source
   pub place : IsSurrounding p around
@@ -67,8 +69,8 @@ module _ (opens : ForestOpens) (joins : ForestsJoin) (one : OneForest) (s : Sour
 
 module _ (broken : Source → Node → List ℕ) where
   -- the least of what was found and of what the rest has
-  abbrev pub sought : (r : Reader) (p : Surrounding) (nodes : List TreeNode) → Option ℕ → At r p nodes → Forest → Option ℕ
-  sought r p nodes found i f = sooner found (least (found_in broken i.source i.around f))
+  abbrev pub sought : (r : Reader) (p : Surrounding) (none : List (List ℕ)) (nodes : List TreeNode) → Option ℕ → At r p none nodes → Forest → Option ℕ
+  sought r p none nodes found i f = sooner found (least (found_in broken i.source i.around f))
 
   module _ (s : Source) (a : Around) where
     abbrev pub node_of : ℕ → Forest → Node
@@ -156,3 +158,11 @@ few_typars s f count n rest e few =
     let smaller = child_smaller (TYPARS_OPT_SOME ∷ []) f in
     let whole : length (preorder f) ≡ length (take count rest) = ap length e in
     omega (arith, names, parts, smaller, whole, few, length-take count rest)
+
+-- none where no list of them stands
+pub no_typars : (s : Source) (f : Forest) → child (TYPARS_OPT_SOME ∷ []) f ≡ tree.none → typar_names s f ≡ []
+no_typars s f e = ap (λ g. map (λ (h : Forest). name_text s (leaf_at 0 h)) (each TYPAR g)) e
+
+pub from_empty : (xs : List TreeNode) (b : Bool) → b ≡ true → b ≡ (length xs == 0) → xs ≡ []
+from_empty [] b on is = refl
+from_empty (x ∷ xs) b on is = let e = eqb-true (length (x ∷ xs)) 0 (sym is ∙ on) in absurd (omega arith)

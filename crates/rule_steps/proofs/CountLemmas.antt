@@ -1,5 +1,5 @@
 -- The part of a production behind so many of them, piece by piece.
-use Rattle.std.proofs.Common.{◌≡◌, ℕ, zero, suc, ◌-◌, List, ◌∷◌, ap, sym, ◌∙◌, refl, arith}
+use Rattle.std.proofs.Common.{◌≡◌, ℕ, zero, suc, ◌+◌, ◌-◌, length, List, ◌∷◌, ap, sym, ◌∙◌, refl, arith}
 use Rattle.std.specs.Prelude.{true, false, ◌==◌, drop, Option, None, Some}
 use Rattle.source_model.specs.Forest as tree
 use Rattle.source_model.specs.Forest.{Forest, each, first_token, joined}
@@ -33,3 +33,17 @@ module _ (p : ℕ) where
 
   pub behind_none : (skip : ℕ) → None ≡ behind p skip tt tree.none
   behind_none skip = ap (λ fs. least (first_of fs)) (sym (drop_none skip (each p tree.none) refl))
+
+-- ---- how many of them there are
+
+abbrev pub counted : ℕ → ℕ → Unit {0} → Forest → ℕ
+counted p found i f = found + length (each p f)
+
+module _ (p : ℕ) where
+  pub counted_other : ForestsJoin → (found q : ℕ) (b a : Forest) → (p == q) ≡ false → counted p found tt (joined b a) ≡ counted p found tt (tree.branch q b a)
+  counted_other joins found q b a e = ap (λ fs. found + length fs) (each_other p joins q b a e)
+
+  pub counted_own : (found q : ℕ) (b a : Forest) → (p == q) ≡ true → counted p (found + 1) tt a ≡ counted p found tt (tree.branch q b a)
+  counted_own found q b a e =
+      let one : (found + 1) + length (each p a) ≡ found + suc (length (each p a)) = omega arith in
+      one ∙ ap (λ fs. found + length fs) (sym (each_own p q b a e))

@@ -1,6 +1,6 @@
 //! The productions of a source, each with what stands around its parts, and rules that are asked of each of them.
 
-ghost use Rattle.std.specs.Prelude.{◌≡◌, ◌<◌, ◌^◌, ℕ, ◌+◌, [], length, min, true, IfOk};
+ghost use Rattle.std.specs.Prelude.{◌≡◌, ◌<◌, ◌^◌, ℕ, ◌+◌, [], List, length, min, true, IfOk, MatchOption};
 ghost use Rattle.std.specs.List.{flat_map};
 ghost use Rattle.source_model.specs.Forest.{Forest, preorder};
 ghost use Rattle.source_model.specs.Nodes.{Around, Node, entered, nodes, typar_names};
@@ -12,6 +12,7 @@ ghost use Rattle.rule_steps.specs.Surroundings.{found_in, is_scope, HasParameter
 ghost use Rattle.source_reading.specs.Readers.{Reads};
 ghost use Rattle.source_reading.specs.Walk.{IsForest};
 
+use crate::counts::count_each;
 use il_base::NoMemory;
 use ilasm_grammar::{TreeNode, productions};
 use source_model::{derivations_are_forests, forests_join, forests_open};
@@ -20,7 +21,7 @@ use source_reading::derived::derivations_have_bodies;
 use source_reading::least::sooner;
 use source_reading::name_lists::typar_names;
 use source_reading::reader::Reader;
-use source_reading::walk::{child, count, next};
+use source_reading::walk::{child, next};
 use std::alloc::Global;
 
 /// What stands around a place: the number of the classes that it is in, counted up to 101, the nodes below the innermost of
@@ -90,6 +91,24 @@ pub fn first_in<'n, R: Rule>(
     ensures { (s : Source) (a : Around) (f : Forest) → Reads reader.now s → IsSurrounding place.now a → preorder f ≡ nodes.now → HasBodies s f → HasParameters s place.now a →
         IfOk result (λ k. k ≡ least (found_in (R.broken rule.now) s a f)) }
 {
+    let none = Declared::new(alloc);
+    let first = first_among(rule, alloc, reader, place, &none, nodes)?;
+    Ok(first)
+}
+
+// The same, with an empty list of names.
+fn first_among<'n, R: Rule>(
+    rule: &R,
+    alloc: Global,
+    reader: &Reader,
+    place: &Surrounding<'n, '_>,
+    none: &Declared,
+    nodes: &'n [TreeNode],
+) -> Result<Option<u32>, NoMemory>
+    requires { IsForest nodes.now }
+    ensures { (s : Source) (a : Around) (f : Forest) → none.now ≡ [] → Reads reader.now s → IsSurrounding place.now a → preorder f ≡ nodes.now → HasBodies s f → HasParameters s place.now a →
+        IfOk result (λ k. k ≡ least (found_in (R.broken rule.now) s a f)) }
+{
     derivations_are_forests();
     forests_open();
     forests_join();
@@ -103,18 +122,17 @@ pub fn first_in<'n, R: Rule>(
             } => {
                 let (below, after) = rest.split_at(count as usize);
                 if is_scope(production) {
-                    let typars = typar_names(alloc, reader, below)?;
-                    let none = Declared::new(alloc);
-                    let parameters = count_parameters(alloc, below)?;
+                    let typars = own_typars(alloc, reader, below)?;
+                    let parameters = count_of_parameters(below);
                     let own = Own {
                         class_typars: place.class_typars,
-                        typars: &typars,
-                        none: &none,
+                        typars: names_or(&typars, none),
+                        none,
                         parameters,
                     };
                     let inner = entered(place, production, below, &own);
                     let here = rule.first(alloc, reader, &inner, production, below)?;
-                    let within = first_in(rule, alloc, reader, &inner, below)?;
+                    let within = first_among(rule, alloc, reader, &inner, none, below)?;
                     found = sooner(found, sooner(here, within));
                     left = after;
                 } else if rule.speaks_of(production) {
@@ -131,6 +149,34 @@ pub fn first_in<'n, R: Rule>(
     Ok(found)
 }
 
+// The names of the generic parameters of a class or a method that may have some.
+fn own_typars(
+    alloc: Global,
+    reader: &Reader,
+    below: &[TreeNode],
+) -> Result<Option<Declared>, NoMemory>
+    requires { IsForest below.now }
+    ensures { (s : Source) (f : Forest) → Reads reader.now s → preorder f ≡ below.now → HasBodies s f →
+        IfOk result (λ names. MatchOption names (typar_names s f ≡ []) (λ some. some ≡ typar_names s f)) }
+{
+    forests_open();
+    if child(below, productions::TYPARS_OPT_SOME).is_empty() {
+        return Ok(None);
+    }
+    let names = typar_names(alloc, reader, below)?;
+    Ok(Some(names))
+}
+
+// The names, or where there are none an empty list.
+fn names_or<'t>(names: &'t Option<Declared>, none: &'t Declared) -> &'t Declared
+    ensures { (wanted : List (List ℕ)) → none.now ≡ [] → MatchOption names.now (wanted ≡ []) (λ some. some ≡ wanted) → result.now ≡ wanted }
+{
+    match names {
+        Some(names) => names,
+        None => none,
+    }
+}
+
 // Whether the parts of this production have other things around them than it has.
 fn is_scope(production: u16) -> bool
     ensures { result ≡ is_scope production }
@@ -139,12 +185,19 @@ fn is_scope(production: u16) -> bool
 }
 
 /// How many parameters a method has.
-pub fn count_parameters(alloc: Global, below: &[TreeNode]) -> Result<usize, NoMemory>
+pub fn count_parameters(_alloc: Global, below: &[TreeNode]) -> Result<usize, NoMemory>
     requires { IsForest below.now }
     ensures { (f : Forest) → preorder f ≡ below.now → IfOk result (λ n. n ≡ length (parameters f)) }
 {
+    Ok(count_of_parameters(below))
+}
+
+fn count_of_parameters(below: &[TreeNode]) -> usize
+    requires { IsForest below.now }
+    ensures { (f : Forest) → preorder f ≡ below.now → result ≡ length (parameters f) }
+{
     let parameters = child(below, productions::DEF_ARGS_OPT_SOME);
-    count(alloc, parameters, productions::DEF_ARG)
+    count_each(parameters, productions::DEF_ARG)
 }
 
 // What stands around the parts of a class or a method.

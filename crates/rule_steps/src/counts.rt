@@ -1,6 +1,6 @@
 //! Counts that are limited, and numbers in types and signatures (ECMA-335 II.7.1, II.10.1.7, II.15.3, II.23.2).
 
-ghost use Rattle.std.specs.Prelude.{◌≡◌, drop};
+ghost use Rattle.std.specs.Prelude.{◌≡◌, drop, length};
 ghost use Rattle.source_model.specs.Forest.{Forest, each, preorder};
 ghost use Rattle.source_model.specs.Nodes.{Node};
 ghost use Rattle.source_model.specs.Source.{Source};
@@ -127,4 +127,34 @@ fn first_past(nodes: &[TreeNode], production: u16, skip: usize) -> Option<u32>
         }
     }
     None
+}
+
+/// How many outermost branches have this production.
+pub fn count_each(nodes: &[TreeNode], production: u16) -> usize
+    requires { IsForest nodes.now }
+    ensures { (f : Forest) → preorder f ≡ nodes.now → result ≡ length (each production f) }
+{
+    derivations_are_forests();
+    forests_open();
+    forests_join();
+    let mut left = nodes;
+    let mut found = 0;
+    while let Some((node, rest)) = next(left) {
+        match node {
+            TreeNode::Branch {
+                production: p,
+                nodes: count,
+            } => {
+                if p == production {
+                    let (_, after) = rest.split_at(count as usize);
+                    found += 1;
+                    left = after;
+                } else {
+                    left = rest;
+                }
+            }
+            TreeNode::Leaf { .. } => left = rest,
+        }
+    }
+    found
 }

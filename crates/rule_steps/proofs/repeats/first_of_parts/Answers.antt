@@ -1,5 +1,5 @@
-use Rattle.std.proofs.Common.{◌≡◌, ℕ, ◌∷◌, ap, sym, ◌∙◌, refl, subst, arith}
-use Rattle.std.specs.Prelude.{true, false, ◌==◌, None, Some}
+use Rattle.std.proofs.Common.{◌≡◌, ◌∷◌, ap, sym, ◌∙◌, refl, subst, arith}
+use Rattle.std.specs.Prelude.{true, false, ◌==◌, None}
 use Rattle.rule_steps.proofs.RepeatLemmas.{found_all, past, past_first, past_other, past_repeat}
 use Rattle.source_reading.proofs.Stepping.{Steps, below_fits, below_is_forest, first_step, step_at_end, step_into_branch, step_past_branch, step_past_leaf}
 use Rattle.rule_steps.proofs.repeats.first_of_parts.Goals as goal

@@ -1,4 +1,4 @@
-use Rattle.std.proofs.Common.{◌≡◌, ap, sym, ◌∙◌}
+use Rattle.std.proofs.Common.{ap, sym, ◌∙◌}
 use Rattle.ilasm_grammar.specs.declared.productions.TheConstants.{ASSEMBLY_ASSEMBLY_ATTR_STAR, DECL_MODULE}
 use Rattle.source_reading.specs.Least.{least, sooner}
 use Rattle.rule_steps.specs.Picks.{picked_past}

@@ -3,11 +3,11 @@ use Rattle.std.specs.Prelude.{None}
 use Rattle.source_model.specs.Source.{Source}
 use Rattle.rule_steps.proofs.AskingLemmas.{Bodied, sought}
 use Rattle.source_reading.proofs.Stepping.{Steps}
-use Rattle.rule_steps.proofs.asking.+first_in.Given as goal
+use Rattle.rule_steps.proofs.asking.+first_among.Given as goal
 
 abbrev pub invariant-loop-node : goal.invariant-loop-node
 invariant-loop-node g l = record {
-  steps : Steps (sought (g.R.Rule.broken l.rule) l.reader l.place l.nodes l.found) (sought (g.R.Rule.broken l.rule) l.reader l.place l.nodes None) l.nodes l.left;
+  steps : Steps (sought (g.R.Rule.broken l.rule) l.reader l.place l.none l.nodes l.found) (sought (g.R.Rule.broken l.rule) l.reader l.place l.none l.nodes None) l.nodes l.left;
   shorter : length l.left ≤ length l.nodes;
   bodied : (s : Source) → Bodied s l.nodes → Bodied s l.left;
 }
@@ -15,5 +15,5 @@ invariant-loop-node g l = record {
 abbrev pub decreases-loop-node : goal.decreases-loop-node
 decreases-loop-node g l = length l.left
 
-abbrev pub decreases-first_in : goal.decreases-first_in
-decreases-first_in g l = length l.nodes.now
+abbrev pub decreases-first_among : goal.decreases-first_among
+decreases-first_among g l = length l.nodes.now
