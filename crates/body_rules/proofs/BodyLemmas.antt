@@ -1,6 +1,6 @@
 -- All rules of bodies at once, and methods without lines that say depths of stacks, locals or clauses.
-use Rattle.std.proofs.Common.{◌≡◌, ℕ, List, [], ◌∷◌, ◌++◌, ap, ◌∙◌, refl}
-use Rattle.std.specs.Prelude.{Bool, true, false, not, ◌==◌, ◌||◌, ◌&&◌, if◌then◌else◌}
+use Rattle.std.proofs.Common.{◌≡◌, ℕ, List, [], ◌∷◌, ◌++◌, ap, sym, ◌∙◌, refl}
+use Rattle.std.specs.Prelude.{Bool, true, false, not, ◌==◌, ◌||◌, ◌&&◌, if◌then◌else◌, Option}
 use Rattle.std.specs.List.{flat_map}
 use Rattle.ilasm_grammar.specs.declared.productions.TheConstants.{ITEM_MAXSTACK, ITEM_TRY, LOCAL}
 use Rattle.ilasm_grammar.specs.declared.tree.TreeNode.{TreeNode}
@@ -11,10 +11,11 @@ use Rattle.source_model.specs.Forest as tree
 use Rattle.source_model.specs.Forest.{Forest, each, is_among, parts, preorder}
 use Rattle.source_model.specs.Source.{Source}
 use Rattle.source_model.specs.Variables.{locals}
-use Rattle.source_reading.specs.Least.{least}
+use Rattle.source_reading.specs.Least.{least, sooner}
 use Rattle.body_rules.specs.AllOfBodies.{backwards_in, broken_in, broken_in_bodies, ends_in, far_in, twice_in, undeclared_in, variables_in}
 use Rattle.body_rules.specs.ClauseCounts.{clauses_in}
 use Rattle.body_rules.specs.PlainBodies.{is_other, is_plain, lines}
+use Rattle.source_reading.proofs.LeastLemmas.{sooner_assoc, sooner_comm}
 use Rattle.rule_steps.proofs.LeastOfRules.{and_rule}
 
 -- ---- all rules
@@ -39,6 +40,22 @@ all_bodies s =
     refl)
     refl)
     refl
+
+-- ---- the rules of labels, asked before the others
+
+later : (a b c : Option ℕ) → sooner (sooner a b) c ≡ sooner (sooner a c) b
+later a b c = sooner_assoc a b c ∙ ap (sooner a) (sooner_comm b c) ∙ sym (sooner_assoc a c b)
+
+-- far branches and those to the end are put behind what stands before them in the order of the rules
+pub in_turn : (names far ends variables numbers clauses : Option ℕ)
+    → sooner (sooner (sooner (sooner (sooner names far) ends) variables) numbers) clauses
+    ≡ sooner (sooner (sooner (sooner (sooner names variables) numbers) far) clauses) ends
+in_turn names far ends variables numbers clauses =
+    let to_variables = later (sooner names far) ends variables ∙ ap (λ o. sooner o ends) (later names far variables) in
+    let to_numbers =
+    ap (λ o. sooner o numbers) to_variables ∙ later (sooner (sooner names variables) far) ends numbers
+    ∙ ap (λ o. sooner o ends) (later (sooner names variables) far numbers) in
+    ap (λ o. sooner o clauses) to_numbers ∙ later (sooner (sooner (sooner names variables) numbers) far) ends clauses
 
 -- ---- plain methods
 

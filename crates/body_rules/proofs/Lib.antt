@@ -6,6 +6,7 @@ pub mod ClauseLemmas
 pub mod CodeLemmas
 pub mod CodeLineLemmas
 pub mod EndLemmas
+pub mod KnownLemmas
 pub mod LabelWalks
 pub mod NamedLemmas
 pub mod NamingLemmas

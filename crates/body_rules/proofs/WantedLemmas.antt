@@ -74,3 +74,13 @@ none_ranged_in s f (p ∷ ps) e =
 pub none_ranged : (s : Source) (f : Forest) (nodes : List TreeNode) (found : List Piece) (ps : List Part) → ArePieces nodes found ps
     → list_any (λ (x : Piece). is_ranged x.production) found ≡ false → flat_map (operand_at_fault s f) ps ≡ []
 none_ranged s f nodes found ps are none = none_ranged_in s f ps (sym (same_any is_ranged nodes found ps are) ∙ none)
+
+-- where no number can be at fault, no instruction is one of variables
+pub none_of_variables : (found : List Piece) → list_any (λ (x : Piece). is_ranged x.production) found ≡ false
+    → list_any (λ (x : Piece). x.production == INSTRUCTION_OP_VAR) found ≡ false
+none_of_variables [] e = refl
+none_of_variables (x ∷ found) e =
+    let both = neither (is_ranged x.production) (list_any (λ (y : Piece). is_ranged y.production) found) e in
+    let first = neither (x.production == INSTRUCTION_OP_NUM) (x.production == INSTRUCTION_OP_REAL || x.production == INSTRUCTION_OP_VAR) both.0 in
+    let second = neither (x.production == INSTRUCTION_OP_REAL) (x.production == INSTRUCTION_OP_VAR) first.1 in
+    ap (λ b. b || list_any (λ (y : Piece). y.production == INSTRUCTION_OP_VAR) found) second.1 ∙ none_of_variables found both.1

@@ -3,6 +3,8 @@ pub mod ClauseCounts
 pub mod CodeLines
 pub mod CodeParts
 pub mod CodePlaces
+pub mod KnownNames
+pub mod MethodFaults
 pub mod NamedVariables
 pub mod NamingNodes
 pub mod OperandRanges

@@ -6,7 +6,7 @@ ghost use Rattle.std.specs.List.{flat_map, list_any};
 ghost use Rattle.source_model.specs.BodyNumbers.{body_numbers_out_of_range_in};
 ghost use Rattle.source_model.specs.Bodies.{code};
 ghost use Rattle.source_model.specs.Forest.{preorder};
-ghost use Rattle.source_model.specs.Instructions.{instructions_of, targets};
+ghost use Rattle.source_model.specs.Instructions.{instructions_of, labels, targets};
 ghost use Rattle.source_model.specs.Nodes.{Node};
 ghost use Rattle.source_model.specs.Source.{Source};
 ghost use Rattle.source_reading.specs.Labels.{AreLabels};
@@ -16,6 +16,7 @@ ghost use Rattle.source_reading.specs.Pieces.{ArePieces, AreParts};
 ghost use Rattle.source_reading.specs.Readers.{Reads};
 ghost use Rattle.source_reading.specs.Walk.{IsForest};
 ghost use Rattle.body_rules.specs.AllOfBodies.{backwards_in, broken_in, broken_in_bodies, ends_in, far_in, variables_in};
+ghost use Rattle.body_rules.specs.MethodFaults.{naming_in, AreOperandFaults};
 ghost use Rattle.body_rules.specs.CodeLines.{IsPlain};
 ghost use Rattle.body_rules.specs.NamedVariables.{ServesVariables};
 ghost use Rattle.body_rules.specs.OperandRanges.{operand_at_fault};
@@ -29,6 +30,7 @@ use crate::code_labels::labels_of;
 use crate::code_lines::lines_in;
 use crate::code_places::CodePlaces;
 use crate::instruction_rules::first_in_code;
+use crate::known_names::are_known;
 use crate::label_faults::label_fault;
 use crate::operand_ranges::{OperandRanges, has_ranged};
 use crate::short_branches::Reach;
@@ -70,50 +72,94 @@ impl MethodRule for AllOfBodies {
     ) -> Result<Option<u32>, NoMemory> {
         let lines = lines_in(alloc, below)?;
         let code = lines.instructions.as_slice();
-        let labels = labels_of(alloc, reader, below, code, lines.labels.as_slice())?;
-        let targets = all_targets(alloc, below, code)?;
-        let variables = Variables::read_for(alloc, reader, below, code)?;
-        first_of_all(
-            alloc,
-            reader,
-            below,
-            code,
-            targets.as_slice(),
-            &labels,
-            &variables,
-            lines.plain,
-        )
+        let names = lines.labels.as_slice();
+        let naming = naming_fault(alloc, reader, below, code, names, lines.plain)?;
+        let operands = operand_faults(alloc, reader, below, code)?;
+        let number = number_fault(alloc, reader, below, operands.number, lines.plain)?;
+        let clause = clause_fault(alloc, reader, below, lines.plain)?;
+        let to_variable = sooner(naming, operands.variable);
+        let to_number = sooner(to_variable, number);
+        Ok(sooner(to_number, clause))
     }
 }
 
-// The same, from a method's instructions, the names that they branch to, its labels and its variables, and whether it is plain.
-fn first_of_all(
+// The least token at which a method breaks a rule of labels, from its instructions, the tokens of its labels, and whether it is
+// plain.
+fn naming_fault(
     alloc: Global,
     reader: &Reader,
     method: &[TreeNode],
     code: &[Piece],
-    tokens: &[u32],
-    labels: &Labels,
-    variables: &Variables,
+    names: &[u32],
     plain: bool,
 ) -> Result<Option<u32>, NoMemory>
     requires forest { IsForest method.now }
     requires parts { AreParts method.now code.now }
     ensures { (s : Source) (n : Node) → Reads reader.now s → IsMethod s n → preorder n.below ≡ method.now → ArePieces method.now code.now (instructions_of n.below) →
-        tokens.now ≡ flat_map targets (instructions_of n.below) → AreLabels labels.now s n.below → ServesVariables variables.now s n.below →
-        (plain ≡ true → IsPlain method.now n.below) → IfOk result (λ k. k ≡ least (broken_in s n)) }
+        names.now ≡ labels n.below → (plain ≡ true → IsPlain method.now n.below) → IfOk result (λ k. k ≡ least (naming_in s n)) }
 {
-    let label = label_fault(alloc, reader, method, code, tokens, labels, plain)?;
-    let variable = variable_fault(alloc, reader, method, code, variables)?;
-    let number = number_fault(alloc, reader, method, code, variables, plain)?;
-    let far = branch_fault(alloc, reader, method, code, labels)?;
-    let clause = clause_fault(alloc, reader, method, plain)?;
-    let end = end_fault(alloc, reader, code, tokens, labels)?;
-    let to_variable = sooner(label, variable);
-    let to_number = sooner(to_variable, number);
-    let to_branch = sooner(to_number, far);
-    let to_clause = sooner(to_branch, clause);
-    Ok(sooner(to_clause, end))
+    if are_quiet(reader, method, code, names, plain) {
+        return Ok(None);
+    }
+    let labels = labels_of(alloc, reader, method, code, names)?;
+    let targets = all_targets(alloc, method, code)?;
+    let tokens = targets.as_slice();
+    let label = label_fault(alloc, reader, method, code, tokens, &labels, plain)?;
+    let far = branch_fault(alloc, reader, method, code, &labels)?;
+    let end = end_fault(alloc, reader, code, tokens, &labels)?;
+    let to_branch = sooner(label, far);
+    Ok(sooner(to_branch, end))
+}
+
+// Whether the labels of a method surely break no rule, so that they needn't be looked up.
+fn are_quiet(
+    reader: &Reader,
+    method: &[TreeNode],
+    code: &[Piece],
+    names: &[u32],
+    plain: bool,
+) -> bool
+    requires { AreParts method.now code.now }
+    ensures { (s : Source) (n : Node) → Reads reader.now s → IsMethod s n → ArePieces method.now code.now (instructions_of n.below) →
+        names.now ≡ labels n.below → (plain ≡ true → IsPlain method.now n.below) → result ≡ true → None ≡ least (naming_in s n) }
+{
+    if !plain {
+        return false;
+    }
+    if !is_short_code(code) {
+        return false;
+    }
+    are_known(reader, method, code, names)
+}
+
+// The least name of a variable that isn't declared, and the least number that is out of its range, in a method's instructions.
+#[derive(Clone, Copy, Drop)]
+struct OperandFaults {
+    variable: Option<u32>,
+    number: Option<u32>,
+}
+
+fn operand_faults(
+    alloc: Global,
+    reader: &Reader,
+    method: &[TreeNode],
+    code: &[Piece],
+) -> Result<OperandFaults, NoMemory>
+    requires forest { IsForest method.now }
+    requires parts { AreParts method.now code.now }
+    ensures { (s : Source) (n : Node) → Reads reader.now s → IsMethod s n → preorder n.below ≡ method.now → ArePieces method.now code.now (instructions_of n.below) →
+        IfOk result (AreOperandFaults s n) }
+{
+    if !has_ranged(code) {
+        return Ok(OperandFaults {
+            variable: None,
+            number: None,
+        });
+    }
+    let variables = Variables::read_for(alloc, reader, method, code)?;
+    let variable = variable_fault(alloc, reader, method, code, &variables)?;
+    let number = operand_fault(alloc, reader, method, code, &variables)?;
+    Ok(OperandFaults { variable, number })
 }
 
 // The least name in an instruction that none of these variables has.
@@ -136,22 +182,19 @@ fn variable_fault(
     Ok(first)
 }
 
-// The least number or count of a method that is out of its range.
+// The least number or count of a method that is out of its range, from that of its instructions.
 fn number_fault(
     alloc: Global,
     reader: &Reader,
     method: &[TreeNode],
-    code: &[Piece],
-    variables: &Variables,
+    operand: Option<u32>,
     plain: bool,
 ) -> Result<Option<u32>, NoMemory>
-    requires forest { IsForest method.now }
-    requires parts { AreParts method.now code.now }
+    requires { IsForest method.now }
     ensures { (s : Source) (n : Node) → Reads reader.now s → IsMethod s n → preorder n.below ≡ method.now →
-        ArePieces method.now code.now (instructions_of n.below) → ServesVariables variables.now s n.below → (plain ≡ true → is_plain method.now ≡ true) →
+        operand ≡ least (flat_map (operand_at_fault s n.below) (instructions_of n.below)) → (plain ≡ true → is_plain method.now ≡ true) →
         IfOk result (λ k. k ≡ least (body_numbers_out_of_range_in s n)) }
 {
-    let operand = operand_fault(alloc, reader, method, code, variables)?;
     if plain {
         return Ok(operand);
     }

@@ -12,6 +12,7 @@ pub mod code_labels;
 pub mod code_lines;
 pub mod code_places;
 pub mod instruction_rules;
+pub mod known_names;
 pub mod label_faults;
 pub mod label_rules;
 pub mod operand_ranges;

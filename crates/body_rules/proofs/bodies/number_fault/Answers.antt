@@ -18,37 +18,37 @@ use Rattle.body_rules.proofs.OperandLemmas.{by_forms}
 use Rattle.body_rules.proofs.bodies.number_fault.Goals as goal
 
 pub returns-then-plain : goal.returns-then-plain
-returns-then-plain c s n r m e are variables plain =
+returns-then-plain c s n r m e is-operand plain =
     let f = n.below in
     let is : is_plain (preorder f) ≡ true = ap is_plain e ∙ plain c.if-plain.true in
-    let operands = c.in_ok-operand.ensures s n r m are variables ∙ by_forms s f in
+    let operands = is-operand ∙ by_forms s f in
     let stack : None ≡ least (bounds_out_of_range s f) = sym (ap (λ fs. least (flat_map (λ line. unless is_16_bits s (leaf_at 1 line)) fs)) (no_bounds f is)) in
     let local : None ≡ least (flat_map (local_misnumbered s) (enumerate_from 0 (locals f))) =
     sym (ap (λ fs. least (flat_map (local_misnumbered s) (enumerate_from 0 fs))) (no_locals f is)) in
     let many : None ≡ least (past_count (locals f)) = sym (ap (λ fs. least (past_count fs)) (no_locals f is)) in
     let clause : None ≡ least (past_count (clause_forests s n.around f)) =
     sym (ap (λ fs. least (past_count fs)) (clauses_are s f n.around ∙ no_clauses f is)) in
-    nothing_more c.in_ok-operand.operand
+    nothing_more c.args.operand
     ∙ body_least (bounds_out_of_range s f) (flat_map (number_out_of_range s) (instructions_with INSTRUCTION_OP_NUM f))
     (flat_map (real_out_of_range s) (instructions_with INSTRUCTION_OP_REAL f)) (flat_map (variable_out_of_range s f) (instructions_with INSTRUCTION_OP_VAR f))
     (flat_map (local_misnumbered s) (enumerate_from 0 (locals f))) (past_count (locals f)) (past_count (clause_forests s n.around f))
-    None c.in_ok-operand.operand None None None
+    None c.args.operand None None None
     stack operands local many clause
 
 pub returns : goal.returns
-returns c s n r m e are variables plain =
+returns c s n r m e is-operand plain =
     let f = n.below in
     let stack = c.beyond_in_each-stack.ensures s f r e in
-    let operands = c.in_ok-operand.ensures s n r m are variables ∙ by_forms s f in
+    let operands = is-operand ∙ by_forms s f in
     let local = c.in_ok-misnumbered.ensures s f r e in
     let many = c.local_past_most-local.ensures f e in
     let clause = c.clause_past_most-clause.ensures f e ∙ ap (λ fs. least (past_count fs)) (sym (clauses_are s f n.around)) in
     c.sooner.ensures
     ∙ ap (sooner c.beyond_in_each-stack.result)
     (c.sooner-in_code.ensures
-    ∙ ap (sooner c.in_ok-operand.operand) (c.sooner-counts.ensures ∙ ap (sooner c.in_ok-misnumbered.misnumbered) c.sooner-past.ensures))
+    ∙ ap (sooner c.args.operand) (c.sooner-counts.ensures ∙ ap (sooner c.in_ok-misnumbered.misnumbered) c.sooner-past.ensures))
     ∙ body_least (bounds_out_of_range s f) (flat_map (number_out_of_range s) (instructions_with INSTRUCTION_OP_NUM f))
     (flat_map (real_out_of_range s) (instructions_with INSTRUCTION_OP_REAL f)) (flat_map (variable_out_of_range s f) (instructions_with INSTRUCTION_OP_VAR f))
     (flat_map (local_misnumbered s) (enumerate_from 0 (locals f))) (past_count (locals f)) (past_count (clause_forests s n.around f))
-    c.beyond_in_each-stack.result c.in_ok-operand.operand c.in_ok-misnumbered.misnumbered c.local_past_most-local.result c.clause_past_most-clause.result
+    c.beyond_in_each-stack.result c.args.operand c.in_ok-misnumbered.misnumbered c.local_past_most-local.result c.clause_past_most-clause.result
     stack operands local many clause
