@@ -90,6 +90,9 @@ impl<'a> Rule for AllOfParts<'a> {
         if is_named(production) {
             return self.first_named(alloc, reader, production, below);
         }
+        if !is_asked(production) {
+            return Ok(None);
+        }
         self.first_asked(alloc, reader, place, production, below)
     }
 }
