@@ -5,6 +5,7 @@ pub mod HeldLemmas
 pub mod InstructionLemmas
 pub mod LineWalks
 pub mod NamedLemmas
+pub mod Nameless
 pub mod NumberLemmas
 pub mod Numbering
 pub mod PastLemmas

@@ -1,11 +1,12 @@
 //! The arguments and the locals of a method by their names (ECMA-335 II.15.3, II.15.4.1.3, III.3.38, III.3.43).
 
-ghost use Rattle.std.specs.Prelude.{◌≡◌, ◌+◌, ◌++◌, ◌∷◌, [], List, IfOk, OnOk};
+ghost use Rattle.std.specs.Prelude.{◌≡◌, ℕ, ◌+◌, ◌++◌, ◌∷◌, [], List, IfOk, OnOk};
 ghost use Rattle.std.specs.List.{enumerate_from, flat_map};
 ghost use Rattle.il_lexer.specs.declared.types.TokenKind.TheVariants.{Name};
 ghost use Rattle.ilasm_grammar.specs.declared.productions.TheConstants.{LOCAL};
 ghost use Rattle.source_model.specs.Forest.{Forest, Part, below_each, parts, preorder};
 ghost use Rattle.source_model.specs.Nodes.{Node};
+ghost use Rattle.source_model.specs.Parameters.{parameters};
 ghost use Rattle.source_model.specs.Source.{Source};
 ghost use Rattle.source_model.specs.Variables.{first_argument, is_of_arguments, variable_named};
 ghost use Rattle.source_reading.specs.Labels.{number_found};
@@ -13,7 +14,7 @@ ghost use Rattle.source_reading.specs.Methods.{AreNames, IsMethod};
 ghost use Rattle.source_reading.specs.Pieces.{ArePieces, AreParts};
 ghost use Rattle.source_reading.specs.Readers.{IsOf, Reads};
 ghost use Rattle.source_reading.specs.Walk.{IsForest};
-ghost use Rattle.body_parts.specs.NamedVariables.{name_of, names_of, number_if_named, AreNumbered, AreVariables};
+ghost use Rattle.body_parts.specs.NamedVariables.{name_of, names_of, number_if_named, numbers_from, AreNumbered, AreVariables};
 
 use il_base::{Items, NoMemory};
 use ilasm_grammar::TreeNode;
@@ -55,10 +56,7 @@ impl Variables {
         ensures { (s : Source) (n : Node) → Reads reader.now s → IsMethod s n → preorder n.below ≡ method.now → ArePieces method.now locals.now (parts (LOCAL ∷ []) n.below) →
             IfOk result (λ x. AreVariables x s n.below) }
     {
-        let parameters = child(method, DEF_ARGS_OPT_SOME);
-        let first = first_argument(method);
-        let found = pieces_of(alloc, parameters, Sought::One(DEF_ARG))?;
-        let arguments = named_parts(alloc, reader, parameters, found.as_slice(), first)?;
+        let arguments = named_arguments(alloc, reader, method)?;
         let locals = named_parts(alloc, reader, method, locals, 0)?;
         Ok(Variables { arguments, locals })
     }
@@ -79,6 +77,41 @@ impl Variables {
         } else {
             Ok(number_named(&self.locals, name.as_bytes()))
         }
+    }
+}
+
+// The arguments of a method that have names, which are looked for only where a parameter has one.
+fn named_arguments(
+    alloc: Global,
+    reader: &Reader,
+    method: &[TreeNode],
+) -> Result<Numbered, NoMemory>
+    requires { IsForest method.now }
+    ensures { (s : Source) (n : Node) → Reads reader.now s → IsMethod s n → preorder n.below ≡ method.now →
+        IfOk result (λ x. AreNumbered x s (first_argument n.below) (parameters n.below)) }
+{
+    let below = child(method, DEF_ARGS_OPT_SOME);
+    if !has(below, NAME_OPT_SOME) {
+        return Ok(no_names(alloc));
+    }
+    let found = pieces_of(alloc, below, Sought::One(DEF_ARG))?;
+    named_parts(
+        alloc,
+        reader,
+        below,
+        found.as_slice(),
+        first_argument(method),
+    )
+}
+
+// Of no parameters or locals with names.
+fn no_names(alloc: Global) -> Numbered
+    ensures { (s : Source) (first : ℕ) (fs : List Forest) → names_of fs ≡ [] → numbers_from first 0 fs ≡ [] → AreNumbered result s first fs }
+{
+    let numbers = Items::new(alloc);
+    Numbered {
+        names: Declared::new(alloc),
+        numbers,
     }
 }
 
@@ -127,6 +160,9 @@ fn named_parts(
     ensures { (s : Source) (ps : List Part) → Reads reader.now s → AreNames s (names_of (below_each ps)) → ArePieces nodes.now found.now ps →
         IfOk result (λ x. AreNumbered x s first (below_each ps)) }
 {
+    if found.is_empty() {
+        return Ok(no_names(alloc));
+    }
     let tokens = name_tokens(alloc, nodes, found)?;
     let names = names_at(alloc, reader, tokens.as_slice())?;
     let numbers = name_numbers(alloc, nodes, found, first)?;

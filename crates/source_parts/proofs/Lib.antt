@@ -1,3 +1,4 @@
+pub mod Absent
 pub mod CodeLemmas
 pub mod ConstantLemmas
 pub mod CustomLemmas

@@ -1,8 +1,18 @@
-use Rattle.std.proofs.Common.{ap, sym, subst, ◌∙◌, map}
+use Rattle.std.proofs.Common.{◌≡◌, [], ap, sym, subst, ◌∙◌, map}
+use Rattle.source_model.specs.Forest.{below_each}
 use Rattle.source_model.specs.Values.{name_text}
 use Rattle.source_reading.specs.Methods.{AreNames}
+use Rattle.body_parts.specs.NamedVariables.{names_of, numbers_from}
+use Rattle.body_parts.proofs.BodyLemmas.{nothing_found}
+use Rattle.body_parts.proofs.Nameless.{no_pieces}
 use Rattle.body_parts.proofs.NamedLemmas.{names_below, numbers_below}
 use Rattle.body_parts.proofs.variables.named_parts.Goals as goal
+
+pub returns-then-is_empty : goal.returns-then-is_empty
+returns-then-is_empty c s ps r names are =
+    let none : c.args.found.now ≡ [] = no_pieces c.args.found.now (sym c.is_empty.ensures ∙ c.if-is_empty.true) in
+    let nothing = nothing_found c.args.nodes.now c.args.found.now ps are none in
+    c.no_names.ensures s c.args.first (below_each ps) (ap (λ qs. names_of (below_each qs)) nothing) (ap (λ qs. numbers_from c.args.first 0 (below_each qs)) nothing)
 
 pub returns : goal.returns
 returns c s ps r names are =
