@@ -1,4 +1,5 @@
 pub mod AccessorLemmas
+pub mod BareParams
 pub mod CappedLemmas
 pub mod ConstantChoices
 pub mod DataItemLemmas

@@ -11,8 +11,10 @@ ghost use Rattle.source_model.specs.Items.{runs};
 ghost use Rattle.source_model.specs.Nodes.{Around, typar_names};
 ghost use Rattle.source_model.specs.Parameters.{generics};
 ghost use Rattle.source_model.specs.Source.{Source};
+ghost use Rattle.source_reading.specs.Derived.{HasBodies};
 ghost use Rattle.source_reading.specs.Pieces.{ArePieces, AreParts};
 ghost use Rattle.source_reading.specs.Places.{IsAt};
+ghost use Rattle.source_reading.specs.Readers.{Reads};
 ghost use Rattle.source_reading.specs.Walk.{IsForest};
 
 use crate::line_attributes::line_attributes;
@@ -23,10 +25,27 @@ use ilasm_grammar::productions::{TYPAR, TYPAR_BOUNDS, TYPARS_OPT_SOME};
 use source_flags::declared_flags::typar_flags;
 use source_flags::gathering::{Kind, parts_of};
 use source_reading::declared::Declared;
+use source_reading::name_lists::typar_names;
 use source_reading::pieces::{Piece, nodes_of};
 use source_reading::place::Place;
+use source_reading::reader::Reader;
 use source_reading::walk::{child, leaf_at, the};
 use std::alloc::Global;
+
+/// The names of the generic parameters of a class or a method, from what stands below its production. Most have none.
+pub fn written_names(
+    alloc: Global,
+    reader: &Reader,
+    nodes: &[TreeNode],
+) -> Result<Declared, NoMemory>
+    requires { IsForest nodes.now }
+    ensures { (s : Source) (f : Forest) → Reads reader.now s → preorder f ≡ nodes.now → HasBodies s f → IfOk result (λ names. names ≡ typar_names s f) }
+{
+    if child(nodes, TYPARS_OPT_SOME).is_empty() {
+        return Ok(Declared::new(alloc));
+    }
+    typar_names(alloc, reader, nodes)
+}
 
 /// The generic parameters of a class or a method, from what stands below its production, their names, and its members or items.
 pub fn generics(

@@ -84,6 +84,10 @@ pub fn params_without_lines(
     ensures { (s : Source) (a : Around) → IsAt place.now s a → (f : Forest) → preorder f ≡ nodes.now → AllInRange s f → IfOk result (λ all. all ≡ params s a f []) }
 {
     let below = child(nodes, DEF_ARGS_OPT_SOME);
+    let named = has(below, NAME_OPT_SOME);
+    if !any(named, has(below, PARAM_ATTR_STAR_MORE), false) {
+        return Ok(Items::new(alloc));
+    }
     let parameters = parts_of(alloc, below, Kind::One(DEF_ARG))?;
     let mut all = Items::new(alloc);
     let mut number: u16 = 0;

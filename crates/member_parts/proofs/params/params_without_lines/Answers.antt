@@ -11,6 +11,7 @@ use Rattle.source_reading.proofs.PieceLemmas.{as_many, flat_next, part_read}
 use Rattle.source_reading.proofs.ReferenceLemmas.{of_child}
 use Rattle.source_parts.proofs.KeyLemmas.{only}
 use Rattle.member_parts.proofs.GenericLemmas.{below_at, many_below, many_numbered, numbered_from}
+use Rattle.member_parts.proofs.BareParams.{neither, no_rows}
 use Rattle.member_parts.proofs.ParamFlags.{few_parameters}
 use Rattle.member_parts.proofs.params.params_without_lines.Goals as goal
 
@@ -24,6 +25,13 @@ add_row-requires-clause-forest c =
     subst (λ xs. ArePieces c.child-below.result.now xs qs) (sym c.as_slice-parameter-items.ensures) (c.in_ok-parameters.ensures (child (DEF_ARGS_OPT_SOME ∷ []) f.0) (sym below)) in
     let m = part_read c.child-below.result.now found qs c.loop-parameter.parameter-index _ are c.loop-parameter-test.true in
     (m.of.below, m.below ∙ sym c.nodes_of-of.ensures)
+
+pub returns-then-not-any : goal.returns-then-not-any
+returns-then-not-any c s a x f e ranged =
+    let g = child (DEF_ARGS_OPT_SOME ∷ []) f in
+    let below = sym (c.child-below.ensures f e) in
+    let none = neither c.has-named.result c.has.result (sym c.any.ensures ∙ c.if-not-any.true) in
+    c.new.ensures ∙ sym (no_rows s a f ranged (sym (c.has-named.ensures g below) ∙ none.0) (sym (c.has.ensures g below) ∙ none.1))
 
 pub loop-parameter-init : goal.loop-parameter-init
 loop-parameter-init c = record {
