@@ -6,9 +6,11 @@ use Rattle.assembly_tree.specs.declared.assembly.Assembly.{Assembly}
 use Rattle.assembly_tree.specs.declared.assembly.ExternAssembly.{ExternAssembly}
 use Rattle.assembly_tree.specs.declared.assembly.Manifest.{Manifest}
 use Rattle.assembly_tree.specs.declared.typedef.TypeDef.{TypeDef}
-use Rattle.ilasm_grammar.specs.declared.productions.TheConstants.{ASSEMBLY_EXTERN}
+use Rattle.ilasm_grammar.specs.declared.nonterminals.TheConstants.{SOURCE}
+use Rattle.ilasm_grammar.specs.declared.productions.TheConstants.{ASSEMBLY_EXTERN, DECL_ASSEMBLY}
+use Rattle.ilasm_grammar.specs.declared.symbol.Symbol.TheVariants.{Nonterminal}
 use Rattle.source_model.specs.Classes.{assembly, classes_in}
-use Rattle.source_model.specs.Forest.{Forest, preorder}
+use Rattle.source_model.specs.Forest.{Forest, Part, parts, preorder}
 use Rattle.source_model.specs.Items.{declarations}
 use Rattle.source_model.specs.Manifests.{extern_assemblies, extern_assembly, manifest}
 use Rattle.source_model.specs.Names.{extern_key, externs, key_token}
@@ -16,14 +18,19 @@ use Rattle.source_model.specs.Nodes.{nothing_around}
 use Rattle.source_model.specs.Source.{Source}
 use Rattle.source_model.specs.Values.{name_text}
 use Rattle.source_flags.specs.Lines.{productions_of}
-use Rattle.source_flags.specs.declared.gathering.Kind.TheVariants.{Declarations}
+use Rattle.source_parts.specs.Chosen.{are_of}
+use Rattle.source_flags.specs.declared.gathering.Kind.TheVariants.{Declarations, One}
+use Rattle.source_parts.proofs.Among.{externs_declared}
 use Rattle.source_flags.proofs.Gathered.{IsSought, all_follow, of_parts}
+use Rattle.source_reading.specs.Derived.{Fits, HasBodies}
 use Rattle.source_reading.specs.Namings.{tokens_named}
 use Rattle.source_reading.specs.Places.{IsAt}
 use Rattle.source_reading.specs.Readers.{Reads}
 use Rattle.source_reading.specs.declared.name_lists.Naming.TheVariants as naming
 use Rattle.source_reading.specs.declared.place.Place.{Place}
+use Rattle.source_reading.proofs.PieceLemmas.{mapped_below}
 use Rattle.source_reading.proofs.SizeLemmas.{few_each}
+use Rattle.source_parts.proofs.ExternLemmas.{mapped_flat}
 use Rattle.elaborate.specs.ClassParts.{AreGlobals}
 use Rattle.elaborate.specs.WholeParts.{AllWhole, IsWhole, IsWholePart}
 use Rattle.elaborate.specs.declared.assemblies.Globals.{Globals}
@@ -35,6 +42,18 @@ key_tokens_are (f ∷ fs) = ap (λ ks. key_token f ∷ ks) (key_tokens_are fs)
 pub keys_are : (s : Source) (fs : List Forest) → map (name_text s) (map key_token fs) ≡ map (extern_key s) fs
 keys_are s [] = refl
 keys_are s (f ∷ fs) = ap (λ ks. extern_key s f ∷ ks) (keys_are s fs)
+
+-- the tokens of the keys of the assemblies that a declaration names
+abbrev pub keys_in : Part → List ℕ
+keys_in p = map (λ (q : Part). key_token q.below) (parts (ASSEMBLY_EXTERN ∷ []) p.below)
+
+-- those of all declarations are those of the source
+pub keys_in_all : (s : Source) → Fits s (Nonterminal SOURCE ∷ []) s.tree × HasBodies s s.tree
+    → flat_map keys_in (are_of (One DECL_ASSEMBLY) (declarations s.tree)) ≡ map key_token (externs s)
+keys_in_all s h =
+    mapped_flat (λ (q : Part). key_token q.below) (λ (p : Part). parts (ASSEMBLY_EXTERN ∷ []) p.below) (are_of (One DECL_ASSEMBLY) (declarations s.tree))
+    ∙ ap (map (λ (q : Part). key_token q.below)) (externs_declared s h.0 h.1)
+    ∙ mapped_below key_token (parts (ASSEMBLY_EXTERN ∷ []) s.tree)
 
 few_externs : (s : Source) (n : ℕ) → length (preorder s.tree) ≡ n → n < 2 ^ 32 → length (externs s) < 2 ^ 32
 few_externs s n e few = omega (arith, few_each ASSEMBLY_EXTERN s.tree, e, few)

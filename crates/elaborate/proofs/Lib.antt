@@ -7,3 +7,4 @@ pub mod Elaborated
 pub mod InterfaceLemmas
 pub mod SizeLemmas
 pub mod SizelessLemmas
+pub mod StandingLemmas

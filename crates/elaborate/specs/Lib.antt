@@ -7,4 +7,5 @@ pub mod KnownSizes
 pub mod OwnerLaws
 pub mod OwnerOrder
 pub mod SourceMembers
+pub mod Standing
 pub mod WholeParts

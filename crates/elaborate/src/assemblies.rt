@@ -6,8 +6,10 @@ ghost use Rattle.elaborate.specs.WholeParts.{AllWhole};
 ghost use Rattle.ilasm_grammar.specs.declared.productions.TheConstants.{ASSEMBLY_ASSEMBLY_ATTR_STAR};
 ghost use Rattle.source_model.specs.Classes.{assembly};
 ghost use Rattle.source_model.specs.Forest.{has};
+ghost use Rattle.source_model.specs.Items.{declarations};
 ghost use Rattle.source_model.specs.Nodes.{nothing_around};
 ghost use Rattle.source_model.specs.Source.{Source};
+ghost use Rattle.source_reading.specs.Pieces.{ArePieces, AreParts};
 ghost use Rattle.source_reading.specs.Places.{IsAt};
 ghost use Rattle.source_reading.specs.Readers.{Reads};
 ghost use Rattle.source_reading.specs.Walk.{IsForest};
@@ -22,6 +24,7 @@ use source_flags::gathering::{Kind, parts_of};
 use source_parts::externs::extern_assemblies;
 use source_parts::manifests::manifest;
 use source_reading::declared::Declared;
+use source_reading::pieces::Piece;
 use source_reading::place::Place;
 use source_reading::reader::Reader;
 use std::alloc::Global;
@@ -37,7 +40,8 @@ pub fn read_assembly<R: MemberReader>(
     ensures { (s : Source) → R.knows members.now s → Reads reader.now s → AllWhole s s.tree → has ASSEMBLY_ASSEMBLY_ATTR_STAR s.tree ≡ true →
         IfOk result (λ a. a ≡ assembly s) }
 {
-    let keys = extern_keys(alloc, reader)?;
+    let declared = parts_of(alloc, reader.nodes, Kind::Declarations)?;
+    let keys = extern_keys(alloc, reader, declared.as_slice())?;
     let none = Declared::new(alloc);
     let outside = Place {
         reader: *reader,
@@ -45,24 +49,26 @@ pub fn read_assembly<R: MemberReader>(
         class: &none,
         method: &none,
     };
-    assembly_at(members, alloc, &outside)
+    assembly_at(members, alloc, &outside, declared.as_slice())
 }
 
-// The same, from a place outside of all classes.
+// The same, from a place outside of all classes and all declarations of the source.
 fn assembly_at<R: MemberReader>(
     members: &R,
     alloc: Global,
     place: &Place,
+    declared: &[Piece],
 ) -> Result<Assembly, NoMemory>
     requires forest { IsForest place.now.reader.nodes.now }
+    requires parts { AreParts place.now.reader.nodes.now declared.now }
     requires few { length place.now.reader.nodes.now < 2 ^ 32 }
-    ensures { (s : Source) → R.knows members.now s → IsAt place.now s nothing_around → AllWhole s s.tree → has ASSEMBLY_ASSEMBLY_ATTR_STAR s.tree ≡ true →
-        IfOk result (λ a. a ≡ assembly s) }
+    ensures { (s : Source) → R.knows members.now s → IsAt place.now s nothing_around → ArePieces place.now.reader.nodes.now declared.now (declarations s.tree) →
+        AllWhole s s.tree → has ASSEMBLY_ASSEMBLY_ATTR_STAR s.tree ≡ true → IfOk result (λ a. a ≡ assembly s) }
 {
-    let manifest = manifest(alloc, place)?;
-    let externs = extern_assemblies(alloc, &place.reader)?;
+    let manifest = manifest(alloc, place, declared)?;
+    let externs = extern_assemblies(alloc, &place.reader, declared)?;
     let core = core_scope(alloc, &place.reader, externs.as_slice())?;
-    let own = read_globals(members, alloc, place)?;
+    let own = read_globals(members, alloc, place, declared)?;
     let known = Known {
         reader: place.reader,
         keys: place.keys,
@@ -90,14 +96,15 @@ fn read_globals<R: MemberReader>(
     members: &R,
     alloc: Global,
     place: &Place,
+    declared: &[Piece],
 ) -> Result<Globals, NoMemory>
-    requires forest { IsForest place.now.reader.nodes.now }
+    requires parts { AreParts place.now.reader.nodes.now declared.now }
     requires few { length place.now.reader.nodes.now < 2 ^ 32 }
-    ensures { (s : Source) → R.knows members.now s → IsAt place.now s nothing_around → AllWhole s s.tree → IfOk result (λ x. AreGlobals s x) }
+    ensures { (s : Source) → R.knows members.now s → IsAt place.now s nothing_around → ArePieces place.now.reader.nodes.now declared.now (declarations s.tree) →
+        AllWhole s s.tree → IfOk result (λ x. AreGlobals s x) }
 {
     let nodes = place.reader.nodes;
-    let found = parts_of(alloc, nodes, Kind::Declarations)?;
-    let fields = members.fields(alloc, place, nodes, found.as_slice())?;
-    let methods = members.methods(alloc, place, nodes, found.as_slice())?;
+    let fields = members.fields(alloc, place, nodes, declared)?;
+    let methods = members.methods(alloc, place, nodes, declared)?;
     Ok(Globals { fields, methods })
 }

@@ -3,7 +3,7 @@
 ghost use Rattle.std.specs.Prelude.{◌≡◌, ◌++◌, ◌∷◌, [], IfOk, List};
 ghost use Rattle.elaborate.specs.Bases.{is_outside};
 ghost use Rattle.source_flags.specs.InRange.{AllInRange};
-ghost use Rattle.source_model.specs.Classes.{base, core_scope, is_root, named_object};
+ghost use Rattle.source_model.specs.Classes.{base, core_scope, is_interface, is_root, named_object};
 ghost use Rattle.source_model.specs.Forest.{Forest, preorder};
 ghost use Rattle.source_model.specs.Nodes.{Around};
 ghost use Rattle.source_model.specs.Source.{Source};
@@ -15,26 +15,26 @@ use crate::cores::object_id;
 use il_base::NoMemory;
 use ilasm_grammar::TreeNode;
 use ilasm_grammar::productions::{EXTENDS, EXTENDS_OPT_SOME};
-use source_flags::declared_flags::is_interface;
 use source_reading::place::Place;
 use source_reading::walk::{child, has};
 use std::alloc::Global;
 use type_terms::{Owner, Path, Scope, TypeId, TypeName};
 
-/// The base of a class, from what stands below its production, where `System.Object` stands, and whether the class is that one. An
-/// interface has none, whatever it names.
+/// The base of a class, from what stands below its production, where `System.Object` stands, and whether the class is that one or
+/// an interface. An interface has none, whatever it names.
 pub fn base(
     alloc: Global,
     place: &Place,
     nodes: &[TreeNode],
     core: Option<Scope>,
     root: bool,
+    interface: bool,
 ) -> Result<Option<Owner>, NoMemory>
     requires { IsForest nodes.now }
     ensures { (s : Source) (a : Around) → IsAt place.now s a → (f : Forest) → preorder f ≡ nodes.now → AllInRange s f → core ≡ core_scope s →
-        root ≡ is_root a.path → IfOk result (λ owner. owner ≡ base s a f) }
+        root ≡ is_root a.path → interface ≡ is_interface s f → IfOk result (λ owner. owner ≡ base s a f) }
 {
-    if is_interface(&place.reader, nodes) {
+    if interface {
         return Ok(None);
     }
     let written = child(nodes, EXTENDS_OPT_SOME);

@@ -5,11 +5,14 @@ ghost use Rattle.elaborate.specs.Bases.{is_outside};
 ghost use Rattle.elaborate.specs.ClassParts.{inner, IsHead};
 ghost use Rattle.ilasm_grammar.specs.declared.productions.TheConstants.{CLASS, IMPLEMENTS_OPT_SOME};
 ghost use Rattle.source_flags.specs.InRange.{AllInRange, IsInRange};
-ghost use Rattle.source_model.specs.Classes.{core_scope, rising};
+ghost use Rattle.source_model.specs.Classes.{core_scope, is_interface, rising};
+ghost use Rattle.source_model.specs.Flags.{type_flags};
 ghost use Rattle.source_model.specs.Forest.{Forest, child, preorder};
+ghost use Rattle.source_model.specs.Items.{members};
 ghost use Rattle.source_model.specs.Nodes.{Around};
 ghost use Rattle.source_model.specs.Source.{Source};
 ghost use Rattle.source_model.specs.Types.{owners_in};
+ghost use Rattle.source_reading.specs.Pieces.{ArePieces, AreParts};
 ghost use Rattle.source_reading.specs.Places.{IsAt};
 ghost use Rattle.source_reading.specs.Walk.{IsForest};
 
@@ -21,6 +24,7 @@ use ilasm_grammar::TreeNode;
 use ilasm_grammar::productions::IMPLEMENTS_OPT_SOME;
 use member_parts::layouts::layout;
 use source_flags::declared_flags::type_flags;
+use source_reading::pieces::Piece;
 use source_reading::place::Place;
 use source_reading::walk::{child, leaf_at};
 use std::alloc::Global;
@@ -36,30 +40,40 @@ pub struct Head {
     pub implements: Owners,
 }
 
-/// The head of a class, which stands outside of all classes or in some, from what stands below its production.
+/// The head of a class, which stands outside of all classes or in some, from what stands below its production and its members.
 pub fn read_head(
     alloc: Global,
     place: &Place,
     outside: bool,
     core: Option<Scope>,
     nodes: &[TreeNode],
+    found: &[Piece],
 ) -> Result<Head, NoMemory>
-    requires { IsForest nodes.now }
+    requires forest { IsForest nodes.now }
+    requires parts { AreParts nodes.now found.now }
     ensures { (s : Source) (a : Around) (f : Forest) → IsAt place.now s (inner s a f) → outside ≡ is_outside a.path → core ≡ core_scope s → preorder f ≡ nodes.now →
-        IsInRange s CLASS f → AllInRange s f → IfOk result (λ x. IsHead s (inner s a f) f x) }
+        ArePieces nodes.now found.now (members f) → IsInRange s CLASS f → AllInRange s f → IfOk result (λ x. IsHead s (inner s a f) f x) }
 {
-    let id = place.reader.type_id(alloc, leaf_at(nodes, 1))?;
-    let layout = layout(alloc, &place.reader, nodes)?;
+    let reader = &place.reader;
+    let id = reader.type_id(alloc, leaf_at(nodes, 1))?;
     let root = is_root(outside, &id);
-    let extends = base(alloc, place, nodes, core, root)?;
+    let flags = type_flags(reader, nodes);
+    let extends = base(alloc, place, nodes, core, root, is_interface(flags))?;
     let implements = interfaces(alloc, place, nodes)?;
     Ok(Head {
         id,
-        flags: type_flags(&place.reader, nodes),
-        layout,
+        flags,
+        layout: layout(reader, nodes, found),
         extends,
         implements,
     })
+}
+
+// Whether a class with these flags is an interface.
+fn is_interface(flags: u32) -> bool
+    ensures { (s : Source) (f : Forest) → flags ≡ type_flags s f → result ≡ is_interface s f }
+{
+    flags & 0x20 != 0
 }
 
 // The interfaces of a class, in their order.

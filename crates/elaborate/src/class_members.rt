@@ -23,7 +23,6 @@ use ilasm_grammar::productions::{MEMBER_EVENT, MEMBER_PROPERTY};
 use member_parts::events::events;
 use member_parts::method_tables::MethodTable;
 use member_parts::properties::properties;
-use source_flags::gathering::{Kind, parts_of};
 use source_parts::attributes::attributes;
 use source_parts::runs::own_customs;
 use source_reading::pieces::Piece;
@@ -47,24 +46,25 @@ pub struct Members {
     pub attributes: Attributes,
 }
 
-/// The members of a class, from what stands below its production.
+/// The members of a class, from what stands below its production and where they stand.
 pub fn read_members<R: MemberReader>(
     reader: &R,
     alloc: Global,
     place: &Place,
     nodes: &[TreeNode],
+    found: &[Piece],
 ) -> Result<Members, NoMemory>
     requires forest { IsForest nodes.now }
+    requires parts { AreParts nodes.now found.now }
     requires few { length nodes.now < 2 ^ 32 }
-    ensures { (s : Source) (a : Around) → R.knows reader.now s → IsAt place.now s a → preorder a.class ≡ nodes.now → AllWhole s a.class →
-        IfOk result (λ x. AreMembers s a a.class x) }
+    ensures { (s : Source) (a : Around) → R.knows reader.now s → IsAt place.now s a → preorder a.class ≡ nodes.now → ArePieces nodes.now found.now (members a.class) →
+        AllWhole s a.class → IfOk result (λ x. AreMembers s a a.class x) }
 {
-    let found = parts_of(alloc, nodes, Kind::Members)?;
-    let generics = reader.generics(alloc, place, nodes, found.as_slice())?;
-    let fields = reader.fields(alloc, place, nodes, found.as_slice())?;
-    let methods = reader.methods(alloc, place, nodes, found.as_slice())?;
-    let accessed = read_accessed(alloc, place, nodes, found.as_slice(), methods.as_slice())?;
-    let attributes = own_attributes(alloc, place, nodes, found.as_slice())?;
+    let generics = reader.generics(alloc, place, nodes, found)?;
+    let fields = reader.fields(alloc, place, nodes, found)?;
+    let methods = reader.methods(alloc, place, nodes, found)?;
+    let accessed = read_accessed(alloc, place, nodes, found, methods.as_slice())?;
+    let attributes = own_attributes(alloc, place, nodes, found)?;
     Ok(Members {
         generics,
         fields,

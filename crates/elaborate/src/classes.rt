@@ -18,9 +18,10 @@ use crate::member_reader::MemberReader;
 use assembly_tree::{TypeDef, TypeDefs};
 use il_base::{Items, NoMemory};
 use ilasm_grammar::{TreeNode, productions};
+use member_parts::generics::written_names;
+use source_flags::gathering::{Kind, parts_of};
 use source_model::{derivations_are_forests, forests_join, forests_open};
 use source_reading::declared::Declared;
-use source_reading::name_lists::typar_names;
 use source_reading::place::Place;
 use source_reading::reader::Reader;
 use source_reading::walk::next;
@@ -94,15 +95,16 @@ fn class<R: MemberReader>(
     ensures { (s : Source) (a : Around) (f : Forest) → R.knows members.now s → IsKnown known.now s → outside ≡ is_outside a.path → preorder f ≡ nodes.now →
         IsInRange s CLASS f → AllWhole s f → IfOk result (λ one. one ≡ class_from s (inner s a f) f nested) }
 {
-    let typars = typar_names(alloc, &known.reader, nodes)?;
+    let typars = written_names(alloc, &known.reader, nodes)?;
     let place = Place {
         reader: known.reader,
         keys: known.keys,
         class: &typars,
         method: known.none,
     };
-    let head = read_head(alloc, &place, outside, known.core, nodes)?;
-    let own = read_members(members, alloc, &place, nodes)?;
+    let found = parts_of(alloc, nodes, Kind::Members)?;
+    let head = read_head(alloc, &place, outside, known.core, nodes, found.as_slice())?;
+    let own = read_members(members, alloc, &place, nodes, found.as_slice())?;
     Ok(put_together(head, own, nested))
 }
 

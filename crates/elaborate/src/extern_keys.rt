@@ -1,7 +1,9 @@
 //! The keys by which a source names other assemblies (ECMA-335 II.6.3).
 
-ghost use Rattle.std.specs.Prelude.{◌≡◌, IfOk, List, map};
-ghost use Rattle.source_model.specs.Forest.{Forest, Part, preorder};
+ghost use Rattle.std.specs.Prelude.{◌≡◌, ◌++◌, ◌∷◌, [], IfOk, map};
+ghost use Rattle.ilasm_grammar.specs.declared.productions.TheConstants.{ASSEMBLY_EXTERN};
+ghost use Rattle.source_model.specs.Forest.{Forest, parts, preorder};
+ghost use Rattle.source_model.specs.Items.{declarations};
 ghost use Rattle.source_model.specs.Names.{extern_key, externs, key_token};
 ghost use Rattle.source_model.specs.Source.{Source};
 ghost use Rattle.source_reading.specs.Derived.{HasBodies};
@@ -11,37 +13,42 @@ ghost use Rattle.source_reading.specs.Walk.{IsForest};
 
 use il_base::{Items, NoMemory};
 use ilasm_grammar::TreeNode;
-use ilasm_grammar::productions::{ALIAS, ASSEMBLY_EXTERN};
-use source_flags::gathering::Kind;
-use source_flags::outside::{Shut, parts_outside};
+use ilasm_grammar::productions::{ALIAS, ASSEMBLY_EXTERN, DECL_ASSEMBLY};
+use source_flags::gathering::{Kind, parts_of};
+use source_parts::chosen::pieces_among;
 use source_reading::declared::Declared;
+use source_reading::derived::derivations_have_bodies;
 use source_reading::name_lists::texts;
 use source_reading::pieces::{Piece, nodes_of};
 use source_reading::reader::Reader;
 use source_reading::walk::{has, leaf_at, the};
 use std::alloc::Global;
 
-/// The keys by which a source names other assemblies, in order. Classes and methods, in which none is named, are gone past.
-pub fn extern_keys(alloc: Global, reader: &Reader) -> Result<Declared, NoMemory>
-    requires { IsForest reader.now.nodes.now }
-    ensures { (s : Source) → Reads reader.now s → HasBodies s s.tree → IfOk result (λ keys. keys ≡ map (extern_key s) (externs s)) }
+/// The keys by which a source names other assemblies in order, from all declarations of the source.
+pub fn extern_keys(alloc: Global, reader: &Reader, declared: &[Piece]) -> Result<Declared, NoMemory>
+    requires { AreParts reader.now.nodes.now declared.now }
+    ensures { (s : Source) → Reads reader.now s → ArePieces reader.now.nodes.now declared.now (declarations s.tree) → HasBodies s s.tree →
+        IfOk result (λ keys. keys ≡ map (extern_key s) (externs s)) }
 {
-    let found = parts_outside(alloc, reader.nodes, Shut::Types, Kind::One(ASSEMBLY_EXTERN))?;
-    let tokens = key_tokens(alloc, reader.nodes, found.as_slice())?;
-    let keys = texts(alloc, reader, tokens.as_slice())?;
-    Ok(keys)
+    derivations_have_bodies();
+    let found = pieces_among(alloc, declared, Kind::One(DECL_ASSEMBLY))?;
+    let mut tokens = Items::new(alloc);
+    for piece in found.as_slice() {
+        push_keys(&mut tokens, alloc, nodes_of(reader.nodes, *piece))?;
+    }
+    texts(alloc, reader, tokens.as_slice())
 }
 
-// Of each of these declarations the token of its key.
-fn key_tokens(alloc: Global, nodes: &[TreeNode], found: &[Piece]) -> Result<Items<u32>, NoMemory>
-    requires { AreParts nodes.now found.now }
-    ensures { (ps : List Part) → ArePieces nodes.now found.now ps → IfOk result (λ tokens. tokens ≡ map (λ p. key_token p.below) ps) }
+// Adds the tokens of the keys of the assemblies that a declaration names.
+fn push_keys(tokens: &mut Items<u32>, alloc: Global, nodes: &[TreeNode]) -> Result<(), NoMemory>
+    requires { IsForest nodes.now }
+    ensures { (f : Forest) → preorder f ≡ nodes.now → IfOk result (λ _. tokens.new ≡ tokens.old ++ map (λ p. key_token p.below) (parts (ASSEMBLY_EXTERN ∷ []) f)) }
 {
-    let mut tokens = Items::with_capacity(alloc, found.len())?;
-    for piece in found {
+    let found = parts_of(alloc, nodes, Kind::One(ASSEMBLY_EXTERN))?;
+    for piece in found.as_slice() {
         tokens.push(key_token(nodes_of(nodes, *piece)))?;
     }
-    Ok(tokens)
+    Ok(())
 }
 
 // The token of the key by which an assembly is named.

@@ -2,6 +2,7 @@
 
 ghost use Rattle.std.specs.Prelude.{◌≡◌, ◌∷◌, [], IfOk, map, min};
 ghost use Rattle.elaborate.specs.KnownSizes.{in_word};
+ghost use Rattle.elaborate.specs.Standing.{stands_outside};
 ghost use Rattle.ilasm_grammar.specs.declared.productions.TheConstants.{MEMBER_SIZE};
 ghost use Rattle.member_parts.specs.ClassSizes.{AreSizes};
 ghost use Rattle.source_flags.specs.InRange.{AllInRange};
@@ -12,21 +13,18 @@ ghost use Rattle.source_reading.specs.Walk.{IsForest};
 
 use data_rules::declared_sizes::collect_sizes;
 use il_base::{Items, NoMemory};
-use ilasm_grammar::productions::MEMBER_SIZE;
 use member_parts::class_sizes::ClassSizes;
-use source_flags::gathering::Kind;
-use source_flags::outside::{Shut, has_outside};
 use source_reading::class_paths::ClassPaths;
 use source_reading::reader::Reader;
 use source_rules::class_rules::collect_classes;
 use std::alloc::Global;
 
-/// The sizes of the classes of a source.
-pub fn read_sizes(alloc: Global, reader: &Reader) -> Result<ClassSizes, NoMemory>
+/// The sizes of the classes of a source, from whether a class states one.
+pub fn read_sizes(alloc: Global, reader: &Reader, some: bool) -> Result<ClassSizes, NoMemory>
     requires { IsForest reader.now.nodes.now }
-    ensures { (s : Source) → Reads reader.now s → AllInRange s s.tree → IfOk result (λ sizes. AreSizes s sizes) }
+    ensures { (s : Source) → Reads reader.now s → AllInRange s s.tree → some ≡ stands_outside MEMBER_SIZE s.tree → IfOk result (λ sizes. AreSizes s sizes) }
 {
-    if has_outside(alloc, reader.nodes, Shut::Methods, Kind::One(MEMBER_SIZE))? {
+    if some {
         let sizes = stated_sizes(alloc, reader)?;
         Ok(sizes)
     } else {

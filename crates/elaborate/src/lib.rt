@@ -16,6 +16,7 @@ pub mod known_sizes;
 pub mod member_reader;
 pub mod name_fault;
 pub mod source_members;
+pub mod standing;
 
 pub use elaborating::elaborate;
 pub use name_fault::NameFault;

@@ -50,8 +50,8 @@ pub fn collect_data(alloc: Global, reader: &Reader) -> Result<LabelledData, NoMe
     Ok(LabelledData { labels, contents })
 }
 
-// What a source without data has.
-fn no_data(alloc: Global) -> LabelledData
+/// What a source without data has.
+pub fn no_data(alloc: Global) -> LabelledData
     ensures { (s : Source) → parts (DATA ∷ []) s.tree ≡ [] → AreData s result }
 {
     let tokens = Items::new(alloc);

@@ -1,6 +1,6 @@
 //! The layouts of classes (ECMA-335 II.10.7, II.22.8).
 
-ghost use Rattle.std.specs.Prelude.{◌≡◌, ◌<◌, ◌^◌, ◌⊎◌, IfOk, IfSome, List};
+ghost use Rattle.std.specs.Prelude.{◌≡◌, ◌<◌, ◌^◌, ◌⊎◌, IfSome, List};
 ghost use Rattle.std.specs.List.{AllByRecursion};
 ghost use Rattle.ilasm_grammar.specs.declared.productions.TheConstants.{MEMBER_PACK, MEMBER_SIZE};
 ghost use Rattle.member_parts.specs.Layouts.{last_member, layout_of, number_or};
@@ -8,35 +8,28 @@ ghost use Rattle.member_parts.specs.Ranged.{IsRanged};
 ghost use Rattle.source_flags.specs.InRange.{AllInRange};
 ghost use Rattle.source_model.specs.Data.{layout};
 ghost use Rattle.source_model.specs.Forest.{Forest, Part, preorder};
+ghost use Rattle.source_model.specs.Items.{members};
 ghost use Rattle.source_model.specs.Source.{Source};
 ghost use Rattle.source_reading.specs.Pieces.{ArePieces, AreParts};
 ghost use Rattle.source_reading.specs.Readers.{Reads};
 ghost use Rattle.source_reading.specs.Walk.{IsForest};
 
 use assembly_tree::Layout;
-use il_base::NoMemory;
 use ilasm_grammar::TreeNode;
 use ilasm_grammar::productions::{MEMBER_PACK, MEMBER_SIZE};
-use source_flags::gathering::{Kind, parts_of};
 use source_flags::naturals::{natural_32, short_of};
 use source_reading::pieces::{Piece, nodes_of};
 use source_reading::reader::Reader;
 use source_reading::walk::leaf_at;
-use std::alloc::Global;
 
-/// The layout of a class, where a line gives it one, from what stands below its production.
-pub fn layout(
-    alloc: Global,
-    reader: &Reader,
-    nodes: &[TreeNode],
-) -> Result<Option<Layout>, NoMemory>
-    requires { IsForest nodes.now }
-    ensures { (s : Source) (f : Forest) → Reads reader.now s → preorder f ≡ nodes.now → AllInRange s f → IfOk result (λ l. l ≡ layout s f) }
+/// The layout of a class, where a line among its members gives it one, from what stands below its production.
+pub fn layout(reader: &Reader, nodes: &[TreeNode], found: &[Piece]) -> Option<Layout>
+    requires { AreParts nodes.now found.now }
+    ensures { (s : Source) (f : Forest) → Reads reader.now s → ArePieces nodes.now found.now (members f) → AllInRange s f → result ≡ layout s f }
 {
-    let members = parts_of(alloc, nodes, Kind::Members)?;
-    let pack = last_number(reader, nodes, members.as_slice(), MEMBER_PACK);
-    let size = last_number(reader, nodes, members.as_slice(), MEMBER_SIZE);
-    Ok(layout_of(pack, size))
+    let pack = last_number(reader, nodes, found, MEMBER_PACK);
+    let size = last_number(reader, nodes, found, MEMBER_SIZE);
+    layout_of(pack, size)
 }
 
 // The layout that a packing size and a class size give; one of the two that is missing is 0.

@@ -19,7 +19,7 @@ use body_parts::bodies::body;
 use body_parts::held::held_in;
 use il_base::NoMemory;
 use ilasm_grammar::TreeNode;
-use source_reading::name_lists::typar_names;
+use member_parts::generics::written_names;
 use source_reading::place::Place;
 use std::alloc::Global;
 
@@ -29,7 +29,7 @@ pub fn method(alloc: Global, place: &Place, nodes: &[TreeNode]) -> Result<Method
     requires few { length nodes.now < 2 ^ 32 }
     ensures { (s : Source) (a : Around) (n : Node) → IsAt place.now s a → preorder n.below ≡ nodes.now → IsSoundMethod s n → IfOk result (λ m. m ≡ method s a n.below) }
 {
-    let typars = typar_names(alloc, &place.reader, nodes)?;
+    let typars = written_names(alloc, &place.reader, nodes)?;
     let inner = Place {
         reader: place.reader,
         keys: place.keys,

@@ -1,4 +1,5 @@
 pub mod Absent
+pub mod Among
 pub mod CodeLemmas
 pub mod ConstantLemmas
 pub mod CustomLemmas
@@ -15,4 +16,5 @@ pub mod SettingLemmas
 pub mod SoundParts
 pub mod TextLemmas
 pub mod Tokens
+pub mod Unsought
 pub mod WrappedLemmas

@@ -1,4 +1,4 @@
--- The numbers of settings are in their ranges, and no setting stands in a class or a method.
+-- The numbers of settings are in their ranges; no setting stands in a class or a method, and most are declarations.
 use Rattle.std.proofs.Common.{◌≡◌, [], ◌∷◌, refl}
 use Rattle.std.specs.Prelude.{true}
 use Rattle.ilasm_grammar.specs.Ilasm.{has_bit}
@@ -9,10 +9,11 @@ use Rattle.source_model.specs.OutOfRange.{are_cor_flags, is_16_bits, is_32_bits,
 use Rattle.source_model.specs.Source.{Source}
 use Rattle.source_model.specs.Values.{int_at}
 use Rattle.source_flags.specs.InRange.{IsInRange}
-use Rattle.source_parts.specs.Settings.{place_of, production_of}
+use Rattle.source_parts.specs.Settings.{is_declared, place_of, production_of}
 use Rattle.source_parts.specs.declared.settings.Setting.{Setting}
 use Rattle.source_parts.specs.declared.settings.Setting.TheVariants.{CorFlags, FileAlignment, HashAlgorithm, ImageBase, StackReserve, Subsystem}
 use Rattle.source_flags.specs.declared.outside.Shut.TheVariants.{Types}
+use Rattle.source_parts.proofs.Among.{below_declarations, is_declaration}
 use Rattle.source_flags.proofs.Apart.{is_past, mask_of}
 use Rattle.source_flags.proofs.Bits.{IsNatural, cor_flags_bounds, file_alignment_bounds, image_base_bounds, of_16_bits, of_32_bits, of_test, passes_at, wider}
 
@@ -33,3 +34,13 @@ setting_past FileAlignment = refl
 setting_past StackReserve = refl
 setting_past Subsystem = refl
 setting_past CorFlags = refl
+
+-- the others are declarations
+pub setting_declaration : (setting : Setting) → is_declared setting ≡ true → is_declaration (production_of setting) ≡ true
+unfolding is_declaration below_declarations ilasm_tables has_bit
+setting_declaration HashAlgorithm e = absurd cc
+setting_declaration ImageBase e = refl
+setting_declaration FileAlignment e = refl
+setting_declaration StackReserve e = refl
+setting_declaration Subsystem e = refl
+setting_declaration CorFlags e = refl

@@ -1,5 +1,5 @@
 -- The numbers that a source sets: the productions of their lines, where the number stands, and what holds without a line.
-use Rattle.std.specs.Prelude.{ℕ, List, [], ◌∷◌}
+use Rattle.std.specs.Prelude.{ℕ, List, [], ◌∷◌, Bool, true, false}
 use Rattle.ilasm_grammar.specs.declared.productions.TheConstants.{ASSEMBLY_ITEM_HASH, DECL_CORFLAGS, DECL_FILE, DECL_IMAGEBASE, DECL_STACKRESERVE, DECL_SUBSYSTEM, EXTERN_ITEM_HASH}
 use Rattle.source_model.specs.Forest.{Forest, leaf_at, parts}
 use Rattle.source_model.specs.Manifests.{last_said, number_said}
@@ -15,6 +15,15 @@ production_of FileAlignment = DECL_FILE
 production_of StackReserve = DECL_STACKRESERVE
 production_of Subsystem = DECL_SUBSYSTEM
 production_of CorFlags = DECL_CORFLAGS
+
+-- whether its line is a declaration outside of any class
+abbrev pub is_declared : Setting → Bool
+is_declared HashAlgorithm = false
+is_declared ImageBase = true
+is_declared FileAlignment = true
+is_declared StackReserve = true
+is_declared Subsystem = true
+is_declared CorFlags = true
 
 abbrev pub place_of : Setting → ℕ
 place_of HashAlgorithm = 2

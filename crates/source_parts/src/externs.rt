@@ -1,41 +1,68 @@
 //! The assemblies that a source names (ECMA-335 II.6.3, II.22.5).
 
-ghost use Rattle.std.specs.Prelude.{◌≡◌, IfOk};
-ghost use Rattle.source_parts.specs.Externs.{IsIdentityOf};
+ghost use Rattle.std.specs.Prelude.{◌≡◌, ◌++◌, ◌∷◌, [], IfOk, map};
+ghost use Rattle.source_parts.specs.Externs.{IsIdentityOf, extern_at};
 ghost use Rattle.source_flags.specs.InRange.{AllInRange, IsInRange};
 ghost use Rattle.ilasm_grammar.specs.declared.productions.TheConstants.{ASSEMBLY_EXTERN};
-ghost use Rattle.source_model.specs.Forest.{Forest, preorder};
+ghost use Rattle.source_model.specs.Forest.{Forest, parts, preorder};
+ghost use Rattle.source_model.specs.Items.{declarations};
 ghost use Rattle.source_model.specs.Manifests.{culture, extern_assemblies, extern_assembly};
 ghost use Rattle.source_model.specs.Source.{Source};
+ghost use Rattle.source_reading.specs.Pieces.{ArePieces, AreParts};
 ghost use Rattle.source_reading.specs.Readers.{Reads};
 ghost use Rattle.source_reading.specs.Walk.{IsForest};
 
+use crate::chosen::pieces_among;
 use crate::keys::{flags_with_key, hash, key, version};
 use crate::texts::text_in;
 use assembly_tree::{ExternAssembly, Externs};
 use il_base::{Bytes, Items, NoMemory, Text};
 use ilasm_grammar::TreeNode;
-use ilasm_grammar::productions::{ASSEMBLY_EXTERN, TEXT};
-use source_flags::gathering::Kind;
+use ilasm_grammar::productions::{ASSEMBLY_EXTERN, DECL_ASSEMBLY, TEXT};
+use source_flags::gathering::{Kind, parts_of};
 use source_flags::lines::last_line;
-use source_flags::outside::{Shut, parts_outside};
-use source_reading::pieces::nodes_of;
+use source_reading::derived::derivations_have_bodies;
+use source_reading::pieces::{Piece, nodes_of};
 use source_reading::reader::Reader;
 use source_reading::walk::{leaf_at, the};
 use std::alloc::Global;
 
-/// The assemblies that a source names, in order.
-pub fn extern_assemblies(alloc: Global, reader: &Reader) -> Result<Externs, NoMemory>
-    requires { IsForest reader.now.nodes.now }
-    ensures { (s : Source) → Reads reader.now s → AllInRange s s.tree → IfOk result (λ all. all ≡ extern_assemblies s) }
+/// The assemblies that a source names in order, from all declarations of the source.
+pub fn extern_assemblies(
+    alloc: Global,
+    reader: &Reader,
+    declared: &[Piece],
+) -> Result<Externs, NoMemory>
+    requires { AreParts reader.now.nodes.now declared.now }
+    ensures { (s : Source) → Reads reader.now s → ArePieces reader.now.nodes.now declared.now (declarations s.tree) → AllInRange s s.tree →
+        IfOk result (λ all. all ≡ extern_assemblies s) }
 {
-    let found = parts_outside(alloc, reader.nodes, Shut::Types, Kind::One(ASSEMBLY_EXTERN))?;
+    derivations_have_bodies();
+    let found = pieces_among(alloc, declared, Kind::One(DECL_ASSEMBLY))?;
     let mut all = Items::new(alloc);
     for piece in found.as_slice() {
-        let one = extern_assembly(alloc, reader, nodes_of(reader.nodes, *piece))?;
-        all.push(one)?;
+        push_externs(&mut all, alloc, reader, nodes_of(reader.nodes, *piece))?;
     }
     Ok(all)
+}
+
+// Adds the assemblies that a declaration names.
+fn push_externs(
+    all: &mut Externs,
+    alloc: Global,
+    reader: &Reader,
+    nodes: &[TreeNode],
+) -> Result<(), NoMemory>
+    requires { IsForest nodes.now }
+    ensures { (s : Source) (f : Forest) → Reads reader.now s → preorder f ≡ nodes.now → AllInRange s f →
+        IfOk result (λ _. all.new ≡ all.old ++ map (extern_at s) (parts (ASSEMBLY_EXTERN ∷ []) f)) }
+{
+    let found = parts_of(alloc, nodes, Kind::One(ASSEMBLY_EXTERN))?;
+    for piece in found.as_slice() {
+        let one = extern_assembly(alloc, reader, nodes_of(nodes, *piece))?;
+        all.push(one)?;
+    }
+    Ok(())
 }
 
 // What identifies an assembly beside its name and version.

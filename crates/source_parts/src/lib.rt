@@ -6,6 +6,7 @@
 
 pub mod attributes;
 pub mod bounds;
+pub mod chosen;
 pub mod code_places;
 pub mod externs;
 pub mod field_places;

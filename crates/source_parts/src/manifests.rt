@@ -5,9 +5,11 @@ ghost use Rattle.source_flags.specs.InRange.{AllInRange};
 ghost use Rattle.source_parts.specs.ManifestParts.{AreCustoms, AreNames, AreNumbers, AreSigns};
 ghost use Rattle.ilasm_grammar.specs.declared.productions.TheConstants.{ASSEMBLY_ASSEMBLY_ATTR_STAR};
 ghost use Rattle.source_model.specs.Forest.{Forest, has, preorder, the};
+ghost use Rattle.source_model.specs.Items.{declarations};
 ghost use Rattle.source_model.specs.Manifests.{manifest};
 ghost use Rattle.source_model.specs.Nodes.{nothing_around};
 ghost use Rattle.source_model.specs.Source.{Source};
+ghost use Rattle.source_reading.specs.Pieces.{ArePieces, AreParts};
 ghost use Rattle.source_reading.specs.Places.{IsAt};
 ghost use Rattle.source_reading.specs.Readers.{Reads};
 ghost use Rattle.source_reading.specs.Walk.{IsForest};
@@ -17,13 +19,14 @@ use crate::externs::culture;
 use crate::keys::{flags_with_key, key, version};
 use crate::names::{assembly_name, module_name};
 use crate::runs::own_customs;
-use crate::settings::{Setting, setting_said};
+use crate::settings::{Setting, setting_declared, setting_said};
 use assembly_tree::{Attributes, Manifest};
 use il_base::{Bytes, NoMemory, Text};
 use ilasm_grammar::TreeNode;
 use ilasm_grammar::productions::{ASSEMBLY_ASSEMBLY_ATTR_STAR, ASSEMBLY_ITEM_CUSTOM};
 use source_flags::gathering::{Kind, parts_of};
 use source_flags::naturals::short_of;
+use source_reading::pieces::Piece;
 use source_reading::place::Place;
 use source_reading::reader::Reader;
 use source_reading::walk::the;
@@ -63,17 +66,18 @@ struct Customs {
     outside: Attributes,
 }
 
-/// The manifest of a source, from a place outside of all classes.
-pub fn manifest(alloc: Global, place: &Place) -> Result<Manifest, NoMemory>
+/// The manifest of a source, from a place outside of all classes and all declarations of the source.
+pub fn manifest(alloc: Global, place: &Place, declared: &[Piece]) -> Result<Manifest, NoMemory>
     requires forest { IsForest place.now.reader.nodes.now }
+    requires parts { AreParts place.now.reader.nodes.now declared.now }
     requires few { length place.now.reader.nodes.now < 2 ^ 32 }
-    ensures { (s : Source) → IsAt place.now s nothing_around → AllInRange s s.tree → has ASSEMBLY_ASSEMBLY_ATTR_STAR s.tree ≡ true →
-        IfOk result (λ m. m ≡ manifest s) }
+    ensures { (s : Source) → IsAt place.now s nothing_around → ArePieces place.now.reader.nodes.now declared.now (declarations s.tree) → AllInRange s s.tree →
+        has ASSEMBLY_ASSEMBLY_ATTR_STAR s.tree ≡ true → IfOk result (λ m. m ≡ manifest s) }
 {
-    let names = read_names(alloc, &place.reader)?;
+    let names = read_names(alloc, &place.reader, declared)?;
     let signs = read_signs(alloc, &place.reader)?;
-    let numbers = read_numbers(alloc, &place.reader)?;
-    let customs = read_customs(alloc, place)?;
+    let numbers = read_numbers(alloc, &place.reader, declared)?;
+    let customs = read_customs(alloc, place, declared)?;
     Ok(put_together(names, signs, numbers, customs))
 }
 
@@ -107,12 +111,13 @@ fn declaration<'a>(reader: &Reader<'a>) -> &'a [TreeNode]
     the(reader.nodes, ASSEMBLY_ASSEMBLY_ATTR_STAR)
 }
 
-fn read_names(alloc: Global, reader: &Reader) -> Result<Names, NoMemory>
-    requires { IsForest reader.now.nodes.now }
-    ensures { (s : Source) → Reads reader.now s → AllInRange s s.tree → has ASSEMBLY_ASSEMBLY_ATTR_STAR s.tree ≡ true → IfOk result (λ x. AreNames s x) }
+fn read_names(alloc: Global, reader: &Reader, declared: &[Piece]) -> Result<Names, NoMemory>
+    requires forest { IsForest reader.now.nodes.now }
+    requires parts { AreParts reader.now.nodes.now declared.now }
+    ensures { (s : Source) → Reads reader.now s → ArePieces reader.now.nodes.now declared.now (declarations s.tree) → AllInRange s s.tree → has ASSEMBLY_ASSEMBLY_ATTR_STAR s.tree ≡ true → IfOk result (λ x. AreNames s x) }
 {
     let name = assembly_name(alloc, reader)?;
-    let of_module = module_name(alloc, reader, &name)?;
+    let of_module = module_name(alloc, reader, declared, &name)?;
     let version = version(alloc, reader, declaration(reader))?;
     Ok(Names {
         name,
@@ -136,16 +141,19 @@ fn read_signs(alloc: Global, reader: &Reader) -> Result<Signs, NoMemory>
     })
 }
 
-fn read_numbers(alloc: Global, reader: &Reader) -> Result<Numbers, NoMemory>
-    requires { IsForest reader.now.nodes.now }
-    ensures { (s : Source) → Reads reader.now s → AllInRange s s.tree → IfOk result (λ x. AreNumbers s x) }
+fn read_numbers(alloc: Global, reader: &Reader, declared: &[Piece]) -> Result<Numbers, NoMemory>
+    requires forest { IsForest reader.now.nodes.now }
+    requires parts { AreParts reader.now.nodes.now declared.now }
+    ensures { (s : Source) → Reads reader.now s → ArePieces reader.now.nodes.now declared.now (declarations s.tree) → AllInRange s s.tree →
+        IfOk result (λ x. AreNumbers s x) }
 {
+    let nodes = reader.nodes;
     let hash = setting_said(alloc, reader, declaration(reader), Setting::HashAlgorithm)?;
-    let image_base = setting_said(alloc, reader, reader.nodes, Setting::ImageBase)?;
-    let file_alignment = setting_said(alloc, reader, reader.nodes, Setting::FileAlignment)?;
-    let stack_reserve = setting_said(alloc, reader, reader.nodes, Setting::StackReserve)?;
-    let subsystem = setting_said(alloc, reader, reader.nodes, Setting::Subsystem)?;
-    let cor_flags = setting_said(alloc, reader, reader.nodes, Setting::CorFlags)?;
+    let image_base = setting_declared(alloc, reader, nodes, declared, Setting::ImageBase)?;
+    let file_alignment = setting_declared(alloc, reader, nodes, declared, Setting::FileAlignment)?;
+    let stack_reserve = setting_declared(alloc, reader, nodes, declared, Setting::StackReserve)?;
+    let subsystem = setting_declared(alloc, reader, nodes, declared, Setting::Subsystem)?;
+    let cor_flags = setting_declared(alloc, reader, nodes, declared, Setting::CorFlags)?;
     Ok(Numbers {
         hash,
         image_base,
@@ -156,17 +164,17 @@ fn read_numbers(alloc: Global, reader: &Reader) -> Result<Numbers, NoMemory>
     })
 }
 
-fn read_customs(alloc: Global, place: &Place) -> Result<Customs, NoMemory>
+fn read_customs(alloc: Global, place: &Place, declared: &[Piece]) -> Result<Customs, NoMemory>
     requires forest { IsForest place.now.reader.nodes.now }
+    requires parts { AreParts place.now.reader.nodes.now declared.now }
     requires few { length place.now.reader.nodes.now < 2 ^ 32 }
-    ensures { (s : Source) → IsAt place.now s nothing_around → AllInRange s s.tree → IfOk result (λ x. AreCustoms s x) }
+    ensures { (s : Source) → IsAt place.now s nothing_around → ArePieces place.now.reader.nodes.now declared.now (declarations s.tree) → AllInRange s s.tree →
+        IfOk result (λ x. AreCustoms s x) }
 {
     let below = declaration(&place.reader);
     let own = parts_of(alloc, below, Kind::One(ASSEMBLY_ITEM_CUSTOM))?;
     let assembly = attributes(alloc, place, below, own.as_slice())?;
-    let nodes = place.reader.nodes;
-    let declared = parts_of(alloc, nodes, Kind::Declarations)?;
-    let free = own_customs(alloc, declared.as_slice())?;
-    let outside = attributes(alloc, place, nodes, free.as_slice())?;
+    let free = own_customs(alloc, declared)?;
+    let outside = attributes(alloc, place, place.reader.nodes, free.as_slice())?;
     Ok(Customs { assembly, outside })
 }

@@ -3,16 +3,20 @@
 ghost use Rattle.std.specs.Prelude.{◌≡◌, IfOk, true};
 ghost use Rattle.ilasm_grammar.specs.declared.productions.TheConstants.{ASSEMBLY_ASSEMBLY_ATTR_STAR};
 ghost use Rattle.source_model.specs.Forest.{has};
+ghost use Rattle.source_model.specs.Items.{declarations};
 ghost use Rattle.source_model.specs.Manifests.{assembly_name, module_name};
 ghost use Rattle.source_model.specs.Source.{Source};
+ghost use Rattle.source_reading.specs.Pieces.{ArePieces, AreParts};
 ghost use Rattle.source_reading.specs.Readers.{Reads};
 ghost use Rattle.source_reading.specs.Walk.{IsForest};
 
+use crate::chosen::pieces_among;
 use il_base::{NoMemory, Text};
 use ilasm_grammar::productions::{ASSEMBLY_ASSEMBLY_ATTR_STAR, DECL_MODULE};
 use source_flags::gathering::Kind;
-use source_flags::outside::{Shut, last_outside};
+use source_flags::lines::last_of;
 use source_reading::derived::derivations_have_bodies;
+use source_reading::pieces::Piece;
 use source_reading::reader::Reader;
 use source_reading::walk::{leaf_at, the};
 use std::alloc::Global;
@@ -27,14 +31,20 @@ pub fn assembly_name(alloc: Global, reader: &Reader) -> Result<Text, NoMemory>
     reader.name_text(alloc, leaf_at(declaration, 0))
 }
 
-/// The name of the module: that of the assembly and `.dll` where none is said.
-pub fn module_name(alloc: Global, reader: &Reader, assembly: &Text) -> Result<Text, NoMemory>
-    requires { IsForest reader.now.nodes.now }
-    ensures { (s : Source) → Reads reader.now s → assembly.now ≡ assembly_name s → IfOk result (λ name. name ≡ module_name s) }
+/// The name of the module: that of the assembly and `.dll` where none is said among all declarations.
+pub fn module_name(
+    alloc: Global,
+    reader: &Reader,
+    declared: &[Piece],
+    assembly: &Text,
+) -> Result<Text, NoMemory>
+    requires { AreParts reader.now.nodes.now declared.now }
+    ensures { (s : Source) → Reads reader.now s → ArePieces reader.now.nodes.now declared.now (declarations s.tree) → assembly.now ≡ assembly_name s →
+        IfOk result (λ name. name ≡ module_name s) }
 {
     derivations_have_bodies();
-    let said = last_outside(alloc, reader.nodes, Shut::Types, Kind::One(DECL_MODULE))?;
-    match said {
+    let lines = pieces_among(alloc, declared, Kind::One(DECL_MODULE))?;
+    match last_of(reader.nodes, lines.as_slice()) {
         Some(line) => reader.name_text(alloc, leaf_at(line.below, 1)),
         None => {
             let mut name = Text::new(alloc, assembly.as_str())?;

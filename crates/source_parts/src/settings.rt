@@ -1,17 +1,22 @@
 //! The numbers that a source sets for its assembly and its image (ECMA-335 II.6.2, II.25.2.3, II.25.3.3).
 
-ghost use Rattle.std.specs.Prelude.{◌≡◌, IfOk};
+ghost use Rattle.std.specs.Prelude.{◌≡◌, IfOk, true};
 ghost use Rattle.source_flags.specs.InRange.{AllInRange};
-ghost use Rattle.source_parts.specs.Settings.{default_of, place_of, production_of, setting_said};
+ghost use Rattle.source_parts.specs.Settings.{default_of, is_declared, place_of, production_of, setting_said};
 ghost use Rattle.source_model.specs.Forest.{Forest, preorder};
+ghost use Rattle.source_model.specs.Items.{declarations};
 ghost use Rattle.source_model.specs.Source.{Source};
+ghost use Rattle.source_reading.specs.Pieces.{ArePieces, AreParts};
 ghost use Rattle.source_reading.specs.Readers.{Reads};
 ghost use Rattle.source_reading.specs.Walk.{IsForest};
 
+use crate::chosen::pieces_among;
 use il_base::NoMemory;
 use ilasm_grammar::{TreeNode, productions};
 use source_flags::gathering::Kind;
+use source_flags::lines::last_of;
 use source_flags::outside::{Shut, last_outside};
+use source_reading::pieces::Piece;
 use source_reading::reader::Reader;
 use source_reading::walk::leaf_at;
 use std::alloc::Global;
@@ -80,6 +85,25 @@ pub fn setting_said(
 {
     let said = last_outside(alloc, nodes, Shut::Types, Kind::One(setting.production()))?;
     match said {
+        Some(line) => Ok(reader.natural(leaf_at(line.below, setting.place()))),
+        None => Ok(setting.default()),
+    }
+}
+
+/// What the last line of a setting says that is a declaration, from all declarations.
+pub fn setting_declared(
+    alloc: Global,
+    reader: &Reader,
+    nodes: &[TreeNode],
+    declared: &[Piece],
+    setting: Setting,
+) -> Result<u32, NoMemory>
+    requires { AreParts nodes.now declared.now }
+    ensures { (s : Source) (f : Forest) → Reads reader.now s → is_declared setting ≡ true → ArePieces nodes.now declared.now (declarations f) → AllInRange s f →
+        IfOk result (λ said. said ≡ setting_said s setting f) }
+{
+    let lines = pieces_among(alloc, declared, Kind::One(setting.production()))?;
+    match last_of(nodes, lines.as_slice()) {
         Some(line) => Ok(reader.natural(leaf_at(line.below, setting.place()))),
         None => Ok(setting.default()),
     }

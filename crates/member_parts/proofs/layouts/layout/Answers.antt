@@ -7,25 +7,17 @@ use Rattle.source_flags.specs.Lines.{productions_of}
 use Rattle.source_flags.specs.declared.gathering.Kind.TheVariants.{Members}
 use Rattle.source_flags.proofs.Gathered.{IsSought, all_follow, of_parts}
 use Rattle.source_model.specs.Items.{members}
-use Rattle.source_reading.specs.Pieces.{ArePieces}
 use Rattle.member_parts.specs.Layouts.{last_member, layout_of}
 use Rattle.member_parts.specs.Ranged.{IsRanged}
 use Rattle.member_parts.proofs.LayoutLemmas.{layout_said, pack_fits}
 use Rattle.member_parts.proofs.layouts.layout.Goals as goal
 
-pub last_number-pack-requires : goal.last_number-pack-requires
-last_number-pack-requires c = (members c.requires.0, subst (λ xs. ArePieces c.args.nodes.now xs (members c.requires.0)) (sym c.as_slice.ensures) (c.in_ok-members.ensures c.requires.0 c.requires.1))
-
-pub last_number-size-requires : goal.last_number-size-requires
-last_number-size-requires c = (members c.requires.0, subst (λ xs. ArePieces c.args.nodes.now xs (members c.requires.0)) (sym c.as_slice-2.ensures) (c.in_ok-members.ensures c.requires.0 c.requires.1))
-
 pub returns : goal.returns
-returns c s f r e h =
+returns c s f r are h =
     let ms = members f in
     let each : AllByRecursion (IsRanged s) ms =
     all_follow (IsSought (IsInRange s) (productions_of Members)) (IsRanged s) ms (λ p g. (g.1, g.2)) (of_parts (IsInRange s) (productions_of Members) f h) in
-    let are : ArePieces c.args.nodes.now c.in_ok-members.members ms = c.in_ok-members.ensures f e in
-    let pack = c.last_number-pack.ensures s ms r (subst (λ xs. ArePieces c.args.nodes.now xs ms) (sym c.as_slice.ensures) are) each (inl refl) in
-    let size = c.last_number-size.ensures s ms r (subst (λ xs. ArePieces c.args.nodes.now xs ms) (sym c.as_slice-2.ensures) are) each (inr refl) in
+    let pack = c.last_number-pack.ensures s ms r are each (inl refl) in
+    let size = c.last_number-size.ensures s ms r are each (inr refl) in
     let fits : IfSome c.last_number-pack.result (λ n. n < 2 ^ 16) = subst (λ o. IfSome o (λ n. n < 2 ^ 16)) (sym pack) (pack_fits s ms None each tt) in
     c.layout_of.ensures fits ∙ ap (λ o. layout_of o c.last_number-size.result) pack ∙ ap (layout_of (last_member s MEMBER_PACK ms)) size ∙ layout_said s f

@@ -36,14 +36,12 @@ attributes-requires-clause-few c =
 
 pub attributes-requires-2-clause-parts : goal.attributes-requires-2-clause-parts
 attributes-requires-2-clause-parts c =
-    let f = c.requires.forest in
     let nodes = c.args.place.now.reader.nodes.now in
-    let ps = declarations f.0 in
-    let all : ArePieces nodes c.as_slice-2.result.now ps = subst (λ xs. ArePieces nodes xs ps) (sym c.as_slice-2.ensures) (c.in_ok-declared.ensures f.0 f.1) in
-    (own_customs ps, subst (λ xs. ArePieces nodes xs (own_customs ps)) (sym c.as_slice-3.ensures) (c.in_ok-free.ensures nodes ps all))
+    let ps = c.requires.parts.0 in
+    (own_customs ps, subst (λ xs. ArePieces nodes xs (own_customs ps)) (sym c.as_slice-2.ensures) (c.in_ok-free.ensures nodes ps c.requires.parts.1))
 
 pub returns : goal.returns
-returns c s x h =
+returns c s x all h =
     let d = this_assembly s in
     let below = c.declaration-below.ensures s.tree x.reads.nodes in
     let ps = parts (ASSEMBLY_ITEM_CUSTOM ∷ []) d in
@@ -55,9 +53,8 @@ returns c s x h =
     (of_parts (IsInRange s) (ASSEMBLY_ITEM_CUSTOM ∷ []) d (declaration_in_range s h)) in
     let nodes = c.args.place.now.reader.nodes.now in
     let qs = declarations s.tree in
-    let all : ArePieces nodes c.as_slice-2.result.now qs = subst (λ xs. ArePieces nodes xs qs) (sym c.as_slice-2.ensures) (c.in_ok-declared.ensures s.tree x.reads.nodes) in
-    let free : ArePieces nodes c.as_slice-3.result.now (own_customs qs) =
-    subst (λ xs. ArePieces nodes xs (own_customs qs)) (sym c.as_slice-3.ensures) (c.in_ok-free.ensures nodes qs all) in
+    let free : ArePieces nodes c.as_slice-2.result.now (own_customs qs) =
+    subst (λ xs. ArePieces nodes xs (own_customs qs)) (sym c.as_slice-2.ensures) (c.in_ok-free.ensures nodes qs all) in
     let free_all : AllByRecursion (IsCustom s) (own_customs qs) =
     outside_hold s false qs
     (all_follow (IsSought (IsInRange s) (productions_of Declarations)) (IsRanged s) qs (λ p g. (g.1, g.2)) (of_parts (IsInRange s) (productions_of Declarations) s.tree h)) in

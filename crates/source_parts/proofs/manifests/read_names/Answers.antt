@@ -5,13 +5,13 @@ use Rattle.source_parts.proofs.ManifestLemmas.{declaration_in_range}
 use Rattle.source_parts.proofs.manifests.read_names.Goals as goal
 
 pub returns : goal.returns
-returns c s r h some =
+returns c s r are h some =
     let name = c.in_ok-name.ensures s r some in
     record {
       name-is = name;
-      module-is = c.in_ok-of_module.ensures s r name;
+      module-is = c.in_ok-of_module.ensures s r are name;
       version-is = c.in_ok-version.ensures s (this_assembly s) r (c.declaration.ensures s.tree r.nodes) (declaration_in_range s h);
     }
 
 pub version-requires : goal.version-requires
-version-requires c = (the ASSEMBLY_ASSEMBLY_ATTR_STAR c.requires.0, c.declaration.ensures c.requires.0 c.requires.1)
+version-requires c = (the ASSEMBLY_ASSEMBLY_ATTR_STAR c.requires.forest.0, c.declaration.ensures c.requires.forest.0 c.requires.forest.1)

@@ -1,0 +1,70 @@
+//! Whether parts of two productions stand in a source outside of methods.
+
+ghost use Rattle.std.specs.Prelude.{◌≡◌, ◌||◌, ◌==◌};
+ghost use Rattle.elaborate.specs.Standing.{IsStanding};
+ghost use Rattle.source_flags.specs.Outside.{shut_of};
+ghost use Rattle.source_flags.specs.declared.outside.Shut.TheVariants.{Methods};
+ghost use Rattle.source_model.specs.Forest.{Forest, is_among, preorder};
+ghost use Rattle.source_reading.specs.Walk.{IsForest};
+
+use ilasm_grammar::TreeNode;
+use ilasm_grammar::productions::METHOD;
+use source_model::{derivations_are_forests, forests_join, forests_open};
+use source_reading::walk::next;
+
+/// Of each of two productions, whether a part of it stands somewhere.
+#[derive(Debug, Clone, Copy, PartialEq, Eq, Drop)]
+pub struct Standing {
+    pub first: bool,
+    pub second: bool,
+}
+
+/// Whether parts of these productions stand outside of methods, found in one walk.
+pub fn find_standing(nodes: &[TreeNode], first: u16, second: u16) -> Standing
+    requires { IsForest nodes.now }
+    ensures { (f : Forest) → preorder f ≡ nodes.now → IsStanding first second f result }
+{
+    derivations_are_forests();
+    forests_open();
+    forests_join();
+    let mut found = Standing {
+        first: false,
+        second: false,
+    };
+    let mut left = nodes;
+    while let Some((node, rest)) = next(left) {
+        match node {
+            TreeNode::Branch {
+                production,
+                nodes: count,
+            } => {
+                found = with(found, production, first, second);
+                if is_method(production) {
+                    let (_, after) = rest.split_at(count as usize);
+                    left = after;
+                } else {
+                    left = rest;
+                }
+            }
+            TreeNode::Leaf { .. } => left = rest,
+        }
+    }
+    found
+}
+
+// What stands there, with a production.
+fn with(found: Standing, production: u16, first: u16, second: u16) -> Standing
+    ensures first_is { result.first ≡ (found.first || production == first) }
+    ensures second_is { result.second ≡ (found.second || production == second) }
+{
+    Standing {
+        first: found.first || production == first,
+        second: found.second || production == second,
+    }
+}
+
+fn is_method(production: u16) -> bool
+    ensures { result ≡ is_among (shut_of Methods) production }
+{
+    production == METHOD
+}

@@ -1,0 +1,12 @@
+use Rattle.std.proofs.Common.{◌≡◌, [], ◌∷◌, ◌++◌, map, take}
+use Rattle.ilasm_grammar.specs.declared.productions.TheConstants.{ASSEMBLY_EXTERN}
+use Rattle.source_model.specs.Forest.{Forest, parts, preorder}
+use Rattle.source_model.specs.Source.{Source}
+use Rattle.source_reading.specs.Readers.{Reads}
+use Rattle.source_flags.specs.InRange.{AllInRange}
+use Rattle.source_parts.specs.Externs.{extern_at}
+use Rattle.source_parts.proofs.externs.push_externs.Given as goal
+
+abbrev pub invariant-loop-piece : goal.invariant-loop-piece
+invariant-loop-piece l = (s : Source) (f : Forest) → Reads l.reader s → preorder f ≡ l.nodes → AllInRange s f
+    → l.all ≡ l.initial.all ++ map (extern_at s) (take l.piece-index (parts (ASSEMBLY_EXTERN ∷ []) f))
