@@ -139,3 +139,18 @@ module _ (nodes : List TreeNode) (i : ℕ) (d : TreeNode) (place : ℕ) (counts 
       go : (c : Bool) → (p == place) ≡ c → c ≡ false
       go false e = refl
       go true e = let same : p ≡ place = (Decides-eqb p place).0 e in absurd (omega (arith, same, small, far))
+
+-- a leaf is of no production
+pub no_leaf : (token p : ℕ) → p < 704 → is_of p (Leaf token) ≡ (p == 704)
+no_leaf token p small = go (p == 704) refl
+  where
+    go : (c : Bool) → (p == 704) ≡ c → false ≡ c
+    go false e = refl
+    go true e = let same : p ≡ 704 = (Decides-eqb p 704).0 e in absurd (omega (arith, same, small))
+
+pub nothing_here : (n : ℕ) → n ≤ n
+nothing_here n = omega arith
+
+pub or_nothing : (b : Bool) → b ≡ (b || false)
+or_nothing true = refl
+or_nothing false = refl

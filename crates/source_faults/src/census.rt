@@ -1,8 +1,8 @@
 //! How many nodes of a source each production has, and whether types are long: what a source has none of isn't looked for.
 
-ghost use Rattle.std.specs.Prelude.{◌≡◌, ◌<◌, ◌==◌, ◌||◌, ℕ, slice_index_or};
+ghost use Rattle.std.specs.Prelude.{◌≡◌, ◌<◌, ◌==◌, ◌||◌, ◌&&◌, nat_lt, slice_index_or};
+ghost use Rattle.ilasm_grammar.specs.declared.productions.TheConstants.{TYPE};
 ghost use Rattle.std.specs.List.{list_any};
-ghost use Rattle.source_reading.specs.Walk.{is_of};
 ghost use Rattle.source_faults.specs.Census.{IsCensus, is_long};
 
 use ilasm_grammar::{TreeNode, productions};
@@ -26,39 +26,28 @@ pub fn census_of(nodes: &[TreeNode]) -> Census
     let mut counts = [0; 704];
     let mut long_types = false;
     for node in nodes {
-        long_types = either(long_types, is_long(*node));
-        let place = place_of(*node);
-        if place < MOST {
-            counts[place] += 1;
+        match *node {
+            TreeNode::Branch {
+                production,
+                nodes: below,
+            } => {
+                long_types = either(long_types, production, below);
+                let place = production as usize;
+                if place < MOST {
+                    counts[place] += 1;
+                }
+            }
+            TreeNode::Leaf { .. } => {}
         }
     }
     Census { counts, long_types }
 }
 
-// The number of a node's production, or that of none.
-fn place_of(node: TreeNode) -> usize
-    ensures { (p : ℕ) → p < 704 → is_of p node ≡ (p == result) }
+// Whether there was a long type, or this production with so many nodes below it is one.
+fn either(before: bool, production: u16, below: u32) -> bool
+    ensures { result ≡ (before || (production == TYPE && nat_lt 98 below)) }
 {
-    match node {
-        TreeNode::Branch { production, .. } => production as usize,
-        TreeNode::Leaf { .. } => MOST,
-    }
-}
-
-// Whether a node is a type below which more than 98 nodes stand.
-fn is_long(node: TreeNode) -> bool
-    ensures { result ≡ is_long node }
-{
-    match node {
-        TreeNode::Branch { production, nodes } => production == productions::TYPE && nodes > 98,
-        TreeNode::Leaf { .. } => false,
-    }
-}
-
-fn either(one: bool, other: bool) -> bool
-    ensures { result ≡ (one || other) }
-{
-    one || other
+    before || production == productions::TYPE && below > 98
 }
 
 impl Census {
