@@ -156,6 +156,9 @@ impl<'a, R: Rule> Signatures<'a, R> {
             HasParameters s place.now a → preorder f ≡ nodes.now → HasBodies s f → IfOk result (λ k. k ≡ least (members_twice_in s a (parts_at level f))) }
     {
         orders_are_total();
+        if !has_two(level, nodes) {
+            return Ok(None);
+        }
         let field = self.again_of(alloc, reader, place, Kind::Field, level, nodes)?;
         let method = self.again_of(alloc, reader, place, Kind::Method, level, nodes)?;
         let property = self.again_of(alloc, reader, place, Kind::Property, level, nodes)?;
