@@ -289,6 +289,9 @@ fn class_within(
 ) -> Result<Option<usize>, NoMemory>
     ensures { (s : Source) → Reads reader.now s → IsOf s kind.Name token → IfOk result (λ number. number ≡ class_in classes.now (type_id s token) outer) }
 {
+    if let Some(id) = reader.plain_id(token) {
+        return Ok(classes.child_named(outer, id.space, id.name));
+    }
     let id = reader.type_id(alloc, token)?;
     Ok(classes.child(outer, &id))
 }
