@@ -1,21 +1,22 @@
--- Labels whose names are looked for one by one.
-use Rattle.std.proofs.Common.{◌≡◌, ℕ, zero, suc, ◌+◌, ◌-◌, ◌<◌, ◌≤◌, inl, inr, List, [], ◌∷◌, ◌++◌, length, map, take, cond, ap, sym, subst, ◌∙◌, refl, arith, get_or, slice_get}
-use Rattle.std.specs.Prelude.{Bool, true, false, not, ◌==◌, ◌||◌, ◌&&◌, nat_le, nat_lt, Option, None, Some, is_some, filter, find, bytes_eq}
+-- Labels that are found by a hash of their names.
+use Rattle.std.proofs.Common.{◌≡◌, ℕ, zero, suc, ◌+◌, ◌-◌, ◌<◌, ◌≤◌, inl, inr, List, [], ◌∷◌, ◌++◌, length, map, take, cond, ap, sym, subst, ◌∙◌, refl, arith, get_or, set, slice_get, ◌≢◌}
+use Rattle.std.specs.Prelude.{Bool, true, false, not, ◌==◌, ◌||◌, ◌&&◌, nat_le, nat_lt, Some, is_some, filter, find, bytes_eq}
 use Rattle.std.specs.List.{AllByRecursion, flat_map, list_all, list_any}
 use Rattle.std.proofs.lemmas.Bool.{cases_Bool, leb-true, ltb-true}
 use Rattle.std.proofs.lemmas.Bool.Decides.{Decides-eqb}
-use Rattle.std.proofs.lemmas.List.{get_or-map, take-map}
+use Rattle.std.proofs.lemmas.List.{get_or-map, get_or-set_other, get_or-set_same, take-map}
+use Rattle.std.proofs.lemmas.Nat.{mod_below}
 use Rattle.std.proofs.lemmas.Slice.Eq.{bytes_eq-Decides}
 use Rattle.source_model.specs.BodyFaults.{is_same_name}
 use Rattle.source_model.specs.Forest.{Forest, Part}
-use Rattle.source_model.specs.Instructions.{instructions_of, is_label, labels, mnemonic_token, number_at, targets}
+use Rattle.source_model.specs.Instructions.{instructions_of, is_label, labels, mnemonic_token, number_at}
 use Rattle.source_model.specs.Source.{Source}
 use Rattle.source_model.specs.Values.{name_text}
 use Rattle.source_reading.specs.Repeats.{is_repeat}
 use Rattle.source_reading.specs.declared.label_numbers.Labels.{Labels}
 use Rattle.source_reading.proofs.PieceLemmas.{flat_next, take_next}
 use Rattle.source_reading.proofs.WrittenNames.{both_true}
-use Rattle.body_rules.specs.KnownNames.{is_label_of, is_past}
+use Rattle.body_rules.specs.KnownNames.{is_label_of, is_past, slot_of}
 
 -- ---- parts of lists
 
@@ -28,32 +29,12 @@ module _ {X : Type 0} (P : X → Type 0) where
   back_all [] ys h = h
   back_all (x ∷ xs) ys h = back_all xs ys h.1
 
-  pub taken_all : (k : ℕ) (xs : List X) → AllByRecursion P xs → AllByRecursion P (take k xs)
-  taken_all zero [] h = tt
-  taken_all zero (x ∷ xs) h = tt
-  taken_all (suc k) [] h = tt
-  taken_all (suc k) (x ∷ xs) h = (h.0, taken_all k xs h.1)
-
 pub part_all : {X Y : Type 0} (P : Y → Type 0) (g : X → List Y) (xs : List X) (k : ℕ) (x : X) → AllByRecursion P (flat_map g xs)
     → slice_get xs k ≡ Some x → AllByRecursion P (g x)
 part_all P g [] k x h at = absurd cc
 part_all P g (y ∷ ys) zero x h at =
     let same : y ≡ x = cc in subst (λ z. AllByRecursion P (g z)) same (front_all P (g y) (flat_map g ys) h)
 part_all P g (y ∷ ys) (suc k) x h at = part_all P g ys k x (back_all P (g y) (flat_map g ys) h) at
-
-neither : (a b : Bool) → (a || b) ≡ false → (a ≡ false) × (b ≡ false)
-neither false b e = (refl, e)
-neither true b e = absurd cc
-
-any_none : {X : Type 0} (p : X → Bool) (xs ys : List X) → list_any p xs ≡ false → list_any p ys ≡ false → list_any p (xs ++ ys) ≡ false
-any_none p [] ys e h = h
-any_none p (x ∷ xs) ys e h =
-    let both = neither (p x) (list_any p xs) e in ap (λ b. b || list_any p (xs ++ ys)) both.0 ∙ any_none p xs ys both.1 h
-
-pub any_next : {X : Type 0} (p : X → Bool) (xs : List X) (k : ℕ) (x : X) → slice_get xs k ≡ Some x → list_any p (take k xs) ≡ false → p x ≡ false
-    → list_any p (take (k + 1) xs) ≡ false
-any_next p xs k x at before here =
-    ap (list_any p) (take_next xs k x at) ∙ any_none p (take k xs) (x ∷ []) before (ap (λ b. b || false) here)
 
 all_both : {X : Type 0} (p : X → Bool) (xs ys : List X) → list_all p xs ≡ true → list_all p ys ≡ true → list_all p (xs ++ ys) ≡ true
 all_both p [] ys e h = h
@@ -92,6 +73,47 @@ no_repeat s ks i within none =
     ∙ ap (list_any (bytes_eq (name_text s (get_or ks i 0)))) (take-map (name_text s) i ks)
     ∙ any_mapped (bytes_eq (name_text s (get_or ks i 0))) (name_text s) (take i ks)
     ∙ none
+
+-- the slot of each of these names isn't empty
+abbrev pub HaveSlots : Source → List ℕ → List ℕ → Type 0
+HaveSlots s slots ks = AllByRecursion (λ k. 0 < get_or slots (slot_of (name_text s k)) 0) ks
+
+slot_within : (name : List ℕ) → slot_of name < 64
+unfolding slot_of
+slot_within name = mod_below _ 64 (omega arith)
+
+-- a name whose slot is empty is none of those that have slots
+pub none_same : (s : Source) (slots : List ℕ) (x : ℕ) (ks : List ℕ) → get_or slots (slot_of (name_text s x)) 0 ≡ 0 → HaveSlots s slots ks
+    → list_any (is_same_name s x) ks ≡ false
+none_same s slots x [] free h = refl
+none_same s slots x (k ∷ ks) free h =
+    ap (λ b. b || list_any (is_same_name s x) ks) (other (bytes_eq (name_text s x) (name_text s k)) refl) ∙ none_same s slots x ks free h.1
+  where
+    other : (b : Bool) → bytes_eq (name_text s x) (name_text s k) ≡ b → b ≡ false
+    other false e = refl
+    other true e =
+        let is : name_text s x ≡ name_text s k = (bytes_eq-Decides (name_text s x) (name_text s k)).0 e in
+        let empty : get_or slots (slot_of (name_text s k)) 0 ≡ 0 = ap (λ t. get_or slots (slot_of t) 0) (sym is) ∙ free in
+        absurd (omega (arith, empty, h.0))
+
+-- a slot that was empty is taken by one name more
+slots_keep : (s : Source) (slots : List ℕ) (x number : ℕ) (ks : List ℕ) → length slots ≡ 64 → get_or slots (slot_of (name_text s x)) 0 ≡ 0 → 0 < number
+    → HaveSlots s slots ks → HaveSlots s (set slots (slot_of (name_text s x)) number) (ks ++ x ∷ [])
+slots_keep s slots x number [] size free some h =
+    let within : slot_of (name_text s x) < length slots = omega (arith, size, slot_within (name_text s x)) in
+    (subst (λ n. 0 < n) (sym (get_or-set_same slots (slot_of (name_text s x)) number 0 within)) some, tt)
+slots_keep s slots x number (k ∷ ks) size free some h =
+    let at = slot_of (name_text s x) in
+    let own = slot_of (name_text s k) in
+    let apart : own ≢ at = λ e. let empty : get_or slots own 0 ≡ 0 = ap (λ i. get_or slots i 0) e ∙ free in omega (arith, empty, h.0) in
+    (subst (λ n. 0 < n) (sym (get_or-set_other slots at own number 0 apart)) h.0, slots_keep s slots x number ks size free some h.1)
+
+-- the next of these names has its slot as well
+pub slots_next : (s : Source) (slots new : List ℕ) (tokens : List ℕ) (i x number : ℕ) → length slots ≡ 64 → slice_get tokens i ≡ Some x
+    → get_or slots (slot_of (name_text s x)) 0 ≡ 0 → 0 < number → new ≡ set slots (slot_of (name_text s x)) number → HaveSlots s slots (take i tokens)
+    → HaveSlots s new (take (i + 1) tokens)
+slots_next s slots new tokens i x number size at free some is h =
+    subst (HaveSlots s new) (sym (take_next tokens i x at)) (subst (λ l. HaveSlots s l (take i tokens ++ x ∷ [])) (sym is) (slots_keep s slots x number (take i tokens) size free some h))
 
 -- ---- labels that an instruction follows
 
