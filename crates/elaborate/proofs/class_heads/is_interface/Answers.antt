@@ -1,6 +1,5 @@
 use Rattle.std.proofs.Common.{ap}
-use Rattle.std.specs.Prelude.{not, ◌==◌}
-use Rattle.std.specs.Int.{bit_and}
+use Rattle.std.specs.Prelude.{not, ◌==◌, bit_and}
 use Rattle.elaborate.proofs.class_heads.is_interface.Goals as goal
 
 pub returns : goal.returns

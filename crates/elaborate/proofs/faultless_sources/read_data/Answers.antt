@@ -7,8 +7,8 @@ use Rattle.member_parts.proofs.LabelledLemmas.{data_past}
 use Rattle.elaborate.proofs.SizelessLemmas.{none_of_any}
 use Rattle.elaborate.proofs.faultless_sources.read_data.Goals as goal
 
-pub returns-else-branch : goal.returns-else-branch
-returns-else-branch c s r h some =
+pub returns-else-some : goal.returns-else-some
+returns-else-some c s r h some =
     let same = same_outside Methods (DATA ∷ []) data_past s s.tree (has_bodies s s.tree h) in
-    let none = none_of_any _ (sym some ∙ c.if-branch.false) in
+    let none = none_of_any _ (sym some ∙ c.if-some.false) in
     c.no_data.ensures s (sym same ∙ none)

@@ -6,8 +6,8 @@ use Rattle.source_flags.proofs.Gathered.{has_bodies}
 use Rattle.elaborate.proofs.SizelessLemmas.{none_of_any, sizes_past}
 use Rattle.elaborate.proofs.known_sizes.read_sizes.Goals as goal
 
-pub returns-else-branch : goal.returns-else-branch
-returns-else-branch c s r h some =
+pub returns-else-some : goal.returns-else-some
+returns-else-some c s r h some =
     let same = same_outside Methods (MEMBER_SIZE ∷ []) sizes_past s s.tree (has_bodies s s.tree h) in
-    let none = none_of_any _ (sym some ∙ c.if-branch.false) in
+    let none = none_of_any _ (sym some ∙ c.if-some.false) in
     c.no_sizes.ensures s (sym same ∙ none)
