@@ -19,3 +19,10 @@ pub mod ReadLemmas
 pub mod RowLists
 pub mod RunLemmas
 pub mod TypeRuns
+pub mod in_code
+pub mod names
+pub mod namings
+pub mod tidiness
+pub mod bodies
+pub mod tidy
+pub mod references

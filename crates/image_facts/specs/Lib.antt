@@ -10,3 +10,10 @@ pub mod PartsRead
 pub mod RowCells
 pub mod RowsRead
 pub mod RunsRead
+pub mod in_code
+pub mod names
+pub mod namings
+pub mod tidiness
+pub mod bodies
+pub mod tidy
+pub mod references

@@ -1,2 +1,8 @@
 mod AllRules
 mod RowsInBounds
+pub mod cells
+pub mod order
+pub mod members
+pub mod demands
+pub mod kinds
+pub mod parts

@@ -5,9 +5,9 @@ use Rattle.sig_codec.specs.Spelling.{SpellsType}
 use Rattle.image_references.specs.References.{AreKnown, HasSignature, IsMemberSignature, IsMemberInBounds, IsSpecRow, IsLocalsRow}
 use Rattle.image_references.specs.declared.references.References.{References}
 use Rattle.image_references.specs.declared.row_set.Cells.{Cells}
-use Rattle.image_cells.specs.NamedRows.{HasNamedRows}
-use Rattle.image_members.specs.Bounded.{AreBounded, AreBoundedLocals, IsBoundedMember, IsBoundedSpec}
-use Rattle.image_order.specs.ShortNames.{NamesAreShort}
+use Rattle.image_reads.specs.cells.NamedRows.{HasNamedRows}
+use Rattle.image_reads.specs.members.Bounded.{AreBounded, AreBoundedLocals, IsBoundedMember, IsBoundedSpec}
+use Rattle.image_reads.specs.order.ShortNames.{NamesAreShort}
 
 pub named_rows : (r : References) → AreKnown r → HasNamedRows r
 named_rows r known = record {

@@ -15,8 +15,8 @@ use Rattle.image_indexes.specs.Laws.{AccessorsAreMethods}
 use Rattle.image_layout.specs.LaidOut.{IsLaidOut}
 use Rattle.image_model.specs.Faults.{Holds, Reads, RowRule}
 use Rattle.image_model.specs.Namings.{AreNamings}
-use Rattle.image_namings.specs.Readable.{IsReadable}
-use Rattle.image_parts.specs.Ranges.{AreInRange}
+use Rattle.image_facts.specs.namings.Readable.{IsReadable}
+use Rattle.image_reads.specs.parts.Ranges.{AreInRange}
 
 -- The assembly is laid out in the image, well formed, and not too heavy. As many externs are declared as there are, the methods of
 -- accessors have rows, and a reader takes the signatures and texts of references.

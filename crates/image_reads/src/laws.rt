@@ -1,16 +1,16 @@
 //! Laws of what an image reads as, for the proofs of crates above. None of these functions does anything when it is called.
 ghost use Rattle.image_reads.specs.Laws.{DemandsHold, ImagesAreRead};
 
-use image_cells::{entries_hold, indexes_hold, tables_open};
-use image_demands::bodies_meet_demands;
-use image_kinds::{
+use crate::cells_laws::{entries_hold, indexes_hold, tables_open};
+use crate::demands_laws::bodies_meet_demands;
+use crate::kinds_laws::{
     accessors_are_own, attributes_are_known, bases_are_right, headers_are_known, none_stands_twice,
 };
-use image_members::{signatures_hold, values_hold};
-use image_names::laid_out_is_written;
-use image_namings::namings_are_read;
-use image_order::{manifest_holds, order_holds, runs_hold, scopes_hold};
-use image_parts::assemblies_are_read;
+use crate::members_laws::{signatures_hold, values_hold};
+use image_facts::laid_out_is_written;
+use image_facts::namings_are_read;
+use crate::order_laws::{manifest_holds, order_holds, runs_hold, scopes_hold};
+use crate::parts_laws::assemblies_are_read;
 
 /// Each row of the image meets each demand, by a namer that tells what tokens name and gives back what was given one (ECMA-335
 /// II.22 to II.25).

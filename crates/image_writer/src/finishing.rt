@@ -6,7 +6,7 @@ ghost use Rattle.assembly_tree.specs.WellFormed.{is_well_formed};
 ghost use Rattle.image_filling.specs.OwnedPart.{IsNothing};
 ghost use Rattle.image_model.specs.Faults.{Reads};
 ghost use Rattle.image_model.specs.Tidy.{IsTidy};
-ghost use Rattle.image_parts.specs.Ranges.{AreInRange};
+ghost use Rattle.image_reads.specs.parts.Ranges.{AreInRange};
 ghost use Rattle.image_references.specs.Loaded.{AreLoaded};
 ghost use Rattle.image_rows.specs.Classes.{AreClasses};
 ghost use Rattle.image_rows.specs.Filled.{entry_token};
@@ -20,7 +20,7 @@ use assembly_tree::Assembly;
 use heaps::UserHeap;
 use il_base::{Bytes, NoMemory};
 use image_filling::owned_part::Nothing;
-use image_parts::ranges::{
+use image_reads::ranges::{
     fields_in_range, params_in_range, properties_in_range, versions_in_range,
 };
 use image_references::references::References;

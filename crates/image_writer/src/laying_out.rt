@@ -4,7 +4,7 @@ ghost use Rattle.assembly_tree.specs.Weight.{weight_of};
 ghost use Rattle.assembly_tree.specs.WellFormed.{is_well_formed};
 ghost use Rattle.image_model.specs.Faults.{Reads};
 ghost use Rattle.image_model.specs.Tidy.{IsTidy};
-ghost use Rattle.image_parts.specs.Ranges.{AreInRange};
+ghost use Rattle.image_reads.specs.parts.Ranges.{AreInRange};
 ghost use Rattle.image_rows.specs.Filled.{entry_token};
 ghost use Rattle.image_writer.specs.Contents.{IsContents};
 
@@ -15,12 +15,12 @@ use image_layout::lay_out;
 use image_reads::images_are_read;
 use image_references::references::References;
 use image_rows::classes::Class;
-use image_tidiness::references_are_distinct;
+use image_facts::references_are_distinct;
 use metadata_tables::Rows;
 use pe_layout::Kind;
 use std::alloc::Global;
-use tidy_images::images_are_tidy;
-use tidy_references::references_are_tidy;
+use image_facts::images_are_tidy;
+use image_facts::references_are_tidy;
 use tree_weights::laws::{filled_is_counted, weight_is_enough};
 use writable_trees::laws::accessors_have_rows;
 

@@ -1,6 +1,0 @@
--- answers for src/laws.rt
-use Rattle.image_tidiness.proofs.UsedTables.{indexes_in_use}
-use Rattle.image_tidiness.proofs.laws.indexes_are_in_use.Goals as goal
-
-pub returns : goal.returns
-returns c = indexes_in_use
