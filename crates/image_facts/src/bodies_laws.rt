@@ -3,9 +3,9 @@ ghost use Rattle.image_facts.specs.bodies.Bodies.{BodiesAreRead};
 ghost use Rattle.image_facts.specs.bodies.Loaded.{LoadedAreTidy, TokensAreGiven};
 
 use crate::in_code_laws::{bodies_may_be_followed, more_may_follow, named_is_given};
+use crate::laws::{code_is_read, rows_are_read, runs_are_read};
 use body_codec::written_is_read;
 use heaps::one_content_at_an_index;
-use crate::laws::{code_is_read, rows_are_read, runs_are_read};
 use image_layout::{heaps_are_read, tables_are_read};
 use metadata_tables::indexes_fit;
 

@@ -7,8 +7,8 @@ ghost use Rattle.image_facts.specs.names.Parents.{ParentsAreRead};
 ghost use Rattle.image_facts.specs.names.Paths.{PathsAreRead};
 ghost use Rattle.image_facts.specs.names.Written.{LaidOutIsWritten};
 
-use heaps::one_content_at_an_index;
 use crate::laws::{enclosers_are_read, parts_are_read, rows_are_read, runs_are_read};
+use heaps::one_content_at_an_index;
 use image_layout::{heaps_are_read, tables_are_read};
 use metadata_tables::indexes_fit;
 use sig_codec::{

@@ -4,11 +4,11 @@ ghost use Rattle.image_facts.specs.namings.Members.{FieldsAreRead, MethodsAreRea
 ghost use Rattle.image_facts.specs.namings.Namings.{NamingsAreRead};
 ghost use Rattle.image_facts.specs.namings.Texts.{TextsAreRead};
 
-use heaps::one_content_at_an_index;
 use crate::laws::{rows_are_read, runs_are_read};
 use crate::names_laws::{
     locals_are_read, members_are_owned, owners_are_read, parents_are_read, paths_are_read,
 };
+use heaps::one_content_at_an_index;
 use metadata_tables::indexes_fit;
 use sig_codec::{bytes_spell_one_signature, shortest_is_read, written_is_read};
 

@@ -2,8 +2,8 @@
 ghost use Rattle.image_facts.specs.references.InBounds.{SignaturesAreInBounds};
 ghost use Rattle.image_facts.specs.references.Tidy.{ReferencesAreTidy};
 
-use heaps::one_content_at_an_index;
 use crate::names_laws::{laid_out_is_written, owners_are_read, types_are_one};
+use heaps::one_content_at_an_index;
 use sig_codec::{no_type_begins_another, shortest_is_read, written_is_read};
 use writable_trees::laws::members_are_in_bounds;
 

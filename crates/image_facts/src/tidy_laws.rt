@@ -6,7 +6,9 @@ use crate::bodies_laws::{bodies_are_read, loaded_are_tidy};
 use crate::laws::{rows_are_read, runs_are_read};
 use crate::names_laws::laid_out_is_written;
 use crate::namings_laws::namings_are_read;
-use crate::tidiness_laws::{contents_stand_once, entries_are_short, fields_are_written, rows_stand_once};
+use crate::tidiness_laws::{
+    contents_stand_once, entries_are_short, fields_are_written, rows_stand_once,
+};
 use metadata_tables::indexes_fit;
 use sig_codec::written_is_read;
 

@@ -1,8 +1,7 @@
 //! Laws of demands on images, for the proofs of crates above. None of these functions does anything when it is called.
 ghost use Rattle.image_reads.specs.demands.OnBodies.{BodiesMeetDemands};
 
-use image_facts::bodies_are_read;
-use image_facts::rows_are_read;
+use image_facts::{bodies_are_read, rows_are_read};
 use image_layout::tables_are_read;
 use metadata_tables::indexes_fit;
 

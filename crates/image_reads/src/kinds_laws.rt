@@ -1,12 +1,12 @@
 //! Laws of demands on images, for the proofs of crates above. None of these functions does anything when it is called.
 ghost use Rattle.image_reads.specs.kinds.Met.{AccessorsAreMet, AttributesAreMet, BasesAreMet, DistinctIsMet, HeaderIsMet};
 
-use heaps::one_content_at_an_index;
 use crate::demands_laws::bodies_meet_demands;
+use heaps::one_content_at_an_index;
 use image_facts::{
-    enclosers_are_read, owned_are_read, parts_are_read, rows_are_read, runs_are_read,
+    enclosers_are_read, laid_out_is_written, owned_are_read, parts_are_read, paths_are_read,
+    rows_are_read, runs_are_read,
 };
-use image_facts::{laid_out_is_written, paths_are_read};
 use metadata_tables::indexes_fit;
 use sig_codec::{bytes_spell_one_signature, shortest_is_read, written_is_read};
 use type_terms::orders_are_total;

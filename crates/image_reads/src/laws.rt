@@ -7,10 +7,9 @@ use crate::kinds_laws::{
     accessors_are_own, attributes_are_known, bases_are_right, headers_are_known, none_stands_twice,
 };
 use crate::members_laws::{signatures_hold, values_hold};
-use image_facts::laid_out_is_written;
-use image_facts::namings_are_read;
 use crate::order_laws::{manifest_holds, order_holds, runs_hold, scopes_hold};
 use crate::parts_laws::assemblies_are_read;
+use image_facts::{laid_out_is_written, namings_are_read};
 
 /// Each row of the image meets each demand, by a namer that tells what tokens name and gives back what was given one (ECMA-335
 /// II.22 to II.25).

@@ -3,9 +3,9 @@ ghost use Rattle.image_reads.specs.members.Demands.{SignaturesHold, ValuesHold};
 
 use heaps::one_content_at_an_index;
 use image_facts::{
-    code_is_read, constants_are_read, items_are_read, owned_are_read, rows_are_read, runs_are_read,
+    code_is_read, constants_are_read, items_are_read, laid_out_is_written, members_are_owned,
+    owned_are_read, parents_are_read, paths_are_read, rows_are_read, runs_are_read,
 };
-use image_facts::{laid_out_is_written, members_are_owned, parents_are_read, paths_are_read};
 use metadata_tables::indexes_fit;
 use sig_codec::{bytes_spell_one_signature, shortest_is_read, written_is_read};
 

@@ -1,9 +1,8 @@
 //! Laws of demands on the order of rows, for the proofs of crates above. None of these functions does anything when it is called.
 ghost use Rattle.image_reads.specs.order.OnRows.{ManifestHolds, OrderHolds, RunsHold, ScopesHold};
 
-use image_facts::{rows_are_read, runs_are_read};
+use image_facts::{laid_out_is_written, paths_are_read, rows_are_read, runs_are_read};
 use image_layout::tables_are_read;
-use image_facts::{laid_out_is_written, paths_are_read};
 use metadata_tables::indexes_fit;
 
 /// There is one module, one assembly and at least one type, and the first type is `<Module>`, which has no base, properties, events,

@@ -7,10 +7,10 @@ ghost use Rattle.image_reads.specs.parts.Members.{FieldsAreNamed, MethodsAreName
 ghost use Rattle.image_reads.specs.parts.Types.{TypesAreNamed};
 ghost use Rattle.image_reads.specs.parts.Whole.{ManifestsAreNamed, AssembliesAreRead};
 
-use image_facts::bodies_are_read;
 use image_facts::{
-    code_is_read, constants_are_read, enclosers_are_read, entry_is_read, items_are_read,
-    manifest_is_read, owned_are_read, parts_are_read, runs_are_read, types_are_nested,
+    bodies_are_read, code_is_read, constants_are_read, enclosers_are_read, entry_is_read,
+    items_are_read, manifest_is_read, owned_are_read, parts_are_read, runs_are_read,
+    types_are_nested,
 };
 use image_layout::{heaps_are_read, tables_are_read};
 use sig_codec::{shortest_is_read, written_is_read};

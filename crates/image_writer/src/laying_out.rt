@@ -10,17 +10,15 @@ ghost use Rattle.image_writer.specs.Contents.{IsContents};
 
 use assembly_tree::{Assembly, conditions_are_named};
 use il_base::{Bytes, NoMemory};
+use image_facts::{images_are_tidy, references_are_distinct, references_are_tidy};
 use image_indexes::indexes_are_there;
 use image_layout::lay_out;
 use image_reads::images_are_read;
 use image_references::references::References;
 use image_rows::classes::Class;
-use image_facts::references_are_distinct;
 use metadata_tables::Rows;
 use pe_layout::Kind;
 use std::alloc::Global;
-use image_facts::images_are_tidy;
-use image_facts::references_are_tidy;
 use tree_weights::laws::{filled_is_counted, weight_is_enough};
 use writable_trees::laws::accessors_have_rows;
 
