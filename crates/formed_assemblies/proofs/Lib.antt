@@ -1,0 +1,4 @@
+pub mod sources
+pub mod bodies
+pub mod members
+pub mod contents

@@ -5,7 +5,7 @@ use Rattle.assembly_tree.specs.declared.assembly.Assembly.{Assembly}
 use Rattle.source_model.specs.Classes.{assembly}
 use Rattle.source_model.specs.Denotes.{Denotes}
 use Rattle.source_model.specs.Source.{Source}
-use Rattle.formed_sources.specs.Laws.{IsRight}
+use Rattle.formed_assemblies.specs.sources.Laws.{IsRight}
 
 -- what it denotes is well formed
 abbrev pub SourcesAreFormed : Type 0

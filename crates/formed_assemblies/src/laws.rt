@@ -2,10 +2,10 @@
 
 ghost use Rattle.formed_assemblies.specs.Laws.{DenotedIsFormed, SourcesAreFormed};
 
-use formed_bodies::instructions_fit;
-use formed_contents::fields_have_contents;
-use formed_members::laws::{accessors_are_methods, one_entry};
-use formed_sources::laws::what_remains_suffices;
+use crate::bodies_laws::instructions_fit;
+use crate::contents_laws::fields_have_contents;
+use crate::members_laws::{accessors_are_methods, one_entry};
+use crate::sources_laws::what_remains_suffices;
 
 /// What a source denotes that breaks no rule is a well-formed assembly (ECMA-335 II.10, II.15 to II.19, II.21 to II.23).
 pub fn faultless_sources_are_formed()

@@ -1,4 +1,4 @@
-use Rattle.formed_sources.specs.Remaining.{Remains}
+use Rattle.formed_assemblies.specs.sources.Remaining.{Remains}
 use Rattle.formed_assemblies.proofs.laws.faultless_sources_are_formed.Goals as goal
 
 pub returns : goal.returns

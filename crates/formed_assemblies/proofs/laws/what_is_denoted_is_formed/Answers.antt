@@ -1,7 +1,7 @@
 use Rattle.std.proofs.Common.{IsTrue, sym, subst}
 use Rattle.assembly_tree.specs.WellFormed.{is_well_formed}
 use Rattle.source_model.specs.Denotes.{IsRead}
-use Rattle.formed_sources.specs.Laws.{IsRight}
+use Rattle.formed_assemblies.specs.sources.Laws.{IsRight}
 use Rattle.formed_assemblies.proofs.laws.what_is_denoted_is_formed.Goals as goal
 
 pub returns : goal.returns

@@ -1,5 +1,0 @@
-use Rattle.formed_bodies.proofs.Formed.{all_nodes}
-use Rattle.formed_bodies.proofs.laws.nodes_are_good.Goals as goal
-
-pub returns : goal.returns
-returns c s r n i = all_nodes c.derivations_have_bodies.ensures s r n i
