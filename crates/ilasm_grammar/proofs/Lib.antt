@@ -9,4 +9,5 @@ pub mod TableLemmas
 pub mod IlasmFacts
 pub mod NodesLemmas
 pub mod PlaceLemmas
+pub mod StepLemmas
 pub mod LawLemmas

@@ -1,17 +1,17 @@
 -- The bodies that stand at places of the tables of symbols.
-use Rattle.std.proofs.Common.{◌≡◌, ◌⊎◌, inl, inr, ℕ, zero, suc, ◌+◌, ◌<◌, ◌≤◌, List, [], ◌∷◌, ◌++◌, length, get_or, drop, Bool, true, false, ◌&&◌, ◌||◌, ⊎_elim, refl, sym, ap, ◌∙◌, subst, arith, Some, None}
+use Rattle.std.proofs.Common.{◌≡◌, ◌⊎◌, inl, inr, ℕ, zero, suc, ◌+◌, ◌-◌, ◌<◌, ◌≤◌, List, [], ◌∷◌, ◌++◌, length, get_or, drop, Bool, true, false, ◌&&◌, ◌||◌, ⊎_elim, refl, sym, ap, ◌∙◌, subst, arith, Some, None}
 use Rattle.std.specs.Prelude.{◌==◌, nat_lt, nat_le, slice_index, flat_map, if◌then◌else◌}
-use Rattle.std.proofs.lemmas.Bool.{and_parts, leb-true, ltb-true, lt-ltb, le-ltb, eqb-true, false≢true}
+use Rattle.std.proofs.lemmas.Bool.{and_parts, leb-true, ltb-true, lt-ltb, le-ltb, eqb-true, eq-eqb, ne_eqb, false≢true}
 use Rattle.std.proofs.lemmas.List.{reverse-append}
 use Rattle.ilasm_grammar.specs.declared.rules.TheConstants.{HEADS, STARTS, BODIES}
-use Rattle.ilasm_grammar.specs.declared.choices.TheConstants.{ROWS, FALLBACKS, OWNERS, PICKS}
+use Rattle.ilasm_grammar.specs.declared.choices.TheConstants.{ROWS, FALLBACKS, OWNERS, PICKS, INNERS}
 use Rattle.ilasm_grammar.specs.declared.places.TheConstants.{SYMBOLS, NEXTS, BEGINS, ARITIES}
 use Rattle.ilasm_grammar.specs.declared.symbol.Symbol.{Symbol}
 use Rattle.ilasm_grammar.specs.declared.symbol.Symbol.TheVariants.{Terminal, Nonterminal}
 use Rattle.ilasm_grammar.specs.Ilasm.{are_at_most, body_at, ilasm, picked, picked_by}
 use Rattle.ilasm_grammar.specs.Counts.{arity_of}
 use Rattle.ilasm_grammar.specs.Grammar.{rule_of}
-use Rattle.ilasm_grammar.specs.Stacked.{symbol_of, body_in, joined, rest_at, are_nexts, are_numbers, IsKnown}
+use Rattle.ilasm_grammar.specs.Stacked.{symbol_of, body_in, joined, rest_at, symbol_in, behind_in, begin_in, fallback_of, row_in, owner_in, pick_in, inner_in, are_nexts, are_numbers, IsKnown, IsChoice, IsOwnChoice, IsCellOf}
 use Rattle.ilasm_grammar.proofs.Tables.{all_below}
 use Rattle.ilasm_grammar.proofs.TableFacts.{all_below-at}
 use Rattle.ilasm_grammar.proofs.TableLemmas.{rule_by-at, rule_by-is, rule_by-past}
@@ -56,9 +56,13 @@ pub numbers-at : (numbers : List ℕ) (k : ℕ) → are_numbers numbers ≡ true
 numbers-at [] k e lt = absurd (omega arith)
 numbers-at (x ∷ numbers) zero e lt = let a = and_parts _ _ e in known x (or_parts _ _ a.0)
   where
-    known : (x : ℕ) → (nat_lt x 165 ≡ true) ⊎ (nat_le 256 x ≡ true) → IsKnown (symbol_of x)
+    known : (x : ℕ) → (nat_lt x 165 ≡ true) ⊎ (nat_le 256 x && nat_lt x 666 ≡ true) → IsKnown (symbol_of x)
     known x (inl h) = let lt : x < 165 = ltb-true _ _ h in let low : nat_lt x 256 ≡ true = lt-ltb x 256 (omega arith) in rw low lt
-    known x (inr h) = let le : 256 ≤ x = leb-true _ _ h in let high : nat_lt x 256 ≡ false = le-ltb x 256 le in rw high tt
+    known x (inr h) =
+        let a = and_parts (nat_le 256 x) (nat_lt x 666) h in
+        let le : 256 ≤ x = leb-true _ _ a.0 in let lt : x < 666 = ltb-true _ _ a.1 in
+        let high : nat_lt x 256 ≡ false = le-ltb x 256 le in
+        let low : x - 256 < 410 = omega arith in rw high low
 numbers-at (x ∷ numbers) (suc k) e lt = numbers-at numbers k (and_parts _ _ e).1 (omega arith)
 
 -- ---- where bodies begin
@@ -125,19 +129,30 @@ has_no_arity p le = sym (ap arity_of (has_no_rule p le))
 abbrev head_ok : ℕ → ℕ → Bool
 head_ok n p = nat_le 165 n || (nat_le 641 p || slice_index HEADS p == n)
 
-abbrev heads_ok : List ℕ → List ℕ → Bool
-heads_ok [] picks = true
-heads_ok (n ∷ owners) [] = true
-heads_ok (n ∷ owners) (p ∷ picks) = head_ok n p && heads_ok owners picks
+-- a test of each cell, by its owner and its production
+abbrev cells_ok : (ℕ → ℕ → Bool) → List ℕ → List ℕ → Bool
+cells_ok test [] picks = true
+cells_ok test (n ∷ owners) [] = true
+cells_ok test (n ∷ owners) (p ∷ picks) = test n p && cells_ok test owners picks
 
-t_picks : heads_ok OWNERS PICKS ≡ true
+t_picks : cells_ok head_ok OWNERS PICKS ≡ true
 t_picks = refl
+
+-- the production of a cell has symbols in its body
+abbrev own_ok : ℕ → ℕ → Bool
+own_ok n p = nat_le 165 n || (nat_lt p 641 && nat_lt (slice_index BEGINS p) 887)
+
+t_owns : cells_ok own_ok OWNERS PICKS ≡ true
+t_owns = refl
 
 t_fallbacks : all_below (λ n. head_ok n (slice_index FALLBACKS n)) 165 ≡ true
 t_fallbacks = refl
 
 t_rows : are_at_most 2445 ROWS ≡ true
 t_rows = refl
+
+t_nexts : are_nexts 0 NEXTS ≡ true
+t_nexts = refl
 
 head-is : (n p : ℕ) → head_ok n p ≡ true → n < 165 → p < 641 → slice_index HEADS p ≡ n
 head-is n p e lt low =
@@ -146,12 +161,12 @@ head-is n p e lt low =
     (or_parts (nat_le 641 p) (slice_index HEADS p == n) h))
     (or_parts (nat_le 165 n) (nat_le 641 p || slice_index HEADS p == n) e)
 
-heads-at : (owners picks : List ℕ) (k : ℕ) → heads_ok owners picks ≡ true → k < length owners → k < length picks →
-    head_ok (get_or owners k 0) (get_or picks k 0) ≡ true
-heads-at [] picks k e lt le = absurd (omega arith)
-heads-at (n ∷ owners) [] k e lt le = absurd (omega arith)
-heads-at (n ∷ owners) (p ∷ picks) zero e lt le = (and_parts _ _ e).0
-heads-at (n ∷ owners) (p ∷ picks) (suc k) e lt le = heads-at owners picks k (and_parts _ _ e).1 (omega arith) (omega arith)
+cells-at : (test : ℕ → ℕ → Bool) (owners picks : List ℕ) (k : ℕ) → cells_ok test owners picks ≡ true → k < length owners → k < length picks →
+    test (get_or owners k 0) (get_or picks k 0) ≡ true
+cells-at test [] picks k e lt le = absurd (omega arith)
+cells-at test (n ∷ owners) [] k e lt le = absurd (omega arith)
+cells-at test (n ∷ owners) (p ∷ picks) zero e lt le = (and_parts _ _ e).0
+cells-at test (n ∷ owners) (p ∷ picks) (suc k) e lt le = cells-at test owners picks k (and_parts _ _ e).1 (omega arith) (omega arith)
 
 pub at_most_at : (n : ℕ) (xs : List ℕ) (k : ℕ) → are_at_most n xs ≡ true → get_or xs k 0 ≤ n
 at_most_at n [] k e = omega arith
@@ -170,7 +185,7 @@ picked-head n k lt le low =
     ⊎_elim
     (λ own. let o : slice_index OWNERS cell ≡ n = eqb-true _ _ own in
     let p : picked n k ≡ slice_index PICKS cell = rw own refl in
-    let ok = subst (λ (x : ℕ). head_ok x (slice_index PICKS cell) ≡ true) o (heads-at OWNERS PICKS cell t_picks within within) in
+    let ok = subst (λ (x : ℕ). head_ok x (slice_index PICKS cell) ≡ true) o (cells-at head_ok OWNERS PICKS cell t_picks within within) in
     ap (slice_index HEADS) p ∙ head-is n (slice_index PICKS cell) ok lt (subst (λ (x : ℕ). x < 641) p low))
     (λ other. let p : picked n k ≡ slice_index FALLBACKS n = rw other refl in
     let ok = all_below-at (λ m. head_ok m (slice_index FALLBACKS m)) 165 t_fallbacks n lt in
@@ -184,6 +199,123 @@ picked-rule n k p body lt le is e =
     let low : p < 641 = (rule_by-is HEADS STARTS BODIES p _ e).0 in
     let head : slice_index HEADS p ≡ n = ap (slice_index HEADS) is ∙ picked-head n k lt le (subst (λ (x : ℕ). x < 641) is low) in
     e ∙ ap (λ (x : ℕ). Some (rule_of x body)) head
+
+-- ---- the cells
+
+pub own_cell : (n k cell : ℕ) → n < 165 → slice_index OWNERS cell ≡ n → cell ≡ slice_index ROWS n + k → IsCellOf k (Nonterminal n) cell
+unfolding owner_in row_in
+own_cell n k cell lt own is = record { n = n; low = lt; is = refl; at = is; owned = own }
+
+-- where the nonterminal has no cell
+pub no_cell : (n k : ℕ) → (slice_index OWNERS (slice_index ROWS n + k) ≡ n → ⊥) → picked n k ≡ fallback_of n
+unfolding picked picked_by fallback_of
+no_cell n k apart =
+    let e : (slice_index OWNERS (slice_index ROWS n + k) == n) ≡ false = ne_eqb _ _ apart in rw e refl
+
+pub cell_within : {k cell : ℕ} {symbol : Symbol} → IsCellOf k symbol cell → k ≤ 410 → cell < 2856
+unfolding row_in
+cell_within c le = omega (arith, at_most_at 2445 ROWS c.n t_rows, c.at)
+
+own_parts : (n p : ℕ) → n < 165 → own_ok n p ≡ true → (p < 641) × (slice_index BEGINS p < 887)
+own_parts n p lt e =
+    ⊎_elim (λ h. let le : 165 ≤ n = leb-true 165 n h in absurd (omega arith))
+    (λ h. let a = and_parts (nat_lt p 641) (nat_lt (slice_index BEGINS p) 887) h in (ltb-true _ _ a.0, ltb-true _ _ a.1))
+    (or_parts (nat_le 165 n) (nat_lt p 641 && nat_lt (slice_index BEGINS p) 887) e)
+
+pub pick_low : (cell : ℕ) → cell < 2856 → owner_in cell < 165 → slice_index PICKS cell < 641
+unfolding owner_in
+pick_low cell lt owned = (own_parts _ _ owned (cells-at own_ok OWNERS PICKS cell t_owns lt lt)).0
+
+-- the production in a cell
+pub cell_choice : {k cell : ℕ} {symbol : Symbol} (c : IsCellOf k symbol cell) → k ≤ 410 → IsOwnChoice c.n k (pick_in cell) (begin_in (pick_in cell))
+unfolding picked picked_by begin_in owner_in row_in pick_in
+cell_choice {k = k} {cell = cell} c le =
+    let within : cell < 2856 = omega (arith, at_most_at 2445 ROWS c.n t_rows, c.at) in
+    let own : slice_index OWNERS (slice_index ROWS c.n + k) ≡ c.n = ap (slice_index OWNERS) (sym c.at) ∙ c.owned in
+    let same : (slice_index OWNERS (slice_index ROWS c.n + k) == c.n) ≡ true = eq-eqb _ _ own in
+    let here : picked c.n k ≡ slice_index PICKS (slice_index ROWS c.n + k) = rw same refl in
+    let is : slice_index PICKS cell ≡ picked c.n k = ap (slice_index PICKS) c.at ∙ sym here in
+    let ok = subst (λ (x : ℕ). own_ok x (slice_index PICKS cell) ≡ true) c.owned (cells-at own_ok OWNERS PICKS cell t_owns within within) in
+    let both = own_parts c.n (slice_index PICKS cell) c.low ok in
+    record {
+      low = both.0;
+      is_picked = is;
+      rule = picked-rule c.n k (slice_index PICKS cell) (rest_at (slice_index BEGINS (slice_index PICKS cell))) c.low le is (has_begin _ both.0);
+      some = both.1;
+    }
+
+-- the cell of what a body begins with
+abbrev inner_ok : ℕ → ℕ → ℕ → ℕ → Bool
+inner_ok k n p inner =
+    nat_le 165 n || (nat_le 2856 inner || (let s = slice_index SYMBOLS (slice_index BEGINS p) in
+    nat_lt s 165 && (slice_index OWNERS inner == s && (slice_index ROWS s + k == inner + slice_index ROWS n))))
+
+abbrev inners_ok : ℕ → List ℕ → List ℕ → List ℕ → Bool
+inners_ok k [] picks inners = true
+inners_ok k (n ∷ owners) [] inners = true
+inners_ok k (n ∷ owners) (p ∷ picks) [] = true
+inners_ok k (n ∷ owners) (p ∷ picks) (i ∷ inners) = inner_ok k n p i && inners_ok (suc k) owners picks inners
+
+t_inners : inners_ok 0 OWNERS PICKS INNERS ≡ true
+t_inners = refl
+
+inners-at : (from : ℕ) (owners picks inners : List ℕ) (k : ℕ) → inners_ok from owners picks inners ≡ true →
+    k < length owners → k < length picks → k < length inners → inner_ok (from + k) (get_or owners k 0) (get_or picks k 0) (get_or inners k 0) ≡ true
+inners-at from [] picks inners k e a b c = absurd (omega arith)
+inners-at from (n ∷ owners) [] inners k e a b c = absurd (omega arith)
+inners-at from (n ∷ owners) (p ∷ picks) [] k e a b c = absurd (omega arith)
+inners-at from (n ∷ owners) (p ∷ picks) (i ∷ inners) zero e a b c =
+    let here : from ≡ from + 0 = omega arith in
+    subst (λ (x : ℕ). inner_ok x n p i ≡ true) here (and_parts (inner_ok from n p i) (inners_ok (suc from) owners picks inners) e).0
+inners-at from (n ∷ owners) (p ∷ picks) (i ∷ inners) (suc k) e a b c =
+    let there : suc from + k ≡ from + suc k = omega arith in
+    subst (λ (x : ℕ). inner_ok x (get_or owners k 0) (get_or picks k 0) (get_or inners k 0) ≡ true) there
+    (inners-at (suc from) owners picks inners k (and_parts (inner_ok from n p i) (inners_ok (suc from) owners picks inners) e).1 (omega arith) (omega arith) (omega arith))
+
+nonterminal_of : (x : ℕ) → x < 165 → symbol_of x ≡ Nonterminal x
+nonterminal_of x lt = let low : nat_lt x 256 ≡ true = lt-ltb x 256 (omega arith) in rw low refl
+
+inner_parts : (k n p inner : ℕ) → n < 165 → inner < 2856 → inner_ok k n p inner ≡ true →
+    let s = slice_index SYMBOLS (slice_index BEGINS p) in (s < 165) × (slice_index OWNERS inner ≡ s) × (slice_index ROWS s + k ≡ inner + slice_index ROWS n)
+inner_parts k n p inner lt within e =
+    let s = slice_index SYMBOLS (slice_index BEGINS p) in
+    let last = slice_index OWNERS inner == s && (slice_index ROWS s + k == inner + slice_index ROWS n) in
+    ⊎_elim (λ h. let le : 165 ≤ n = leb-true 165 n h in absurd (omega arith))
+    (λ h. ⊎_elim (λ h1. let le : 2856 ≤ inner = leb-true 2856 inner h1 in absurd (omega arith))
+    (λ h1. let a = and_parts (nat_lt s 165) last h1 in
+    let b = and_parts (slice_index OWNERS inner == s) (slice_index ROWS s + k == inner + slice_index ROWS n) a.1 in
+    (ltb-true _ _ a.0, eqb-true _ _ b.0, eqb-true _ _ b.1))
+    (or_parts (nat_le 2856 inner) (nat_lt s 165 && last) h))
+    (or_parts (nat_le 165 n) (nat_le 2856 inner || (nat_lt s 165 && last)) e)
+
+pub cell_inner : {k cell : ℕ} {symbol : Symbol} → IsCellOf k symbol cell → k ≤ 410 → inner_in cell < 2856 →
+    IsCellOf k (symbol_in (begin_in (pick_in cell))) (inner_in cell)
+unfolding symbol_in begin_in owner_in row_in pick_in inner_in
+cell_inner {k = k} {cell = cell} c le inner =
+    let within : cell < 2856 = omega (arith, at_most_at 2445 ROWS c.n t_rows, c.at) in
+    let zeroed : 0 + cell ≡ cell = omega arith in
+    let ok0 = subst (λ (x : ℕ). inner_ok x (slice_index OWNERS cell) (slice_index PICKS cell) (slice_index INNERS cell) ≡ true) zeroed
+    (inners-at 0 OWNERS PICKS INNERS cell t_inners within within within) in
+    let ok = subst (λ (x : ℕ). inner_ok cell x (slice_index PICKS cell) (slice_index INNERS cell) ≡ true) c.owned ok0 in
+    let parts = inner_parts cell c.n (slice_index PICKS cell) (slice_index INNERS cell) c.low inner ok in
+    let s = slice_index SYMBOLS (slice_index BEGINS (slice_index PICKS cell)) in
+    record {
+      n = s;
+      low = parts.0;
+      is = nonterminal_of s parts.0;
+      at = omega (arith, parts.2, c.at);
+      owned = parts.1;
+    }
+
+-- ---- where a nonterminal has no cell
+
+pub fallback_rule : (n p : ℕ) → n < 165 → p ≡ fallback_of n → p < 641 → IsChoice n p (begin_in p)
+unfolding fallback_of begin_in
+fallback_rule n p lt is low =
+    let ok = all_below-at (λ m. head_ok m (slice_index FALLBACKS m)) 165 t_fallbacks n lt in
+    let head : slice_index HEADS p ≡ n =
+    ap (slice_index HEADS) is ∙ head-is n (slice_index FALLBACKS n) ok lt (subst (λ (x : ℕ). x < 641) is low) in
+    has_begin p low ∙ ap (λ (x : ℕ). Some (rule_of x (rest_at (slice_index BEGINS p)))) head
 
 -- ---- the rests at places
 
@@ -213,3 +345,8 @@ module _ (numbers nexts : List ℕ) (all : length numbers ≡ 887) (each : lengt
   body_in-next k e lt =
       body_in-step numbers nexts k (omega (arith, all)) (omega (arith, each)) ∙
       ap (λ (x : List Symbol). symbol_of (get_or numbers k 0) ∷ x) (moved (get_or nexts k 0) k (nexts-at 0 nexts k e (omega (arith, each))))
+
+-- the rest at a place is the symbol there and the rest at the place behind it
+pub rest_at-step : (k : ℕ) → k < 887 → rest_at k ≡ symbol_in k ∷ rest_at (behind_in k)
+unfolding rest_at symbol_in behind_in
+rest_at-step k lt = body_in-next SYMBOLS NEXTS refl refl k t_nexts lt

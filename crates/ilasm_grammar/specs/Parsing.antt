@@ -1,5 +1,5 @@
 -- What the parser's parts answer.
-use Rattle.std.specs.Prelude.{◌≡◌, ℕ, suc, ◌<◌, ◌==◌, List, [], ◌∷◌, ◌++◌, map, drop, Option, Some, None, Bool, slice_get, if◌then◌else◌}
+use Rattle.std.specs.Prelude.{◌≡◌, ℕ, suc, ◌<◌, ◌≤◌, ◌==◌, List, [], ◌∷◌, map, drop, Option, Some, None, Bool, slice_get, if◌then◌else◌}
 use Rattle.std.specs.List.{list_any}
 use Rattle.il_base.specs.declared.pos.Pos.{Pos}
 use Rattle.il_lexer.specs.declared.types.Token.{Token}
@@ -12,16 +12,15 @@ use Rattle.ilasm_grammar.specs.declared.fault.SyntaxFault.TheVariants.{Bad, NoMe
 use Rattle.ilasm_grammar.specs.declared.leftmost.Outcome.{Outcome}
 use Rattle.ilasm_grammar.specs.declared.leftmost.Outcome.TheVariants.{Whole, Stops}
 use Rattle.ilasm_grammar.specs.declared.leftmost.Step.{Step}
-use Rattle.ilasm_grammar.specs.declared.leftmost.Step.TheVariants.{Makes, Ends as StepEnds, Stops as StepStops}
+use Rattle.ilasm_grammar.specs.declared.leftmost.Step.TheVariants.{Applies, Ends as StepEnds, Stops as StepStops}
 use Rattle.ilasm_grammar.specs.declared.leftmost.Turn.{Turn}
 use Rattle.ilasm_grammar.specs.declared.leftmost.Turn.TheVariants.{Takes, Ends as TurnEnds, Stops as TurnStops}
 use Rattle.ilasm_grammar.specs.declared.symbol.Symbol.{Symbol}
 use Rattle.ilasm_grammar.specs.declared.symbol.Symbol.TheVariants.{Terminal, Nonterminal}
 use Rattle.ilasm_grammar.specs.declared.tree.TreeNode.{TreeNode}
-use Rattle.ilasm_grammar.specs.declared.tree.TreeNode.TheVariants.{Branch, Leaf}
-use Rattle.ilasm_grammar.specs.Grammar.{rule_of, Derives, IsFaultAt}
+use Rattle.ilasm_grammar.specs.Grammar.{Derives, IsFaultAt}
 use Rattle.ilasm_grammar.specs.Leftmost.{Leftmost}
-use Rattle.ilasm_grammar.specs.Choice.{next_of}
+use Rattle.ilasm_grammar.specs.Choice.{load_of, next_of}
 use Rattle.ilasm_grammar.specs.Course.{IsCourse}
 use Rattle.ilasm_grammar.specs.Ilasm.{ilasm, ilasm_sets, picked, IsNoRule}
 
@@ -73,28 +72,28 @@ IsUnderWay kinds at symbols nodes = IsCourse ilasm ilasm_sets END SOURCE kinds a
 abbrev pub IsExpanded : ℕ → List Symbol → Type 0
 IsExpanded terminal symbols = (n : ℕ) (rest : List Symbol) → symbols ≡ Nonterminal n ∷ rest → IsNoRule ilasm n (picked n terminal)
 
--- a production, picked by this terminal, is applied to the first symbol
-pub record IsApplied (terminal production : ℕ) (symbols symbols' : List Symbol) : Type 0 where
-  pub n : ℕ
-  pub body : List Symbol
-  pub rest : List Symbol
-  pub rule : ilasm production ≡ Some (rule_of n body)
-  pub is_picked : production ≡ picked n terminal
-  pub before : symbols ≡ Nonterminal n ∷ rest
-  pub after : symbols' ≡ body ++ rest
-
 -- no source goes on with this terminal
 pub record AreStuck (terminal : ℕ) (symbols : List Symbol) : Type 0 where
   pub some : symbols ≡ [] → ⊥
   pub expanded : IsExpanded terminal symbols
   pub other : terminal < END → (rest : List Symbol) → symbols ≡ Terminal terminal ∷ rest → ⊥
 
--- what becomes of the first of these symbols before this terminal, which is that of the token at a place
-abbrev pub IsStep : ℕ → ℕ → List Symbol → List Symbol → Step → Type 0
-IsStep terminal at symbols symbols' (Makes (Branch production count)) = (count ≡ 0) × IsApplied terminal production symbols symbols'
-IsStep terminal at symbols symbols' (Makes (Leaf token)) = (token ≡ at) × (terminal < END) × (symbols ≡ Terminal terminal ∷ symbols')
-IsStep terminal at symbols symbols' StepEnds = symbols ≡ []
-IsStep terminal at symbols symbols' StepStops = AreStuck terminal symbols
+-- productions, picked by this terminal, may have been applied to the first symbols, and their branches made
+pub record IsExtended (terminal : ℕ) (symbols : List Symbol) (nodes : List TreeNode) (symbols' : List Symbol) (nodes' : List TreeNode) : Type 0 where
+  pub keeps : (kinds : List ℕ) (at : ℕ) → next_of END (drop at kinds) ≡ terminal → IsUnderWay kinds at symbols nodes → IsUnderWay kinds at symbols' nodes'
+  pub lighter : load_of ilasm_sets symbols' ≤ load_of ilasm_sets symbols
+
+-- one has been, and symbols are left, of which the first stands at a place
+pub record HasApplied (terminal place : ℕ) (symbols : List Symbol) (nodes : List TreeNode) (symbols' : List Symbol) (nodes' : List TreeNode) : Type 0 where
+  pub some : place < 887
+  pub extended : IsExtended terminal symbols nodes symbols' nodes'
+  pub less : load_of ilasm_sets symbols' < load_of ilasm_sets symbols
+
+-- what becomes of these symbols and nodes before this terminal, where the first symbol is a nonterminal; the next one stands at a place
+abbrev pub IsStep : ℕ → ℕ → List Symbol → List TreeNode → List Symbol → List TreeNode → Step → Type 0
+IsStep terminal place symbols nodes symbols' nodes' Applies = HasApplied terminal place symbols nodes symbols' nodes'
+IsStep terminal place symbols nodes symbols' nodes' StepEnds = (symbols' ≡ []) × IsExtended terminal symbols nodes symbols' nodes'
+IsStep terminal place symbols nodes symbols' nodes' StepStops = (place < 887) × AreStuck terminal symbols
 
 -- the symbols are stuck before this terminal, after so many tokens
 pub record IsStuckAt (kinds : List ℕ) (terminal at : ℕ) : Type 0 where

@@ -1,10 +1,12 @@
-ghost use Rattle.std.specs.Prelude.{◌≡◌, ◌<◌, ◌≤◌, ◌^◌, length, drop, IfOk};
+ghost use Rattle.std.specs.Prelude.{◌≡◌, ◌<◌, ◌≤◌, ◌^◌, [], ◌∷◌, ◌++◌, length, drop, IfOk, OnOk};
 ghost use Rattle.ilasm_grammar.specs.Choice.{next_of};
-ghost use Rattle.ilasm_grammar.specs.Parsing.{terminals_of, IsOutcome, IsStep, IsTurn};
-ghost use Rattle.ilasm_grammar.specs.Stacked.{symbols_at};
+ghost use Rattle.ilasm_grammar.specs.Parsing.{terminals_of, HasApplied, IsOutcome, IsStep, IsTurn, IsUnderWay};
+ghost use Rattle.ilasm_grammar.specs.Stacked.{symbol_in, symbols_at, IsCellOf};
+ghost use Rattle.ilasm_grammar.specs.declared.symbol.Symbol.TheVariants.{Nonterminal};
+ghost use Rattle.ilasm_grammar.specs.declared.tree.TreeNode.TheVariants.{Branch};
 
-use crate::stack::{pop, push_body};
-use crate::table::{begin_of, pick};
+use crate::stack::{NOWHERE, drop_first, replace_first, symbol_at};
+use crate::table::{CELLS, choice_in, fallback_choice, inner_of, own_cell};
 use crate::terminals::{END, terminal_of};
 use crate::{Symbol, Tree, TreeNode};
 use il_base::NoMemory;
@@ -20,12 +22,12 @@ pub(crate) enum Outcome {
     Stops(usize),
 }
 
-/// What becomes of the next symbol.
+/// What becomes of the first symbol, a nonterminal.
 #[derive(Clone, Copy, Drop)]
 pub(crate) enum Step {
-    /// A production is applied to it, or it is the token.
-    Makes(TreeNode),
-    /// There is none.
+    /// A production is applied to it, and symbols are left.
+    Applies,
+    /// A production is applied to it, and none are left.
     Ends,
     /// No source goes on with the token.
     Stops,
@@ -56,17 +58,28 @@ pub(crate) fn derive(alloc: Global, tokens: &[Token]) -> Result<Outcome, NoMemor
     let mut behind = Vec::new(alloc);
     let mut at = 0;
     loop {
+        if next >= NOWHERE {
+            return Ok(ended(tokens, nodes, at));
+        }
         let terminal = terminal_at(tokens, at);
         match advance(&mut next, &mut behind, &mut nodes, terminal, at as u32)? {
             Turn::Takes => at += 1,
-            Turn::Ends => {
-                if at == tokens.len() {
-                    return Ok(Outcome::Whole(nodes));
-                }
-                return Ok(Outcome::Stops(at));
-            }
+            Turn::Ends => return Ok(ended(tokens, nodes, at)),
             Turn::Stops => return Ok(Outcome::Stops(at)),
         }
+    }
+}
+
+/// What the tokens are if no symbols are left after the first `at` of them.
+fn ended(tokens: &[Token], nodes: Tree, at: usize) -> Outcome
+    requires within { at ≤ length tokens.now }
+    requires under { IsUnderWay (terminals_of tokens.now) at [] nodes }
+    ensures { IsOutcome (terminals_of tokens.now) result }
+{
+    if at == tokens.len() {
+        Outcome::Whole(nodes)
+    } else {
+        Outcome::Stops(at)
     }
 }
 
@@ -82,8 +95,8 @@ fn terminal_at(tokens: &[Token], at: usize) -> u16
     }
 }
 
-/// Derives the token at place `at`, or the end of the tokens: applies productions to the next symbol until it
-/// is a terminal, and takes that if it is the token.
+/// Derives the token at place `at`, or the end of the tokens: applies productions to the first symbol until that
+/// is a terminal, and takes it if it is the token.
 fn advance(
     next: &mut usize,
     behind: &mut Vec<u16>,
@@ -91,52 +104,98 @@ fn advance(
     terminal: u16,
     at: u32,
 ) -> Result<Turn, NoMemory>
-    requires { terminal ≤ 410 }
-    ensures { IfOk result (IsTurn terminal at (symbols_at next.old behind.old.items) nodes.old (symbols_at next.new behind.new.items) nodes.new) }
+    requires terminal { terminal ≤ 410 }
+    requires some { next.old < 887 }
+    ensures turned { IfOk result (IsTurn terminal at (symbols_at next.old behind.old.items) nodes.old (symbols_at next.new behind.new.items) nodes.new) }
+    ensures none { IfOk result (λ _. 887 ≤ next.new → symbols_at next.new behind.new.items ≡ []) }
 {
     loop {
-        match take_step(next, behind, terminal, at)? {
-            Step::Makes(node) => {
-                nodes.push(node)?;
-                if let TreeNode::Leaf { .. } = node {
-                    return Ok(Turn::Takes);
+        match symbol_at(*next) {
+            Symbol::Terminal(symbol) => {
+                if symbol != terminal {
+                    return Ok(Turn::Stops);
+                }
+                nodes.push(TreeNode::Leaf { token: at })?;
+                drop_first(next, behind);
+                return Ok(Turn::Takes);
+            }
+            Symbol::Nonterminal(nonterminal) => {
+                match expand(next, behind, nodes, nonterminal, terminal)? {
+                    Step::Applies => {}
+                    Step::Ends => return Ok(Turn::Ends),
+                    Step::Stops => return Ok(Turn::Stops),
                 }
             }
-            Step::Ends => return Ok(Turn::Ends),
-            Step::Stops => return Ok(Turn::Stops),
         }
     }
 }
 
-/// Applies a production to the next symbol, or takes it if it is the token.
-fn take_step(
+/// Applies the production that the terminal picks to the first symbol, a nonterminal.
+fn expand(
     next: &mut usize,
     behind: &mut Vec<u16>,
+    nodes: &mut Tree,
+    nonterminal: u16,
     terminal: u16,
-    at: u32,
 ) -> Result<Step, NoMemory>
-    requires { terminal ≤ 410 }
-    ensures { IfOk result (IsStep terminal at (symbols_at next.old behind.old.items) (symbols_at next.new behind.new.items)) }
+    requires terminal { terminal ≤ 410 }
+    requires some { next.old < 887 }
+    requires first { symbol_in next.old ≡ Nonterminal nonterminal }
+    requires known { nonterminal < 165 }
+    ensures { IfOk result (IsStep terminal next.new (symbols_at next.old behind.old.items) nodes.old (symbols_at next.new behind.new.items) nodes.new) }
 {
-    match pop(next, behind) {
-        None => Ok(Step::Ends),
-        Some(Symbol::Terminal(symbol)) => {
-            if symbol == terminal && symbol < END {
-                Ok(Step::Makes(TreeNode::Leaf { token: at }))
-            } else {
-                Ok(Step::Stops)
-            }
-        }
-        Some(Symbol::Nonterminal(nonterminal)) => {
-            let production = pick(nonterminal, terminal);
-            let Some(begin) = begin_of(production) else {
-                return Ok(Step::Stops);
-            };
-            push_body(next, behind, begin)?;
-            Ok(Step::Makes(TreeNode::Branch {
-                production,
-                nodes: 0,
-            }))
-        }
+    if let Some(cell) = own_cell(nonterminal, terminal) {
+        descend(next, behind, nodes, terminal, cell)?;
+        return Ok(Step::Applies);
     }
+    let Some(choice) = fallback_choice(nonterminal) else {
+        return Ok(Step::Stops);
+    };
+    push_branch(nodes, choice.production)?;
+    if (choice.begin as usize) < NOWHERE {
+        replace_first(next, behind, choice.begin)?;
+        return Ok(Step::Applies);
+    }
+    drop_first(next, behind);
+    if *next < NOWHERE {
+        Ok(Step::Applies)
+    } else {
+        Ok(Step::Ends)
+    }
+}
+
+/// Applies the production of a cell to the first symbol, and then those of the cells of what the bodies begin with.
+fn descend(
+    next: &mut usize,
+    behind: &mut Vec<u16>,
+    nodes: &mut Tree,
+    terminal: u16,
+    first: usize,
+) -> Result<(), NoMemory>
+    requires terminal { terminal ≤ 410 }
+    requires some { next.old < 887 }
+    requires cell { IsCellOf terminal (symbol_in next.old) first }
+    ensures { OnOk result (HasApplied terminal next.new (symbols_at next.old behind.old.items) nodes.old (symbols_at next.new behind.new.items) nodes.new) }
+{
+    let mut cell = first;
+    loop {
+        let choice = choice_in(cell);
+        push_branch(nodes, choice.production)?;
+        replace_first(next, behind, choice.begin)?;
+        let inner = inner_of(cell);
+        if inner >= CELLS {
+            return Ok(());
+        }
+        cell = inner;
+    }
+}
+
+/// Adds a branch, whose nodes aren't counted yet.
+fn push_branch(nodes: &mut Tree, production: u16) -> Result<(), NoMemory>
+    ensures { OnOk result (nodes.new ≡ nodes.old ++ Branch production 0 ∷ []) }
+{
+    nodes.push(TreeNode::Branch {
+        production,
+        nodes: 0,
+    })
 }

@@ -1,66 +1,77 @@
 //! The symbols that are still to be derived, as the rests of bodies, none of which is copied: the place where the
 //! next one begins, and the places of those behind it, that of the last one first.
 
-ghost use Rattle.std.specs.Prelude.{◌≡◌, [], ◌∷◌, ◌++◌, ◌<◌, length, drop, IsTrue, IfSome, OnOk, MatchOption};
-ghost use Rattle.ilasm_grammar.specs.Stacked.{symbol_of, body_in, rest_at, symbols_at, are_nexts, are_numbers, IsKnown};
+ghost use Rattle.std.specs.Prelude.{◌≡◌, [], ◌++◌, ◌<◌, ◌≤◌, length, slice_index, IsTrue, OnOk};
+ghost use Rattle.ilasm_grammar.specs.Stacked.{symbol_of, symbol_in, behind_in, rest_at, symbols_at, are_numbers, IsKnown};
 
 use crate::Symbol;
 use crate::places::{NEXTS, SYMBOLS};
 use il_base::NoMemory;
 
 /// The place of no symbols.
-const NOWHERE: usize = 887;
+pub(crate) const NOWHERE: usize = 887;
 
-/// Takes the next symbol off.
-#[tactic(auto, using(crate::proofs::PlaceLemmas::rest_at_past))]
-pub(crate) fn pop(next: &mut usize, behind: &mut Vec<u16>) -> Option<Symbol>
-    ensures is { MatchOption result ((symbols_at next.old behind.old.items ≡ []) × (symbols_at next.new behind.new.items ≡ [])) (λ symbol. symbols_at next.old behind.old.items ≡ symbol ∷ symbols_at next.new behind.new.items) }
-    ensures known { IfSome result IsKnown }
+/// The symbol at a place.
+#[tactic(auto, unfolding(crate::specs::Stacked::symbol_in))]
+pub(crate) fn symbol_at(place: usize) -> Symbol
+    requires { place < 887 }
+    ensures is { result ≡ symbol_in place }
+    ensures known { IsKnown result }
 {
-    while *next >= NOWHERE {
-        *next = behind.pop()? as usize;
-    }
-    Some(pop_front(next))
+    symbol_by(&SYMBOLS, place)
 }
 
-/// Puts the symbols of the body that begins at a place in front of the others.
-#[tactic(auto, using(crate::proofs::PlaceLemmas::rest_at_past))]
-pub(crate) fn push_body(next: &mut usize, behind: &mut Vec<u16>, begin: u16) -> Result<(), NoMemory>
-    ensures { OnOk result (symbols_at next.new behind.new.items ≡ rest_at begin ++ symbols_at next.old behind.old.items) }
+/// Takes the first symbol off. Where none are left, the next place is that of no symbols, and only there.
+pub(crate) fn drop_first(next: &mut usize, behind: &mut Vec<u16>)
+    requires { next.old < 887 }
+    ensures is { symbols_at next.new behind.new.items ≡ symbols_at (behind_in next.old) behind.old.items }
+    ensures none { 887 ≤ next.new → symbols_at next.new behind.new.items ≡ [] }
 {
-    if begin as usize >= NOWHERE {
-        return Ok(());
+    *next = place_behind(*next);
+    while *next >= NOWHERE {
+        match behind.pop() {
+            Some(place) => *next = place as usize,
+            None => return,
+        }
     }
-    if *next < NOWHERE {
-        behind.push(*next as u16)?;
+}
+
+/// Puts the symbols of the body that begins at a place in the place of the first symbol.
+pub(crate) fn replace_first(
+    next: &mut usize,
+    behind: &mut Vec<u16>,
+    begin: u16,
+) -> Result<(), NoMemory>
+    requires { next.old < 887 }
+    ensures is { OnOk result (symbols_at next.new behind.new.items ≡ rest_at begin ++ symbols_at (behind_in next.old) behind.old.items) }
+    ensures next { OnOk result (next.new ≡ begin) }
+{
+    let rest = place_behind(*next);
+    if rest < NOWHERE {
+        behind.push(rest as u16)?;
     }
     *next = begin as usize;
     Ok(())
 }
 
-/// Takes the first symbol off the rest of a body.
-#[tactic(auto, unfolding(crate::specs::Stacked::rest_at))]
-fn pop_front(next: &mut usize) -> Symbol
-    requires { next.old < 887 }
-    ensures is { rest_at next.old ≡ result ∷ rest_at next.new }
-    ensures known { IsKnown result }
+/// The place behind a place, or that of no symbols at the end of a body.
+#[tactic(auto, unfolding(crate::specs::Stacked::behind_in))]
+fn place_behind(place: usize) -> usize
+    requires { place < 887 }
+    ensures { result ≡ behind_in place }
 {
-    pop_front_of(&SYMBOLS, &NEXTS, next)
+    NEXTS[place] as usize
 }
 
-/// The same by these tables.
-fn pop_front_of(symbols: &[u16], nexts: &[u16], next: &mut usize) -> Symbol
+/// The symbol whose number these tables have at a place.
+fn symbol_by(symbols: &[u16], place: usize) -> Symbol
     requires symbols { length symbols.now ≡ 887 }
-    requires nexts { length nexts.now ≡ 887 }
     requires numbers { IsTrue (are_numbers symbols.now) }
-    requires steps { IsTrue (are_nexts 0 nexts.now) }
-    requires within { next.old < 887 }
-    ensures is { body_in (drop next.old symbols.now) (drop next.old nexts.now) ≡ result ∷ body_in (drop next.new symbols.now) (drop next.new nexts.now) }
+    requires within { place < 887 }
+    ensures is { result ≡ symbol_of (slice_index symbols.now place) }
     ensures known { IsKnown result }
 {
-    let number = symbols[*next];
-    *next = nexts[*next] as usize;
-    symbol_of(number)
+    symbol_of(symbols[place])
 }
 
 /// The symbol with this number.

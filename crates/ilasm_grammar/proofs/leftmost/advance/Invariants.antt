@@ -1,14 +1,15 @@
-use Rattle.std.proofs.Common.{◌≡◌, ℕ, List, drop}
-use Rattle.ilasm_grammar.specs.Choice.{load_of, next_of}
+use Rattle.std.proofs.Common.{◌<◌}
+use Rattle.ilasm_grammar.specs.Choice.{load_of}
 use Rattle.ilasm_grammar.specs.Ilasm.{ilasm_sets}
-use Rattle.ilasm_grammar.specs.Parsing.{IsUnderWay}
+use Rattle.ilasm_grammar.specs.Parsing.{IsExtended}
 use Rattle.ilasm_grammar.specs.Stacked.{symbols_at}
-use Rattle.ilasm_grammar.specs.declared.terminals.TheConstants.{END}
 use Rattle.ilasm_grammar.proofs.leftmost.advance.Given as goal
 
-abbrev pub invariant-loop-node : goal.invariant-loop-node
-invariant-loop-node l = (kinds : List ℕ) → next_of END (drop l.at kinds) ≡ l.terminal →
-    IsUnderWay kinds l.at (symbols_at l.initial.next l.initial.behind.items) l.initial.nodes → IsUnderWay kinds l.at (symbols_at l.next l.behind.items) l.nodes
+abbrev pub invariant-loop-symbol : goal.invariant-loop-symbol
+invariant-loop-symbol l = record {
+  some : l.next < 887;
+  extended : IsExtended l.terminal (symbols_at l.initial.next l.initial.behind.items) l.initial.nodes (symbols_at l.next l.behind.items) l.nodes;
+}
 
-abbrev pub decreases-loop-node : goal.decreases-loop-node
-decreases-loop-node l = load_of ilasm_sets (symbols_at l.next l.behind.items)
+abbrev pub decreases-loop-symbol : goal.decreases-loop-symbol
+decreases-loop-symbol l = load_of ilasm_sets (symbols_at l.next l.behind.items)

@@ -13,7 +13,7 @@ use Rattle.ilasm_grammar.specs.Ilasm.{ilasm, ilasm_sets, picked}
 use Rattle.ilasm_grammar.specs.Terminals.{terminal_of}
 use Rattle.ilasm_grammar.specs.Parsing.{terminals_of, IsUnderWay, IsStuckAt, AreStuck, HasTurned}
 use Rattle.ilasm_grammar.specs.Stacked.{symbols_at, rest_at}
-use Rattle.ilasm_grammar.proofs.CourseLemmas.{begins, emptied, faults, faults_at_end, ends, stuck, stuck_at_end, next-drop_past}
+use Rattle.ilasm_grammar.proofs.CourseLemmas.{begins, faults, faults_at_end, stuck, stuck_at_end, next-drop_past}
 use Rattle.ilasm_grammar.proofs.IlasmFacts.{ilasm_decided, ilasm_productive}
 use Rattle.ilasm_grammar.proofs.leftmost.derive.Goals as goal
 use Rattle.ilasm_grammar.proofs.leftmost.derive.Goals.{In_ok-advance}
@@ -28,14 +28,6 @@ stops tokens at look lt low next h =
     faults ilasm ilasm_sets picked END SOURCE ilasm_decided (terminals_of tokens) at h.symbols h.nodes (omega (arith, length-terminals tokens)) h.under
     (λ rest more same r. stuck ilasm ilasm_sets picked END SOURCE ilasm_decided (terminals_of tokens) at look h.symbols h.under.followed
     (λ _ e. absurd (omega (arith, e))) (h.stuck.other low) h.stuck.expanded rest more (same ∙ next) r)
-
--- and so is one before which no symbols are left
-ends_early : (tokens : List Token) (at look : ℕ) (nodes : List TreeNode) → at < length tokens → look < END →
-    next_of END (drop at (terminals_of tokens)) ≡ look → IsUnderWay (terminals_of tokens) at [] nodes → IsFaultAt ilasm SOURCE (terminals_of tokens) at
-ends_early tokens at look nodes lt low next under =
-    faults ilasm ilasm_sets picked END SOURCE ilasm_decided (terminals_of tokens) at [] nodes (omega (arith, length-terminals tokens)) under
-    (λ rest more same r.
-    let e : END ≡ look = sym (ap (next_of END) (emptied ilasm r).0) ∙ same ∙ next in omega (arith, e, low))
 
 -- at the end it stands behind the last token
 stops_at_end : (kinds : List ℕ) (at look : ℕ) → at ≡ length kinds → next_of END (drop at kinds) ≡ look → IsStuckAt kinds look at →
@@ -54,47 +46,31 @@ split zero (suc n) le = inl (omega arith)
 split (suc a) zero le = absurd (omega arith)
 split (suc a) (suc n) le = elim (split a n (omega arith)) [ inl h ↦ inl (omega arith) | inr e ↦ inr (ap suc e) ]
 
-turned : (c : In_ok-advance) → HasTurned (terminals_of c.args.tokens.now) c.terminal_at-terminal.result c.loop-behind.at (symbols_at c.advance.new.next c.advance.new.behind.items) c.advance.new.nodes c.in_ok-advance.field-0
-turned c = c.in_ok-advance.ensures (terminals_of c.args.tokens.now) (sym c.terminal_at-terminal.ensures.is) c.loop-behind.invariant.under
+turned : (c : In_ok-advance) → HasTurned (terminals_of c.args.tokens.now) c.terminal_at-terminal.result c.loop-next.at (symbols_at c.advance.new.next c.advance.new.behind.items) c.advance.new.nodes c.in_ok-advance.field-0
+turned c = c.in_ok-advance.ensures.turned (terminals_of c.args.tokens.now) (sym c.terminal_at-terminal.ensures.is) c.loop-next.invariant.under
 
 -- the symbol from which a source is derived stands at its place
 start_is : symbols_at 886 [] ≡ Nonterminal SOURCE ∷ []
 unfolding rest_at
 start_is = refl
 
-pub loop-behind-init : goal.loop-behind-init
-loop-behind-init c =
+pub loop-next-init : goal.loop-next-init
+loop-next-init c =
     let start : IsUnderWay (terminals_of c.args.tokens.now) 0 (Nonterminal SOURCE ∷ []) [] =
     begins ilasm ilasm_sets picked END SOURCE ilasm_decided (terminals_of c.args.tokens.now) (nonterminal_made (ilasm_productive SOURCE (omega arith)) no_symbols) in
     record {
       within = omega arith;
+      none = λ le. absurd (omega arith);
       under = subst (λ (x : List Symbol). IsUnderWay (terminals_of c.args.tokens.now) 0 x c.in_ok-nodes.nodes) (sym (ap (λ x. symbols_at 886 x) c.new-behind.ensures.items ∙ start_is))
           (subst (λ (x : List TreeNode). IsUnderWay (terminals_of c.args.tokens.now) 0 (Nonterminal SOURCE ∷ []) x) (sym c.in_ok-nodes.ensures) start);
     }
 
-pub returns-then-at-tokens : goal.returns-then-at-tokens
-returns-then-at-tokens c =
-    let kinds = terminals_of c.args.tokens.now in
-    let e : c.loop-behind.at ≡ length kinds = omega (arith, length-terminals c.args.tokens.now) in
-    let h = subst (λ (t : Turn). HasTurned kinds c.terminal_at-terminal.result c.loop-behind.at (symbols_at c.advance.new.next c.advance.new.behind.items) c.advance.new.nodes t) c.in-Ends.is
-    (turned ((goal.at.returns-then-at-tokens c).In_ok-advance)) in
-    ends ilasm ilasm_sets picked END SOURCE ilasm_decided kinds c.advance.new.nodes
-    (subst (λ (k : ℕ). IsUnderWay kinds k [] c.advance.new.nodes) e h)
-
-pub returns-in-Ends : goal.returns-in-Ends
-returns-in-Ends c =
-    let kinds = terminals_of c.args.tokens.now in
-    let lt : c.loop-behind.at < length c.args.tokens.now = omega (arith, c.loop-behind.invariant.within) in
-    let h = subst (λ (t : Turn). HasTurned kinds c.terminal_at-terminal.result c.loop-behind.at (symbols_at c.advance.new.next c.advance.new.behind.items) c.advance.new.nodes t) c.in-Ends.is
-    (turned ((goal.at.returns-in-Ends c).In_ok-advance)) in
-    ends_early c.args.tokens.now c.loop-behind.at c.terminal_at-terminal.result c.advance.new.nodes lt (c.terminal_at-terminal.ensures.low lt) (sym c.terminal_at-terminal.ensures.is) h
-
 pub returns-in-Stops : goal.returns-in-Stops
 returns-in-Stops c =
     let kinds = terminals_of c.args.tokens.now in
-    let h = subst (λ (t : Turn). HasTurned kinds c.terminal_at-terminal.result c.loop-behind.at (symbols_at c.advance.new.next c.advance.new.behind.items) c.advance.new.nodes t) c.in-Stops.is
+    let h = subst (λ (t : Turn). HasTurned kinds c.terminal_at-terminal.result c.loop-next.at (symbols_at c.advance.new.next c.advance.new.behind.items) c.advance.new.nodes t) c.in-Stops.is
     (turned ((goal.at.returns-in-Stops c).In_ok-advance)) in
-    elim (split c.loop-behind.at (length c.args.tokens.now) c.loop-behind.invariant.within) [
-      | inl lt ↦ stops c.args.tokens.now c.loop-behind.at c.terminal_at-terminal.result lt (c.terminal_at-terminal.ensures.low lt) (sym c.terminal_at-terminal.ensures.is) h
-      | inr e ↦ stops_at_end kinds c.loop-behind.at c.terminal_at-terminal.result (e ∙ sym (length-terminals c.args.tokens.now)) (sym c.terminal_at-terminal.ensures.is) h
+    elim (split c.loop-next.at (length c.args.tokens.now) c.loop-next.invariant.within) [
+      | inl lt ↦ stops c.args.tokens.now c.loop-next.at c.terminal_at-terminal.result lt (c.terminal_at-terminal.ensures.low lt) (sym c.terminal_at-terminal.ensures.is) h
+      | inr e ↦ stops_at_end kinds c.loop-next.at c.terminal_at-terminal.result (e ∙ sym (length-terminals c.args.tokens.now)) (sym c.terminal_at-terminal.ensures.is) h
     ]

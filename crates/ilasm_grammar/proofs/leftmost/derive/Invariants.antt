@@ -1,13 +1,14 @@
-use Rattle.std.proofs.Common.{◌≤◌, ◌-◌, length}
+use Rattle.std.proofs.Common.{◌≡◌, ◌≤◌, ◌-◌, [], length}
 use Rattle.ilasm_grammar.specs.Parsing.{terminals_of, IsUnderWay}
 use Rattle.ilasm_grammar.specs.Stacked.{symbols_at}
 use Rattle.ilasm_grammar.proofs.leftmost.derive.Given as goal
 
-abbrev pub invariant-loop-behind : goal.invariant-loop-behind
-invariant-loop-behind l = record {
+abbrev pub invariant-loop-next : goal.invariant-loop-next
+invariant-loop-next l = record {
   within : l.at ≤ length l.tokens;
+  none : 887 ≤ l.next → symbols_at l.next l.behind.items ≡ [];
   under : IsUnderWay (terminals_of l.tokens) l.at (symbols_at l.next l.behind.items) l.nodes;
 }
 
-abbrev pub decreases-loop-behind : goal.decreases-loop-behind
-decreases-loop-behind l = length l.tokens - l.at
+abbrev pub decreases-loop-next : goal.decreases-loop-next
+decreases-loop-next l = length l.tokens - l.at
