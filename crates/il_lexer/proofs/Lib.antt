@@ -6,6 +6,7 @@ mod FoundTokens
 mod FrontLemmas
 mod IdParts
 mod Fronts
+mod GapFronts
 mod LexLemmas
 pub mod LineLemmas
 mod LongestLemmas

@@ -22,6 +22,10 @@ is_id_start b =
 abbrev pub is_id_part : ℕ → Bool
 is_id_part b = is_id_start b || is_digit b
 
+-- a blank, or the `/` of a comment
+abbrev pub is_gap_start : ℕ → Bool
+is_gap_start b = is_blank b || b == 47
+
 -- the first of the bytes is there and passes
 abbrev pub first_passes : (ℕ → Bool) → List ℕ → Bool
 first_passes p [] = false

@@ -1,5 +1,5 @@
 -- What it is that a source lexes into tokens, and what its lexical fault is (II.5).
-use Rattle.std.specs.Prelude.{ℕ, ◌+◌, ◌-◌, ◌≡◌, ◌<◌, ◌≤◌, ◌^◌, max, Bool, not, ◌==◌, ◌&&◌, ◌||◌, ◌⊎◌, if◌then◌else◌, List, [], ◌∷◌, length, take, drop, Option, None, Some, Result, Ok, Err, IsUtf8, ⊤}
+use Rattle.std.specs.Prelude.{ℕ, ◌+◌, ◌-◌, ◌≡◌, ◌<◌, ◌≤◌, ◌^◌, max, Bool, not, ◌==◌, ◌&&◌, ◌||◌, ◌⊎◌, if◌then◌else◌, List, [], ◌∷◌, length, take, drop, Result, Ok, Err, IsUtf8, ⊤}
 use Rattle.std.specs.Str.Lossy.{utf8_valid_len}
 use Rattle.il_base.specs.declared.pos.Pos.{Pos}
 use Rattle.il_lexer.specs.Classes.{first_is}
@@ -133,21 +133,6 @@ pub record IsAccepted (source : List ℕ) (tokens : List Token) : Type 0 where
 abbrev pub IfBad : LexFault → (Pos → ℕ → Type 0) → Type 0
 IfBad (Bad pos rule) P = P pos rule
 IfBad NoMemory P = ⊤
-
--- what stands behind the gap at `at`: nothing, a token, or the rule that is broken there
-abbrev pub NextIs : List ℕ → ℕ → Result (Option Token) (Pos × ℕ) → Type 0
-NextIs source at (Ok None) = after_gap source at ≡ length source
-NextIs source at (Ok (Some t)) =
-    (l : Lexeme)
-    × (after_gap source at < length source)
-    × (token_at (drop (after_gap source at) source) ≡ Ok l)
-    × (0 < l.length)
-    × (after_gap source at + l.length ≤ length source)
-    × (t ≡ token_of source (after_gap source at) l)
-NextIs source at (Err fault) =
-    (after_gap source at < length source)
-    × (token_at (drop (after_gap source at) source) ≡ Err fault.1)
-    × (fault.0 ≡ place_of source (after_gap source at))
 
 -- what the scan knows behind some tokens
 pub record Scanned (source : List ℕ) (tokens : List Token) (at : ℕ) (here : Pos) (open_brackets : ℕ) : Type 0 where

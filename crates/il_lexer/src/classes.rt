@@ -1,7 +1,7 @@
 //! Kinds of bytes.
 
 ghost use Rattle.std.specs.Prelude.{◌≡◌};
-ghost use Rattle.il_lexer.specs.Classes.{is_blank, is_digit, is_octal, is_hex, is_id_start, is_id_part};
+ghost use Rattle.il_lexer.specs.Classes.{is_blank, is_digit, is_octal, is_hex, is_id_start, is_id_part, is_gap_start};
 
 /// A tab, a line feed, a carriage return or a blank.
 pub fn is_blank(b: u8) -> bool
@@ -31,30 +31,36 @@ pub fn is_hex(b: u8) -> bool
     is_digit(b) || (b >= b'A' && b <= b'F') || (b >= b'a' && b <= b'f')
 }
 
+/// The kind of each byte: 4 for a lower-case letter, 3 for any other byte that begins an identifier, 2 for a digit, 0 for a
+/// byte that begins a gap, a blank or `/`, and 1 for all others.
+static CLASSES: [u8; 256] = [
+    1, 1, 1, 1, 1, 1, 1, 1, 1, 0, 0, 1, 1, 0, 1, 1, 1, 1, 1, 1, 1, 1, 1, 1, 1, 1, 1, 1, 1, 1, 1, 1,
+    0, 1, 1, 1, 3, 1, 1, 1, 1, 1, 1, 1, 1, 1, 1, 0, 2, 2, 2, 2, 2, 2, 2, 2, 2, 2, 1, 1, 1, 1, 1, 3,
+    3, 3, 3, 3, 3, 3, 3, 3, 3, 3, 3, 3, 3, 3, 3, 3, 3, 3, 3, 3, 3, 3, 3, 3, 3, 3, 3, 1, 1, 1, 1, 3,
+    3, 4, 4, 4, 4, 4, 4, 4, 4, 4, 4, 4, 4, 4, 4, 4, 4, 4, 4, 4, 4, 4, 4, 4, 4, 4, 4, 1, 1, 1, 1, 1,
+    1, 1, 1, 1, 1, 1, 1, 1, 1, 1, 1, 1, 1, 1, 1, 1, 1, 1, 1, 1, 1, 1, 1, 1, 1, 1, 1, 1, 1, 1, 1, 1,
+    1, 1, 1, 1, 1, 1, 1, 1, 1, 1, 1, 1, 1, 1, 1, 1, 1, 1, 1, 1, 1, 1, 1, 1, 1, 1, 1, 1, 1, 1, 1, 1,
+    1, 1, 1, 1, 1, 1, 1, 1, 1, 1, 1, 1, 1, 1, 1, 1, 1, 1, 1, 1, 1, 1, 1, 1, 1, 1, 1, 1, 1, 1, 1, 1,
+    1, 1, 1, 1, 1, 1, 1, 1, 1, 1, 1, 1, 1, 1, 1, 1, 1, 1, 1, 1, 1, 1, 1, 1, 1, 1, 1, 1, 1, 1, 1, 1,
+];
+
 /// A byte that begins an identifier.
 pub fn is_id_start(b: u8) -> bool
     ensures { result ≡ is_id_start b }
 {
-    (b >= b'a' && b <= b'z')
-        || (b >= b'A' && b <= b'Z')
-        || matches!(b, b'_' | b'$' | b'@' | b'?' | b'`')
+    CLASSES[b as usize] >= 3
 }
-
-/// 1 at each byte that goes on in an identifier, and else 0.
-static ID_PARTS: [u8; 256] = [
-    0, 0, 0, 0, 0, 0, 0, 0, 0, 0, 0, 0, 0, 0, 0, 0, 0, 0, 0, 0, 0, 0, 0, 0, 0, 0, 0, 0, 0, 0, 0, 0,
-    0, 0, 0, 0, 1, 0, 0, 0, 0, 0, 0, 0, 0, 0, 0, 0, 1, 1, 1, 1, 1, 1, 1, 1, 1, 1, 0, 0, 0, 0, 0, 1,
-    1, 1, 1, 1, 1, 1, 1, 1, 1, 1, 1, 1, 1, 1, 1, 1, 1, 1, 1, 1, 1, 1, 1, 1, 1, 1, 1, 0, 0, 0, 0, 1,
-    1, 1, 1, 1, 1, 1, 1, 1, 1, 1, 1, 1, 1, 1, 1, 1, 1, 1, 1, 1, 1, 1, 1, 1, 1, 1, 1, 0, 0, 0, 0, 0,
-    0, 0, 0, 0, 0, 0, 0, 0, 0, 0, 0, 0, 0, 0, 0, 0, 0, 0, 0, 0, 0, 0, 0, 0, 0, 0, 0, 0, 0, 0, 0, 0,
-    0, 0, 0, 0, 0, 0, 0, 0, 0, 0, 0, 0, 0, 0, 0, 0, 0, 0, 0, 0, 0, 0, 0, 0, 0, 0, 0, 0, 0, 0, 0, 0,
-    0, 0, 0, 0, 0, 0, 0, 0, 0, 0, 0, 0, 0, 0, 0, 0, 0, 0, 0, 0, 0, 0, 0, 0, 0, 0, 0, 0, 0, 0, 0, 0,
-    0, 0, 0, 0, 0, 0, 0, 0, 0, 0, 0, 0, 0, 0, 0, 0, 0, 0, 0, 0, 0, 0, 0, 0, 0, 0, 0, 0, 0, 0, 0, 0,
-];
 
 /// A byte that goes on in an identifier.
 pub fn is_id_part(b: u8) -> bool
     ensures { result ≡ is_id_part b }
 {
-    ID_PARTS[b as usize] == 1
+    CLASSES[b as usize] >= 2
+}
+
+/// A byte that begins a gap: a blank, or the `/` of a comment.
+pub fn is_gap_start(b: u8) -> bool
+    ensures { result ≡ is_gap_start b }
+{
+    CLASSES[b as usize] == 0
 }

@@ -3,9 +3,10 @@
 ghost use Rattle.std.specs.Prelude.{◌≡◌, ◌+◌, ◌<◌, ◌≤◌, ◌==◌, not, length, drop, IfSome};
 ghost use Rattle.il_lexer.specs.Runs.{front};
 ghost use Rattle.il_lexer.specs.Gaps.{is_close, is_feed_among, block_length, comment_length, gap_piece, gap};
+ghost use Rattle.il_lexer.specs.Lexing.{after_gap};
 
 use crate::bytes::{behind, stands_at};
-use crate::classes::is_blank;
+use crate::classes::{is_blank, is_gap_start};
 use crate::runs::{Piece, run_of};
 
 // Whether a comment's end is at the front.
@@ -37,9 +38,9 @@ pub fn line_length(rest: &[u8]) -> usize
 {
     let mut tail = rest;
     let mut at = 0;
-    while let Some(more) = past_eight(tail) {
+    while let Some(more) = past_sixteen(tail) {
         tail = more;
-        at += 8;
+        at += 16;
     }
     at + feed_at(tail)
 }
@@ -52,16 +53,18 @@ fn feed_at(rest: &[u8]) -> usize
     rest.iter().take_while(|b| **b != b'\n').count()
 }
 
-// The bytes behind the first eight, where no line feed is among these.
+// The bytes behind the first sixteen, where no line feed is among these.
 #[tactic(auto, using(crate::proofs::Feeds::eight_on))]
-fn past_eight(bytes: &[u8]) -> Option<&[u8]>
-    ensures passed { IfSome result (λ more. front (λ c. not (c == 10)) bytes.now ≡ 8 + front (λ c. not (c == 10)) more.now) }
-    ensures fewer { IfSome result (λ more. length bytes.now ≡ 8 + length more.now) }
+fn past_sixteen(bytes: &[u8]) -> Option<&[u8]>
+    ensures passed { IfSome result (λ more. front (λ c. not (c == 10)) bytes.now ≡ 16 + front (λ c. not (c == 10)) more.now) }
+    ensures fewer { IfSome result (λ more. length bytes.now ≡ 16 + length more.now) }
 {
-    let [a, b, c, d, e, f, g, h, more @ ..] = bytes else {
+    let [a, b, c, d, e, f, g, h, i, j, k, l, m, n, o, p, more @ ..] = bytes else {
         return None;
     };
-    if is_feed_among(*a, *b, *c, *d, *e, *f, *g, *h) {
+    if is_feed_among(*a, *b, *c, *d, *e, *f, *g, *h)
+        || is_feed_among(*i, *j, *k, *l, *m, *n, *o, *p)
+    {
         None
     } else {
         Some(more)
@@ -120,4 +123,35 @@ pub fn gap(rest: &[u8]) -> usize
     ensures within { result ≤ length rest.now }
 {
     run_of(&GapPiece, rest).bytes
+}
+
+// The bytes of a gap of one blank or nothing, as most are.
+#[tactic(auto, using(crate::proofs::GapFronts::gap_none, crate::proofs::GapFronts::gap_one))]
+fn short_gap(rest: &[u8]) -> Option<usize>
+    ensures value { IfSome result (λ n. gap rest.now ≡ n) }
+    ensures fits { IfSome result (λ n. n ≤ length rest.now) }
+{
+    let [first, more @ ..] = rest else {
+        return None;
+    };
+    if *first != b' ' {
+        return if is_gap_start(*first) { None } else { Some(0) };
+    }
+    let [second, ..] = more else {
+        return None;
+    };
+    if is_gap_start(*second) { None } else { Some(1) }
+}
+
+/// Where the gap at `at` ends.
+pub fn past_gap(source: &[u8], at: usize) -> usize
+    requires { at ≤ length source.now }
+    ensures value { result ≡ after_gap source.now at }
+    ensures within { result ≤ length source.now }
+{
+    let rest = behind(source, at);
+    match short_gap(rest) {
+        Some(n) => at + n,
+        None => at + gap(rest),
+    }
 }

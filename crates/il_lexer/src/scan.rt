@@ -1,13 +1,13 @@
 //! The tokens of a whole source.
 
-ghost use Rattle.std.specs.Prelude.{◌≡◌, ◌+◌, ◌-◌, ◌<◌, ◌≤◌, ◌^◌, length, drop, IsUtf8, MatchResult, MatchOption};
+ghost use Rattle.std.specs.Prelude.{◌≡◌, ◌+◌, ◌-◌, ◌<◌, ◌≤◌, ◌^◌, length, drop, IsUtf8, MatchResult, MatchOption, ℕ, false};
 ghost use Rattle.std.specs.Str.Lossy.{utf8_valid_len};
-ghost use Rattle.il_lexer.specs.Lexing.{place_after, place_of, mark_length, after_gap, depth_after, is_opening, is_closing, IsLine, NextIs, IsAccepted, HasFault, IfBad, BreaksAt};
+ghost use Rattle.il_lexer.specs.Lexing.{place_after, place_of, mark_length, depth_after, is_opening, is_closing, IsAccepted, HasFault, IfBad, BreaksAt};
 
 use crate::bytes::{behind, stands_at};
-use crate::gaps::gap;
+use crate::gaps::past_gap;
 use crate::lexeme::token_at;
-use crate::lines::{Line, first_line, place_on};
+use crate::lines::{first_line, place_on};
 use crate::types::{LexFault, Token, TokenKind, Tokens};
 use crate::word;
 use il_base::Pos;
@@ -71,6 +71,18 @@ fn mark_length(source: &[u8]) -> usize
     }
 }
 
+// Whether a token may open or close a bracket: it does not where it is no word, or a word that stands between `]` and `{`
+// in the order of the words, as nearly all of them do.
+#[tactic(auto, unfolding(crate::specs::Lexing::depth_after))]
+fn may_be_bracket(kind: TokenKind) -> bool
+    ensures { result ≡ false → (depth : ℕ) → depth_after depth kind ≡ depth }
+{
+    let TokenKind::Word(number) = kind else {
+        return false;
+    };
+    number <= word::CLOSE_BRACKET || number >= word::OPEN_BRACE
+}
+
 // The depth of brackets behind a token.
 #[tactic(auto, unfolding(crate::specs::Lexing::depth_after))]
 fn depth_after(depth: u32, kind: TokenKind) -> u32
@@ -109,30 +121,16 @@ fn closes(number: u16) -> bool
         || number == word::GREATER
 }
 
-// What stands behind the gap at `at`, to whose line `line` goes on: nothing, a token, or the rule that is broken there.
-fn next_token(source: &[u8], at: usize, line: &mut Line) -> Result<Option<Token>, (Pos, u8)>
-    requires short { length source.now ≤ 2 ^ 27 }
-    requires within { at ≤ length source.now }
-    requires here { IsLine source.now line.old }
-    requires order { line.old.start ≤ at }
-    ensures next { NextIs source.now at result }
-    ensures is { IsLine source.now line.new }
-    ensures starts { line.new.start ≤ after_gap source.now at }
+// The depth of brackets behind a token, where it isn't too deep.
+fn depth_within(depth: u32, kind: TokenKind) -> Option<u32>
+    requires { depth ≤ 400 }
+    ensures { MatchOption result (400 < depth_after depth kind) (λ d. (d ≡ depth_after depth kind) × (d ≤ 400)) }
 {
-    let start = at + gap(behind(source, at));
-    let pos = place_on(source, line, start);
-    if start == source.len() {
-        return Ok(None);
+    if !may_be_bracket(kind) {
+        return Some(depth);
     }
-    match token_at(behind(source, start)) {
-        Ok(found) => Ok(Some(Token {
-            kind: found.kind,
-            start: start as u32,
-            end: (start + found.length) as u32,
-            pos,
-        })),
-        Err(rule) => Err((pos, rule)),
-    }
+    let after = depth_after(depth, kind);
+    if after > DEEPEST { None } else { Some(after) }
 }
 
 // The tokens of a source that is UTF-8, or the first place where it breaks a rule.
@@ -147,21 +145,29 @@ fn scan(alloc: Global, source: &[u8]) -> Result<Tokens, LexFault>
     let mut line = first_line(source);
     let mut depth: u32 = 0;
     loop {
-        let token = match next_token(source, at, &mut line) {
-            Ok(None) => return Ok(tokens),
-            Ok(Some(token)) => token,
-            Err((pos, rule)) => return Err(LexFault::Bad { pos, rule }),
+        let start = past_gap(source, at);
+        let pos = place_on(source, &mut line, start);
+        if start == source.len() {
+            return Ok(tokens);
+        }
+        let found = match token_at(behind(source, start)) {
+            Ok(found) => found,
+            Err(rule) => return Err(LexFault::Bad { pos, rule }),
         };
-        let pos = token.pos;
         if tokens.len() >= MOST_TOKENS {
             return Err(LexFault::Bad { pos, rule: 6 });
         }
-        depth = depth_after(depth, token.kind);
-        if depth > DEEPEST {
+        let Some(after) = depth_within(depth, found.kind) else {
             return Err(LexFault::Bad { pos, rule: 7 });
-        }
-        at = token.end as usize;
-        tokens.push(token)?;
+        };
+        depth = after;
+        at = start + found.length;
+        tokens.push(Token {
+            kind: found.kind,
+            start: start as u32,
+            end: at as u32,
+            pos,
+        })?;
     }
 }
 
