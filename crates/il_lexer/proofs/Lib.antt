@@ -7,6 +7,7 @@ mod FrontLemmas
 mod IdParts
 mod Fronts
 mod GapFronts
+mod KeyLemmas
 mod LexLemmas
 pub mod LineLemmas
 mod LongestLemmas

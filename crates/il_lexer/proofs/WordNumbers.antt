@@ -1,10 +1,10 @@
 -- The perfect hash gives each word its number, and no other text one.
-use Rattle.std.proofs.Common.{◌≡◌, ◌≢◌, ℕ, zero, suc, ◌+◌, ◌<◌, Bool, true, false, cond, nat_eq, List, [], ◌∷◌, length, get_or, Option, None, Some, refl, ap, sym, subst, ◌∙◌, arith, zero-add}
+use Rattle.std.proofs.Common.{◌≡◌, ◌≢◌, ℕ, zero, suc, ◌+◌, ◌<◌, Bool, true, false, cond, nat_eq, nat_lt, List, [], ◌∷◌, length, get_or, Option, None, Some, refl, ap, sym, subst, ◌∙◌, arith, zero-add}
 use Rattle.std.specs.Str.{bytes_eq}
 use Rattle.std.specs.Cmp.Lexicographic.{bytes_decides}
 use Rattle.std.proofs.lemmas.Bool.{false≢true}
-use Rattle.opcode_table.specs.Lookup.{candidate}
-use Rattle.il_lexer.specs.declared.words.TheConstants.{SHIFTS, SLOTS}
+use Rattle.il_lexer.specs.declared.words.TheConstants.{KEYS, SLOTS}
+use Rattle.il_lexer.specs.WordKeys.{key_from, candidate}
 use Rattle.il_lexer.specs.WordList.{words, place_from, word_number}
 
 abbrev and_then : Bool → Bool → Bool
@@ -80,21 +80,64 @@ pub words-len : length words ≡ 401
 unfolding words
 words-len = refl
 
-all_placed : placed_from (candidate SHIFTS SLOTS) 0 words ≡ true
+all_placed : placed_from (candidate SLOTS) 0 words ≡ true
 unfolding words
 all_placed = refl
 
+-- the keys are those of the words
+abbrev keyed : List ℕ → List (List ℕ) → Bool
+keyed [] [] = true
+keyed (k ∷ ks) (w ∷ ws) = and_then (nat_eq k (key_from 0 w)) (keyed ks ws)
+keyed _ _ = false
+
+keyed_at : (ks : List ℕ) (ws : List (List ℕ)) (i : ℕ) → keyed ks ws ≡ true → i < length ws → get_or ks i 0 ≡ key_from 0 (get_or ws i [])
+keyed_at ks [] i h lt = absurd (omega arith)
+keyed_at [] (w ∷ ws) i h lt = absurd (false≢true h)
+keyed_at (k ∷ ks) (w ∷ ws) zero h lt = nat_equal _ _ (first_holds _ _ h)
+keyed_at (k ∷ ks) (w ∷ ws) (suc i) h lt =
+    let below : i < length ws = omega arith in
+    keyed_at ks ws i (second_holds _ _ h) below
+
+all_keyed : keyed KEYS words ≡ true
+unfolding words
+all_keyed = refl
+
+-- the key at a place is that of the word there
+pub key-at : (k : ℕ) → k < 401 → get_or KEYS k 0 ≡ key_from 0 (get_or words k [])
+key-at k lt = keyed_at KEYS words k all_keyed (subst (λ n. k < n) (sym words-len) lt)
+
+-- each slot holds a number of a word
+abbrev all_small : List ℕ → Bool
+all_small [] = true
+all_small (x ∷ xs) = and_then (nat_lt x 401) (all_small xs)
+
+small_at : (xs : List ℕ) (i : ℕ) → all_small xs ≡ true → get_or xs i 0 < 401
+small_at [] i h = omega arith
+small_at (x ∷ xs) zero h = let e : nat_lt x 401 ≡ true = first_holds _ _ h in grind arith
+small_at (x ∷ xs) (suc i) h = small_at xs i (second_holds _ _ h)
+
+slots_small : all_small SLOTS ≡ true
+slots_small = refl
+
+pub slot-below : (i : ℕ) → get_or SLOTS i 0 < 401
+slot-below i = small_at SLOTS i slots_small
+
+-- no word is empty
+pub none-empty : word_number [] ≡ None
+unfolding words
+none-empty = refl
+
 -- a word stands at its candidate
-word_place : (w : List ℕ) (k : ℕ) → k < length words → get_or words k [] ≡ w → candidate SHIFTS SLOTS w ≡ k
+word_place : (w : List ℕ) (k : ℕ) → k < length words → get_or words k [] ≡ w → candidate SLOTS w ≡ k
 word_place w k lt e =
-    ap (candidate SHIFTS SLOTS) (sym e) ∙ placed_at (candidate SHIFTS SLOTS) words 0 k all_placed lt ∙ zero-add k
+    ap (candidate SLOTS) (sym e) ∙ placed_at (candidate SLOTS) words 0 k all_placed lt ∙ zero-add k
 
 none_or_some : (w : List ℕ) (o : Option ℕ) → word_number w ≡ o → (k : ℕ) → k < length words → get_or words k [] ≡ w → o ≡ Some k
 none_or_some w None h k lt e = absurd (place-none words 0 w h k lt e)
 none_or_some w (Some j) h k lt e =
     let f : Found words 0 w j = place-some words 0 w j h in
-    let at : candidate SHIFTS SLOTS w ≡ f.behind = word_place w f.behind f.within f.same in
-    let here : candidate SHIFTS SLOTS w ≡ k = word_place w k lt e in
+    let at : candidate SLOTS w ≡ f.behind = word_place w f.behind f.within f.same in
+    let here : candidate SLOTS w ≡ k = word_place w k lt e in
     let place : j ≡ 0 + f.behind = f.place in
     ap Some (omega arith)
 
@@ -103,7 +146,7 @@ pub number-some : (w : List ℕ) (k : ℕ) → k < 401 → get_or words k [] ≡
 number-some w k lt e = none_or_some w (word_number w) refl k (subst (λ n. k < n) (sym words-len) lt) e
 
 no_number : (w : List ℕ) (o : Option ℕ) → word_number w ≡ o →
-    ((k : ℕ) → k < 401 → candidate SHIFTS SLOTS w ≡ k → get_or words k [] ≡ w → ⊥) → o ≡ None
+    ((k : ℕ) → k < 401 → candidate SLOTS w ≡ k → get_or words k [] ≡ w → ⊥) → o ≡ None
 no_number w None h never = refl
 no_number w (Some j) h never =
     let f : Found words 0 w j = place-some words 0 w j h in
@@ -111,5 +154,5 @@ no_number w (Some j) h never =
 
 -- a text that isn't the word at its candidate has no number
 pub number-none : (w : List ℕ) →
-    ((k : ℕ) → k < 401 → candidate SHIFTS SLOTS w ≡ k → get_or words k [] ≡ w → ⊥) → word_number w ≡ None
+    ((k : ℕ) → k < 401 → candidate SLOTS w ≡ k → get_or words k [] ≡ w → ⊥) → word_number w ≡ None
 number-none w never = no_number w (word_number w) refl never

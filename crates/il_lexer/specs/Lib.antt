@@ -3,6 +3,7 @@ pub mod Runs
 pub mod Gaps
 pub mod Quotes
 pub mod Spellings
+pub mod WordKeys
 pub mod WordList
 pub mod Tokens
 pub mod Lexing

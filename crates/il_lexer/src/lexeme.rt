@@ -1,19 +1,19 @@
 //! The token at the front of some bytes.
 
-ghost use Rattle.std.specs.Prelude.{◌≡◌, ◌+◌, ◌<◌, ◌≤◌, false, length, take, drop, IfSome, IfOk};
-ghost use Rattle.il_lexer.specs.Classes.{first_is};
-ghost use Rattle.opcode_table.specs.Lookup.{hash_from};
+ghost use Rattle.std.specs.Prelude.{◌≡◌, ◌+◌, ◌<◌, ◌≤◌, true, false, length, take, drop, IfSome, IfOk};
+ghost use Rattle.il_lexer.specs.Classes.{first_is, first_passes, is_id_start};
+ghost use Rattle.il_lexer.specs.WordKeys.{key_from};
 ghost use Rattle.il_lexer.specs.Tokens.{token, word_of, longer_word, bytearray_token, name_or_word, named, id_token, quoted_name_token, string_token, digits_token, minus_token, dot_token, hash_token, bracket_token, equals_token, paren_token, slash_token, doubled_token, mark_token, token_at};
 
 use crate::bytes::{behind, digit_at, stands_at};
 use crate::classes::{is_digit, is_id_start};
-use crate::names::{Parts, plain_name};
+use crate::names::{Front, first_id, id_at, id_behind, keyed_name, longer};
 use crate::pairs::{bytes_length, pairs_in};
 use crate::quotes::{quote_fault, quoted_length};
 use crate::spellings::{id_length, int_length, name_length};
 use crate::types::{Lexeme, TokenKind};
 use crate::word;
-use crate::words::{number_of_hash, word_number};
+use crate::words::{number_of_key, word_number};
 
 // A token of `length` bytes.
 fn token(kind: TokenKind, length: usize) -> Result<Lexeme, u8>
@@ -29,35 +29,39 @@ fn mark(number: u16) -> Result<Lexeme, u8>
     token(TokenKind::Word(number), 1)
 }
 
-// The first `n` bytes as a word, where they are one.
-fn word_of(rest: &[u8], n: usize) -> Option<Lexeme>
-    requires { n ≤ length rest.now }
-    ensures value { result ≡ word_of rest.now n }
-    ensures fits { IfSome result (λ l. l.length ≡ n) }
+// A front as a word, where it is one.
+fn word_of(rest: &[u8], word: Front) -> Option<Lexeme>
+    requires some { 0 < word.length }
+    requires within { word.length ≤ length rest.now }
+    requires key { word.key ≡ key_from 0 (take word.length rest.now) }
+    ensures value { result ≡ word_of rest.now word.length }
+    ensures fits { IfSome result (λ l. l.length ≡ word.length) }
 {
-    let number = word_number(&rest[..n])?;
+    let number = number_of_key(&rest[..word.length], word.key)?;
     Some(Lexeme {
         kind: TokenKind::Word(number),
-        length: n,
+        length: word.length,
     })
 }
 
-// The word that goes on behind a name of `n` bytes: with a dot and a digit, or with a dot alone.
+// The word that goes on behind a name: with a dot and a digit, or with a dot alone.
 #[tactic(auto, unfolding(crate::specs::Tokens::longer_word))]
-fn longer_word(rest: &[u8], n: usize) -> Option<Lexeme>
-    requires { n ≤ length rest.now }
-    ensures value { result ≡ longer_word rest.now n }
+fn longer_word(rest: &[u8], name: Front) -> Option<Lexeme>
+    requires within { name.length ≤ length rest.now }
+    requires key { name.key ≡ key_from 0 (take name.length rest.now) }
+    ensures value { result ≡ longer_word rest.now name.length }
     ensures fits { IfSome result (λ l. (0 < l.length) × (l.length ≤ length rest.now)) }
 {
-    if !stands_at(rest, n, b'.') {
+    if !stands_at(rest, name.length, b'.') {
         return None;
     }
-    if digit_at(rest, n + 1) {
-        if let Some(found) = word_of(rest, n + 2) {
+    let dotted = longer(rest, name);
+    if digit_at(rest, dotted.length) {
+        if let Some(found) = word_of(rest, longer(rest, dotted)) {
             return Some(found);
         }
     }
-    word_of(rest, n + 1)
+    word_of(rest, dotted)
 }
 
 // `bytearray`, of `n` bytes, with the bytes in parentheses that follow it, or without.
@@ -79,18 +83,20 @@ fn bytearray_token(rest: &[u8], n: usize) -> Lexeme
     }
 }
 
-// The token that begins with a name of `n` bytes.
+// The token that begins with a name.
 #[tactic(auto, unfolding(crate::specs::Tokens::named))]
-fn named(rest: &[u8], n: usize) -> Lexeme
-    requires within { n ≤ length rest.now }
-    requires some { 0 < n }
-    ensures value { result ≡ named rest.now n }
+fn named(rest: &[u8], name: Front) -> Lexeme
+    requires within { name.length ≤ length rest.now }
+    requires some { 0 < name.length }
+    requires key { name.key ≡ key_from 0 (take name.length rest.now) }
+    ensures value { result ≡ named rest.now name.length }
     ensures fits { (0 < result.length) × (result.length ≤ length rest.now) }
 {
-    if let Some(found) = longer_word(rest, n) {
+    if let Some(found) = longer_word(rest, name) {
         return found;
     }
-    name_or_word(rest, n, word_number(&rest[..n]))
+    let number = number_of_key(&rest[..name.length], name.key);
+    name_or_word(rest, name.length, number)
 }
 
 // The token that is a name of `n` bytes with this number of a word, or without.
@@ -115,29 +121,31 @@ fn name_or_word(rest: &[u8], n: usize, number: Option<u16>) -> Lexeme
 
 // The token that begins with a name without a dot behind it.
 #[tactic(auto, using(crate::proofs::PlainNames::named_plain))]
-fn plain_token(rest: &[u8], name: Parts) -> Lexeme
+fn plain_token(rest: &[u8], name: Front) -> Lexeme
     requires within { name.length ≤ length rest.now }
     requires some { 0 < name.length }
+    requires key { name.key ≡ key_from 0 (take name.length rest.now) }
     requires undotted { first_is 46 (drop name.length rest.now) ≡ false }
-    requires hash { name.hash ≡ hash_from 0 (take name.length rest.now) }
     ensures value { result ≡ named rest.now name.length }
     ensures fits { (0 < result.length) × (result.length ≤ length rest.now) }
 {
-    let n = name.length;
-    name_or_word(rest, n, number_of_hash(&rest[..n], name.hash))
+    let number = number_of_key(&rest[..name.length], name.key);
+    name_or_word(rest, name.length, number)
 }
 
-// At the first byte of an identifier.
+// At the first byte of an identifier, which most often has no dot behind it.
 #[tactic(auto, unfolding(crate::specs::Tokens::id_token))]
 fn id_token(rest: &[u8]) -> Result<Lexeme, u8>
+    requires { first_passes is_id_start rest.now ≡ true }
     ensures value { result ≡ id_token rest.now }
     ensures fits { IfOk result (λ l. (0 < l.length) × (l.length ≤ length rest.now)) }
 {
-    if let Some(name) = plain_name(rest) {
-        return Ok(plain_token(rest, name));
+    let first = first_id(rest);
+    if !stands_at(rest, first.length, b'.') {
+        return Ok(plain_token(rest, first));
     }
-    match name_length(rest) {
-        Some(n) => Ok(named(rest, n)),
+    match keyed_name(rest, first) {
+        Some(name) => Ok(named(rest, name)),
         None => Err(5),
     }
 }
@@ -201,12 +209,13 @@ fn dot_token(rest: &[u8]) -> Result<Lexeme, u8>
     ensures value { result ≡ dot_token rest.now }
     ensures fits { IfOk result (λ l. (0 < l.length) × (l.length ≤ length rest.now)) }
 {
-    if let Some(n) = id_length(behind(rest, 1)) {
-        let kind = match word_number(&rest[..n + 1]) {
+    if id_at(rest, 1) {
+        let word = id_behind(rest, longer(rest, Front { length: 0, key: 0 }));
+        let kind = match number_of_key(&rest[..word.length], word.key) {
             Some(number) => TokenKind::Word(number),
             None => TokenKind::Unused,
         };
-        return token(kind, n + 1);
+        return token(kind, word.length);
     }
     if stands_at(rest, 1, b'.') && stands_at(rest, 2, b'.') {
         token(TokenKind::Word(word::ELLIPSIS), 3)

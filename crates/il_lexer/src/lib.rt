@@ -4,6 +4,7 @@
 mod bytes;
 mod classes;
 mod gaps;
+mod keys;
 mod laws;
 mod lexeme;
 mod lines;
