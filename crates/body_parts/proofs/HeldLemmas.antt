@@ -1,9 +1,9 @@
 -- How far the walk for what a method has has come.
-use Rattle.std.proofs.Common.{◌≡◌, ℕ, List, [], ◌∷◌, ◌++◌, take, drop, refl, ap, sym, ◌∙◌}
-use Rattle.std.specs.Prelude.{Bool, true, false, ◌||◌, ◌==◌, if◌then◌else◌}
-use Rattle.std.proofs.lemmas.Bool.Decides.{Decides-eqb}
-use Rattle.std.proofs.lemmas.List.{take-append-drop}
-use Rattle.ilasm_grammar.specs.declared.productions.TheConstants.{INIT_OPT_SOME, ITEM_ENTRYPOINT, ITEM_INSTRUCTION, ITEM_MAXSTACK, LOCAL, OVERRIDDEN_METHOD, OVERRIDDEN_SPEC}
+use Rattle.std.proofs.Common.{◌≡◌, ℕ, ◌+◌, ◌≤◌, List, [], ◌∷◌, ◌++◌, length, take, drop, refl, ap, sym, ◌∙◌, arith, length-drop, drop-drop, slice_get}
+use Rattle.std.specs.Prelude.{Bool, true, false, Some, ◌||◌, ◌==◌, if◌then◌else◌}
+use Rattle.std.proofs.lemmas.List.{drop_all, drop_more, take-append-drop}
+use Rattle.std.proofs.lemmas.Option.{slice_get_within, get_or_from_slice_get}
+use Rattle.ilasm_grammar.specs.declared.productions.TheConstants.{INIT_OPT_SOME, ITEM_ENTRYPOINT, ITEM_MAXSTACK, LOCAL, OVERRIDDEN_METHOD, OVERRIDDEN_SPEC}
 use Rattle.ilasm_grammar.specs.declared.tree.TreeNode.{TreeNode}
 use Rattle.ilasm_grammar.specs.declared.tree.TreeNode.TheVariants.{Branch, Leaf}
 use Rattle.source_model.specs.Clauses.{clause_forms}
@@ -12,12 +12,10 @@ use Rattle.source_model.specs.Forest.{Forest, Part, is_among, is_any_part, joine
 use Rattle.source_model.specs.Laws.{ForestOpens, ForestsJoin, OneForest}
 use Rattle.source_reading.specs.Derived.{HasBodies}
 use Rattle.source_reading.specs.Walk.{IsForest}
-use Rattle.source_reading.proofs.Collecting.{no_forest}
-use Rattle.source_flags.specs.declared.outside.Shut.TheVariants.{Instructions}
-use Rattle.source_flags.proofs.Apart.{is_past, same_outside}
 use Rattle.source_model.specs.Source.{Source}
-use Rattle.body_parts.specs.HeldItems.{AddsTo, IsHeld, holds, line_forms, told_forms}
+use Rattle.body_parts.specs.HeldItems.{AddsTo, IsHeld, holding_nothing, holds, line_forms, passed_forms, told_forms}
 use Rattle.body_parts.specs.declared.held.Held.{Held}
+use Rattle.body_parts.proofs.PastLemmas.{is_unpassed, same_past}
 
 -- what is known, with what the rest holds, is what the whole holds
 abbrev pub Says : List ℕ → Bool → Forest → Forest → Type 0
@@ -32,10 +30,12 @@ pub record AllSay (x : Held) (rest f : Forest) : Type 0 where
   pub clause : Says clause_forms x.clause rest f
   pub lines : Says line_forms x.lines rest f
 
-pub record Walked (nodes left : List TreeNode) (x : Held) : Type 0 where
-  pub rest : Forest
-  pub is : preorder rest ≡ left
-  pub says : (f : Forest) → preorder f ≡ nodes → AllSay x rest f
+-- up to `at` this is known; what is left is a forest, and what it holds completes what the whole holds
+pub record Walked (nodes : List TreeNode) (at : ℕ) (x : Held) : Type 0 where
+  pub left : Forest
+  pub within : at ≤ length nodes
+  pub is : preorder left ≡ drop at nodes
+  pub says : (f : Forest) → preorder f ≡ nodes → AllSay x left f
 
 or_or : (a b c : Bool) → (a || (b || c)) ≡ ((a || b) || c)
 or_or true b c = refl
@@ -61,61 +61,78 @@ among_neither (x ∷ xs) ys p e =
 adds_nothing : (a b : Bool) → b ≡ false → a ≡ (a || b)
 adds_nothing a b e = sym (or_false a) ∙ ap (λ c. a || c) (sym e)
 
-pub untold : (x : Held) (p : ℕ) → is_among told_forms p ≡ false → AddsTo x p x
-untold x p e =
+-- a production that is none of those that are looked for
+pub record Untold (p : ℕ) : Type 0 where
+  pub overrides : is_among (OVERRIDDEN_METHOD ∷ OVERRIDDEN_SPEC ∷ []) p ≡ false
+  pub entry : is_among (ITEM_ENTRYPOINT ∷ []) p ≡ false
+  pub bound : is_among (ITEM_MAXSTACK ∷ []) p ≡ false
+  pub local : is_among (LOCAL ∷ []) p ≡ false
+  pub init : is_among (INIT_OPT_SOME ∷ []) p ≡ false
+  pub clause : is_among clause_forms p ≡ false
+  pub lines : is_among line_forms p ≡ false
+
+all_untold : (p : ℕ) → is_among told_forms p ≡ false → Untold p
+all_untold p e =
     let h1 = among_neither (OVERRIDDEN_METHOD ∷ OVERRIDDEN_SPEC ∷ []) (ITEM_ENTRYPOINT ∷ ITEM_MAXSTACK ∷ LOCAL ∷ INIT_OPT_SOME ∷ (clause_forms ++ line_forms)) p e in
     let h2 = among_neither (ITEM_ENTRYPOINT ∷ []) (ITEM_MAXSTACK ∷ LOCAL ∷ INIT_OPT_SOME ∷ (clause_forms ++ line_forms)) p h1.1 in
     let h3 = among_neither (ITEM_MAXSTACK ∷ []) (LOCAL ∷ INIT_OPT_SOME ∷ (clause_forms ++ line_forms)) p h2.1 in
     let h4 = among_neither (LOCAL ∷ []) (INIT_OPT_SOME ∷ (clause_forms ++ line_forms)) p h3.1 in
     let h5 = among_neither (INIT_OPT_SOME ∷ []) (clause_forms ++ line_forms) p h4.1 in
     let h6 = among_neither clause_forms line_forms p h5.1 in
+    record { overrides = h1.0; entry = h2.0; bound = h3.0; local = h4.0; init = h5.0; clause = h6.0; lines = h6.1 }
+
+pub untold : (x : Held) (p : ℕ) → is_among told_forms p ≡ false → AddsTo x p x
+untold x p e =
+    let u = all_untold p e in
     record {
-      overrides = adds_nothing x.overrides _ h1.0;
-      entry = adds_nothing x.entry _ h2.0;
-      bound = adds_nothing x.bound _ h3.0;
-      local = adds_nothing x.local _ h4.0;
-      init = adds_nothing x.init _ h5.0;
-      clause = adds_nothing x.clause _ h6.0;
-      lines = adds_nothing x.lines _ h6.1;
+      overrides = adds_nothing x.overrides _ u.overrides;
+      entry = adds_nothing x.entry _ u.entry;
+      bound = adds_nothing x.bound _ u.bound;
+      local = adds_nothing x.local _ u.local;
+      init = adds_nothing x.init _ u.init;
+      clause = adds_nothing x.clause _ u.clause;
+      lines = adds_nothing x.lines _ u.lines;
     }
 
 -- a branch holds what is sought where it is that, or where it stands in it or after it
-branch_holds : ForestsJoin → (sought : List ℕ) (p : ℕ) (b a : Forest) → (p == ITEM_INSTRUCTION) ≡ false
+branch_holds : ForestsJoin → (sought : List ℕ) (p : ℕ) (b a : Forest) → is_among passed_forms p ≡ false
     → holds sought (tree.branch p b a) ≡ (is_among sought p || holds sought (joined b a))
-branch_holds joins sought p b a other = go (is_among sought p) refl
+branch_holds joins sought p b a unshut = go (is_among sought p) refl
   where
-    unshut : is_among (ITEM_INSTRUCTION ∷ []) p ≡ false
-    unshut = at (ITEM_INSTRUCTION == p) refl
-      where
-        at : (c : Bool) → (ITEM_INSTRUCTION == p) ≡ c → (c || false) ≡ false
-        at false e = refl
-        at true e =
-            let same : (p == ITEM_INSTRUCTION) ≡ true = (Decides-eqb p ITEM_INSTRUCTION).1 (sym ((Decides-eqb ITEM_INSTRUCTION p).0 e)) in
-            let no : true ≡ false = sym same ∙ other in absurd cc
-
     inner : List Part
-    inner = parts_outside (ITEM_INSTRUCTION ∷ []) sought b
+    inner = parts_outside passed_forms sought b
 
     later : List Part
-    later = parts_outside (ITEM_INSTRUCTION ∷ []) sought a
+    later = parts_outside passed_forms sought a
 
     go : (c : Bool) → is_among sought p ≡ c → holds sought (tree.branch p b a) ≡ (c || holds sought (joined b a))
-    go true e = ap (λ (c : Bool). is_any_part ((if c then part p b ∷ [] else if is_among (ITEM_INSTRUCTION ∷ []) p then [] else inner) ++ later)) e
+    go true e = ap (λ (c : Bool). is_any_part ((if c then part p b ∷ [] else if is_among passed_forms p then [] else inner) ++ later)) e
     go false e =
-        ap (λ (c : Bool). is_any_part ((if c then part p b ∷ [] else if is_among (ITEM_INSTRUCTION ∷ []) p then [] else inner) ++ later)) e
+        ap (λ (c : Bool). is_any_part ((if c then part p b ∷ [] else if is_among passed_forms p then [] else inner) ++ later)) e
         ∙ ap (λ (c : Bool). is_any_part ((if c then [] else inner) ++ later)) unshut
-        ∙ ap is_any_part (sym (joins.parts (ITEM_INSTRUCTION ∷ []) sought b a))
+        ∙ ap is_any_part (sym (joins.parts passed_forms sought b a))
 
-goes_in : ForestsJoin → (sought : List ℕ) (known more : Bool) (p : ℕ) (b a f : Forest) → (p == ITEM_INSTRUCTION) ≡ false
+goes_in : ForestsJoin → (sought : List ℕ) (known more : Bool) (p : ℕ) (b a f : Forest) → is_among passed_forms p ≡ false
     → more ≡ (known || is_among sought p) → Says sought known (tree.branch p b a) f → Says sought more (joined b a) f
 goes_in joins sought known more p b a f other adds says =
     says ∙ ap (λ c. known || c) (branch_holds joins sought p b a other) ∙ or_or known (is_among sought p) (holds sought (joined b a))
     ∙ ap (λ c. c || holds sought (joined b a)) (sym adds)
 
+-- one that is gone past holds what stands after it
+goes_past : (sought : List ℕ) (known : Bool) (p : ℕ) (b a f : Forest) → is_among passed_forms p ≡ true → is_among sought p ≡ false
+    → Says sought known (tree.branch p b a) f → Says sought known a f
+goes_past sought known p b a f closed other says =
+    let inner : List Part = parts_outside passed_forms sought b in
+    let later : List Part = parts_outside passed_forms sought a in
+    says
+    ∙ ap (λ (c : Bool). known || is_any_part ((if c then part p b ∷ [] else if is_among passed_forms p then [] else inner) ++ later)) other
+    ∙ ap (λ (c : Bool). known || is_any_part ((if c then [] else inner) ++ later)) closed
+
 module _ (one : OneForest) (opens : ForestOpens) (joins : ForestsJoin) (nodes : List TreeNode) where
-  pub begins : IsForest nodes → Walked nodes nodes (record { overrides = false; entry = false; bound = false; local = false; init = false; clause = false; lines = false })
+  pub begins : IsForest nodes → Walked nodes 0 holding_nothing
   begins g = record {
-    rest = g.0;
+    left = g.0;
+    within = omega arith;
     is = g.1;
     says = λ f e.
         let same : f ≡ g.0 = one.one f g.0 (e ∙ sym g.1) in
@@ -142,39 +159,61 @@ module _ (one : OneForest) (opens : ForestOpens) (joins : ForestsJoin) (nodes : 
     lines = s.lines ∙ ap (λ k. x.lines || holds line_forms k) e;
   }
 
-  pub past_leaf : (left rest : List TreeNode) (x : Held) (token : ℕ) → left ≡ Leaf token ∷ rest → Walked nodes left x → Walked nodes rest x
-  past_leaf left rest x token e w =
-      let b = opens.leaf w.rest token rest (w.is ∙ e) in
+  -- what is left at a node begins with it
+  from_node : (at : ℕ) (node : TreeNode) → slice_get nodes at ≡ Some node → drop at nodes ≡ node ∷ drop (at + 1) nodes
+  from_node at node e =
+      drop_more nodes at node (slice_get_within nodes at node e)
+      ∙ ap (λ x. x ∷ drop (at + 1) nodes) (get_or_from_slice_get nodes at node node e)
+
+  pub past_leaf : (at token : ℕ) (x : Held) → slice_get nodes at ≡ Some (Leaf token) → Walked nodes at x → Walked nodes (at + 1) x
+  past_leaf at token x e w =
+      let b = opens.leaf w.left token (drop (at + 1) nodes) (w.is ∙ from_node at (Leaf token) e) in
+      let less = slice_get_within nodes at (Leaf token) e in
       record {
-        rest = b.after;
+        left = b.after;
+        within = omega (arith, less);
         is = b.rest;
         says = λ f whole.
-            let s = moved x w.rest (tree.leaf token b.after) f b.is (w.says f whole) in
+            let s = moved x w.left (tree.leaf token b.after) f b.is (w.says f whole) in
             record { overrides = s.overrides; entry = s.entry; bound = s.bound; local = s.local; init = s.init; clause = s.clause; lines = s.lines };
       }
 
-  -- nothing that is sought is an instruction, and what stands in one doesn't count
-  pub past_instruction : (left rest : List TreeNode) (x : Held) (count : ℕ) → left ≡ Branch ITEM_INSTRUCTION count ∷ rest → Walked nodes left x
-      → Walked nodes (drop count rest) x
-  past_instruction left rest x count e w =
-      let b = opens.branch w.rest ITEM_INSTRUCTION count rest (w.is ∙ e) in
+  -- one that is gone past is none of those that are looked for, and what stands in it doesn't count
+  pub past_shut : (at p count : ℕ) (x : Held) → slice_get nodes at ≡ Some (Branch p count) → is_among passed_forms p ≡ true → is_among told_forms p ≡ false
+      → Walked nodes at x → Walked nodes (at + 1 + count) x
+  past_shut at p count x e closed other w =
+      let b = opens.branch w.left p count (drop (at + 1) nodes) (w.is ∙ from_node at (Branch p count) e) in
+      let less = slice_get_within nodes at (Branch p count) e in
+      let u = all_untold p other in
       record {
-        rest = b.after;
-        is = b.rest;
+        left = b.after;
+        within = omega (arith, less, b.within, length-drop (at + 1) nodes);
+        is = b.rest ∙ drop-drop count (at + 1) nodes;
         says = λ f whole.
-            let s = moved x w.rest (tree.branch ITEM_INSTRUCTION b.below b.after) f b.is (w.says f whole) in
-            record { overrides = s.overrides; entry = s.entry; bound = s.bound; local = s.local; init = s.init; clause = s.clause; lines = s.lines };
+            let s = moved x w.left (tree.branch p b.below b.after) f b.is (w.says f whole) in
+            record {
+              overrides = goes_past (OVERRIDDEN_METHOD ∷ OVERRIDDEN_SPEC ∷ []) x.overrides p b.below b.after f closed u.overrides s.overrides;
+              entry = goes_past (ITEM_ENTRYPOINT ∷ []) x.entry p b.below b.after f closed u.entry s.entry;
+              bound = goes_past (ITEM_MAXSTACK ∷ []) x.bound p b.below b.after f closed u.bound s.bound;
+              local = goes_past (LOCAL ∷ []) x.local p b.below b.after f closed u.local s.local;
+              init = goes_past (INIT_OPT_SOME ∷ []) x.init p b.below b.after f closed u.init s.init;
+              clause = goes_past clause_forms x.clause p b.below b.after f closed u.clause s.clause;
+              lines = goes_past line_forms x.lines p b.below b.after f closed u.lines s.lines;
+            };
       }
 
-  pub into_branch : (left rest : List TreeNode) (x y : Held) (p count : ℕ) → left ≡ Branch p count ∷ rest → (p == ITEM_INSTRUCTION) ≡ false → AddsTo x p y
-      → Walked nodes left x → Walked nodes rest y
-  into_branch left rest x y p count e other adds w =
-      let b = opens.branch w.rest p count rest (w.is ∙ e) in
+  pub into_branch : (at p count : ℕ) (x y : Held) → slice_get nodes at ≡ Some (Branch p count) → is_among passed_forms p ≡ false → AddsTo x p y
+      → Walked nodes at x → Walked nodes (at + 1) y
+  into_branch at p count x y e other adds w =
+      let b = opens.branch w.left p count (drop (at + 1) nodes) (w.is ∙ from_node at (Branch p count) e) in
+      let less = slice_get_within nodes at (Branch p count) e in
       record {
-        rest = joined b.below b.after;
-        is = joins.nodes b.below b.after ∙ ap (λ ns. ns ++ preorder b.after) b.inner ∙ ap (λ ns. take count rest ++ ns) b.rest ∙ take-append-drop count rest;
+        left = joined b.below b.after;
+        within = omega (arith, less);
+        is = joins.nodes b.below b.after ∙ ap (λ ns. ns ++ preorder b.after) b.inner ∙ ap (λ ns. take count (drop (at + 1) nodes) ++ ns) b.rest
+            ∙ take-append-drop count (drop (at + 1) nodes);
         says = λ f whole.
-            let s = moved x w.rest (tree.branch p b.below b.after) f b.is (w.says f whole) in
+            let s = moved x w.left (tree.branch p b.below b.after) f b.is (w.says f whole) in
             record {
               overrides = goes_in joins (OVERRIDDEN_METHOD ∷ OVERRIDDEN_SPEC ∷ []) x.overrides y.overrides p b.below b.after f other adds.overrides s.overrides;
               entry = goes_in joins (ITEM_ENTRYPOINT ∷ []) x.entry y.entry p b.below b.after f other adds.entry s.entry;
@@ -186,9 +225,9 @@ module _ (one : OneForest) (opens : ForestOpens) (joins : ForestsJoin) (nodes : 
             };
       }
 
-  pub ends : (left : List TreeNode) (x : Held) → left ≡ [] → Walked nodes left x → (f : Forest) → preorder f ≡ nodes → IsHeld x f
-  ends left x e w f whole =
-      let s = moved x w.rest tree.none f (no_forest w.rest (w.is ∙ e)) (w.says f whole) in
+  pub ends : (at : ℕ) (x : Held) → length nodes ≤ at → Walked nodes at x → (f : Forest) → preorder f ≡ nodes → IsHeld x f
+  ends at x over w f whole =
+      let s = moved x w.left tree.none f (opens.none w.left (w.is ∙ drop_all at nodes over)) (w.says f whole) in
       record {
         overrides = sym (s.overrides ∙ or_false x.overrides);
         entry = sym (s.entry ∙ or_false x.entry);
@@ -205,5 +244,5 @@ no_part : (ps : List Part) → is_any_part ps ≡ false → ps ≡ []
 no_part [] e = refl
 no_part (p ∷ ps) e = absurd cc
 
-pub not_held : (sought : List ℕ) → is_past Instructions sought ≡ true → (s : Source) (f : Forest) → HasBodies s f → holds sought f ≡ false → parts sought f ≡ []
-not_held sought past s f h e = sym (same_outside Instructions sought past s f h) ∙ no_part (parts_outside (ITEM_INSTRUCTION ∷ []) sought f) e
+pub not_held : (sought : List ℕ) → is_unpassed sought ≡ true → (s : Source) (f : Forest) → HasBodies s f → holds sought f ≡ false → parts sought f ≡ []
+not_held sought past s f h e = sym (same_past sought past s f h) ∙ no_part (parts_outside passed_forms sought f) e

@@ -3,6 +3,7 @@ pub mod ClauseLemmas
 pub mod FormLemmas
 pub mod HeldLemmas
 pub mod InstructionLemmas
+pub mod LabelPlaces
 pub mod LineWalks
 pub mod NamedLemmas
 pub mod Nameless

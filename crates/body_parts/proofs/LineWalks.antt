@@ -1,24 +1,17 @@
--- How far the walk for the labels of a method has come, which goes past its instructions.
+-- How far the walk for the labels of a method has come.
 use Rattle.std.proofs.Common.{◌≡◌, ℕ, ◌+◌, ◌≤◌, List, [], ◌∷◌, ◌++◌, length, map, take, drop, ap, sym, ◌∙◌, refl, arith, length-drop, drop-drop, append-nil, slice_get}
 use Rattle.std.specs.Prelude.{Bool, true, false, Some, ◌==◌, ◌||◌, if◌then◌else◌}
 use Rattle.std.proofs.lemmas.Bool.Decides.{Decides-eqb}
 use Rattle.std.proofs.lemmas.List.{append_assoc, drop_all, drop_more, take-append-drop}
 use Rattle.std.proofs.lemmas.Option.{slice_get_within, get_or_from_slice_get}
-use Rattle.ilasm_grammar.specs.Ilasm.{body_at, has_bit}
 use Rattle.ilasm_grammar.specs.declared.productions.TheConstants.{ITEM_NAME}
 use Rattle.ilasm_grammar.specs.declared.tree.TreeNode.{TreeNode}
 use Rattle.ilasm_grammar.specs.declared.tree.TreeNode.TheVariants.{Branch, Leaf}
-use Rattle.ilasm_grammar.proofs.TableCheck.{ilasm_tables}
-use Rattle.ilasm_grammar.proofs.Tables.{all_below}
 use Rattle.source_model.specs.Forest as tree
-use Rattle.source_model.specs.Forest.{Forest, Part, part, parts, parts_outside, preorder, is_among, joined, leaf_at}
+use Rattle.source_model.specs.Forest.{Forest, Part, part, parts_outside, preorder, is_among, joined, leaf_at}
 use Rattle.source_model.specs.Instructions.{instruction_forms}
 use Rattle.source_model.specs.Laws.{ForestOpens, ForestsJoin, OneForest}
-use Rattle.source_model.specs.Source.{Source}
-use Rattle.source_reading.specs.Derived.{HasBodies}
 use Rattle.source_reading.specs.Walk.{IsForest}
-use Rattle.source_flags.specs.declared.outside.Shut.TheVariants.{Instructions}
-use Rattle.source_flags.proofs.Apart.{all_outside, are_apart, mask_of, stays}
 
 -- the first tokens at the top of some parts
 abbrev pub tokens_at : List Part → List ℕ
@@ -134,30 +127,6 @@ module _ (one : OneForest) (opens : ForestOpens) (joins : ForestsJoin) (nodes : 
       let nothing : preorder l.left ≡ [] = l.is ∙ drop_all at nodes over in
       sym (ap (λ g. found ++ tokens_at (parts_outside shut sought g)) (opens.none l.left nothing) ∙ append-nil found)
       ∙ l.finds f whole
-
--- ---- no label stands in an instruction, and no instruction in a label
-
-labels_closed : all_below (stays (mask_of Instructions) instruction_forms) ilasm_tables.productions ≡ true
-unfolding ilasm_tables body_at has_bit mask_of
-labels_closed = refl
-
-labels_apart : are_apart (mask_of Instructions) (ITEM_NAME ∷ []) ≡ true
-unfolding mask_of ilasm_tables has_bit
-labels_apart = refl
-
-pub labels_past : (s : Source) (f : Forest) → HasBodies s f → parts_outside instruction_forms (ITEM_NAME ∷ []) f ≡ parts (ITEM_NAME ∷ []) f
-labels_past s f h = all_outside (mask_of Instructions) instruction_forms (ITEM_NAME ∷ []) labels_closed labels_apart s f h
-
-instructions_closed : all_below (stays 0 (ITEM_NAME ∷ [])) ilasm_tables.productions ≡ true
-unfolding ilasm_tables body_at has_bit
-instructions_closed = refl
-
-instructions_apart : are_apart 0 instruction_forms ≡ true
-unfolding ilasm_tables has_bit
-instructions_apart = refl
-
-pub instructions_past : (s : Source) (f : Forest) → HasBodies s f → parts_outside (ITEM_NAME ∷ []) instruction_forms f ≡ parts instruction_forms f
-instructions_past s f h = all_outside 0 (ITEM_NAME ∷ []) instruction_forms instructions_closed instructions_apart s f h
 
 -- ---- one production
 

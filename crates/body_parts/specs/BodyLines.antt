@@ -4,8 +4,10 @@ use Rattle.ilasm_grammar.specs.declared.tree.TreeNode.{TreeNode}
 use Rattle.source_model.specs.Forest.{Forest}
 use Rattle.source_model.specs.Instructions.{instructions_of, labels}
 use Rattle.source_reading.specs.Pieces.{ArePieces}
+use Rattle.body_parts.specs.HeldItems.{IsHeld}
 use Rattle.body_parts.specs.declared.body_lines.Lines.{Lines}
 
 pub record AreLines (nodes : List TreeNode) (f : Forest) (x : Lines) : Type 0 where
   pub instructions-are : ArePieces nodes x.instructions (instructions_of f)
   pub labels-are : x.labels ≡ labels f
+  pub held-is : IsHeld x.held f

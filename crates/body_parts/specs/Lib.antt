@@ -1,6 +1,7 @@
 pub mod BodyLines
 pub mod BodyPlaces
 pub mod ClauseNodes
+pub mod CodePlaces
 pub mod HeldItems
 pub mod MethodsInRange
 pub mod NamedVariables

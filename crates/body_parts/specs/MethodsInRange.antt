@@ -1,6 +1,6 @@
 -- What a source that breaks no rule says of a method with a body: it is derived, and its numbers are in their ranges
 -- (ECMA-335 II.15.4, II.25.4, III.1.7.2, III.3.40).
-use Rattle.std.specs.Prelude.{◌≡◌, []}
+use Rattle.std.specs.Prelude.{◌≡◌, [], true}
 use Rattle.std.specs.List.{flat_map}
 use Rattle.ilasm_grammar.specs.declared.productions.TheConstants.{INSTRUCTION_OP_REAL, INSTRUCTION_OP_VAR, METHOD}
 use Rattle.source_model.specs.BodyNumbers.{bounds_out_of_range, real_out_of_range, variable_out_of_range}
@@ -9,6 +9,7 @@ use Rattle.source_model.specs.Instructions.{instructions_with}
 use Rattle.source_model.specs.Source.{Source}
 use Rattle.source_flags.specs.InRange.{AllInRange, IsInRange}
 use Rattle.source_reading.specs.Methods.{IsDerived}
+use Rattle.body_parts.specs.NamedVariables.{takes_variables}
 
 -- the numbers of a method and of its parts are in their ranges
 pub record IsMethodInRange (s : Source) (f : Forest) : Type 0 where
@@ -24,3 +25,4 @@ pub record IsInstructionInRange (s : Source) (f : Forest) (p : Part) : Type 0 wh
   pub each : AllInRange s p.below
   pub real : p.production ≡ INSTRUCTION_OP_REAL → real_out_of_range s p ≡ []
   pub variable : p.production ≡ INSTRUCTION_OP_VAR → variable_out_of_range s f p ≡ []
+  pub takes : p.production ≡ INSTRUCTION_OP_VAR → takes_variables f ≡ true

@@ -1,8 +1,9 @@
 -- Parameters and locals that have names, each with its number (ECMA-335 II.15.4.1.3, III.3.38, III.3.43).
-use Rattle.std.specs.Prelude.{◌≡◌, ℕ, ◌+◌, if◌then◌else◌, List, [], ◌∷◌, map}
-use Rattle.std.specs.List.{enumerate_from, flat_map}
-use Rattle.ilasm_grammar.specs.declared.productions.TheConstants.{NAME_OPT_SOME}
+use Rattle.std.specs.Prelude.{◌≡◌, Bool, ℕ, ◌+◌, ◌==◌, if◌then◌else◌, List, [], ◌∷◌, map}
+use Rattle.std.specs.List.{enumerate_from, flat_map, list_any}
+use Rattle.ilasm_grammar.specs.declared.productions.TheConstants.{INSTRUCTION_OP_VAR, NAME_OPT_SOME}
 use Rattle.source_model.specs.Forest.{Forest, child, has, leaf_at}
+use Rattle.source_model.specs.Instructions.{instructions_of}
 use Rattle.source_model.specs.Parameters.{parameters}
 use Rattle.source_model.specs.Source.{Source}
 use Rattle.source_model.specs.Values.{name_text}
@@ -34,3 +35,7 @@ pub record AreNumbered (x : Numbered) (s : Source) (first : ℕ) (fs : List Fore
 pub record AreVariables (x : Variables) (s : Source) (f : Forest) : Type 0 where
   pub arguments-are : AreNumbered x.arguments s (first_argument f) (parameters f)
   pub locals-are : AreNumbered x.locals s 0 (locals f)
+
+-- an instruction of a method takes an argument or a local
+abbrev pub takes_variables : Forest → Bool
+takes_variables f = list_any (λ p. p.production == INSTRUCTION_OP_VAR) (instructions_of f)

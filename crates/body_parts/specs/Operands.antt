@@ -1,7 +1,9 @@
 -- The operands of instructions by their forms (ECMA-335 III.1.7, III.3, III.4).
 use Rattle.std.specs.Prelude.{◌==◌, if◌then◌else◌, map}
+use Rattle.assembly_tree.specs.declared.body.Ins.{Ins}
 use Rattle.assembly_tree.specs.declared.body.Operand.{Operand}
 use Rattle.assembly_tree.specs.declared.body.Operand.TheVariants as operand
+use Rattle.opcode_table.specs.declared.op.Op.{Op}
 use Rattle.ilasm_grammar.specs.declared.productions.TheConstants.{
   FIELD_REF,
   METHOD_REF,
@@ -35,3 +37,7 @@ other_operand s a f p =
     else if p.production == INSTRUCTION_SWITCH then operand.Targets (map (label_number s f) (targets p))
     else if p.production == INSTRUCTION_LDSTR then operand.Text (string_units s p.below)
     else reference_operand s a p
+
+-- an instruction with its operand
+abbrev pub instruction_with : Op → Operand → Ins
+instruction_with op operand = record { op = op; operand = operand }

@@ -1,49 +1,25 @@
-//! The labels of a method that has a body, with the numbers of the instructions behind them (ECMA-335 II.5.4, II.15.4.1).
+//! The names of the labels of a method that has a body (ECMA-335 II.5.4, II.15.4.1).
 
-ghost use Rattle.std.specs.Prelude.{◌≡◌, IfOk, map};
-ghost use Rattle.std.specs.List.Sorted.{IsNonDecreasing};
-ghost use Rattle.source_model.specs.Instructions.{instructions_of, labels, mnemonic_token};
-ghost use Rattle.source_model.specs.Nodes.{Node};
+ghost use Rattle.std.specs.Prelude.{◌≡◌, ◌⊎◌, [], IfOk, map};
 ghost use Rattle.source_model.specs.Source.{Source};
-ghost use Rattle.source_reading.specs.Labels.{AreLabels, count_below};
-ghost use Rattle.source_reading.specs.Methods.{IsMethod};
+ghost use Rattle.source_model.specs.Values.{name_text};
+ghost use Rattle.source_reading.specs.Methods.{AreNames};
 ghost use Rattle.source_reading.specs.Readers.{Reads};
 
-use il_base::{Items, NoMemory};
-use source_reading::label_numbers::Labels;
+use il_base::NoMemory;
+use source_reading::declared::Declared;
 use source_reading::labels::names_at;
 use source_reading::reader::Reader;
 use std::alloc::Global;
 
-/// The labels of a method, from the tokens of their names and the first tokens of its instructions.
-pub fn labels_of(
-    alloc: Global,
-    reader: &Reader,
-    tokens: &[u32],
-    starts: &[u32],
-) -> Result<Labels, NoMemory>
-    ensures { (s : Source) (n : Node) → Reads reader.now s → IsMethod s n → tokens.now ≡ labels n.below → starts.now ≡ map mnemonic_token (instructions_of n.below) →
-        IfOk result (λ x. AreLabels x s n.below) }
+/// The names of labels by which one is found, from the tokens of them; none where the labels are so few that one is found as soon
+/// by going through the tokens.
+pub fn names_of_many(alloc: Global, reader: &Reader, tokens: &[u32]) -> Result<Declared, NoMemory>
+    ensures { (s : Source) → Reads reader.now s → AreNames s tokens.now →
+        IfOk result (λ names. (names ≡ []) ⊎ (names ≡ map (name_text s) tokens.now)) }
 {
-    let names = names_at(alloc, reader, tokens)?;
-    let numbers = numbers_at(alloc, starts, tokens)?;
-    Ok(Labels { names, numbers })
-}
-
-// For each of these tokens how many of those that begin instructions are before it.
-fn numbers_at(alloc: Global, starts: &[u32], tokens: &[u32]) -> Result<Items<usize>, NoMemory>
-    ensures { IsNonDecreasing starts.now → IfOk result (λ numbers. numbers ≡ map (λ k. count_below k starts.now) tokens.now) }
-{
-    let mut numbers = Items::with_capacity(alloc, tokens.len())?;
-    for token in tokens {
-        numbers.push(number_before(starts, *token))?;
+    if tokens.len() <= 8 {
+        return Ok(Declared::new(alloc));
     }
-    Ok(numbers)
-}
-
-// How many tokens are less than one, where they never fall.
-fn number_before(starts: &[u32], token: u32) -> usize
-    ensures { IsNonDecreasing starts.now → result ≡ count_below token starts.now }
-{
-    starts.partition_point(|start| *start < token)
+    names_at(alloc, reader, tokens)
 }

@@ -1,7 +1,8 @@
-//! The instructions of a method and its labels, found in one walk (ECMA-335 II.5.4, II.15.4.1).
+//! The instructions of a method, its labels and what else it holds, found in one walk (ECMA-335 II.5.4, II.15.4.1).
 
-ghost use Rattle.std.specs.Prelude.{◌≡◌, IfOk};
+ghost use Rattle.std.specs.Prelude.{◌≡◌, ◌++◌, ◌∷◌, [], IfOk, OnOk};
 ghost use Rattle.body_parts.specs.BodyLines.{AreLines};
+ghost use Rattle.body_parts.specs.HeldItems.{head_forms};
 ghost use Rattle.source_model.specs.Forest.{Forest, is_among, preorder};
 ghost use Rattle.source_model.specs.Instructions.{instruction_forms};
 ghost use Rattle.source_model.specs.Source.{Source};
@@ -9,6 +10,7 @@ ghost use Rattle.source_reading.specs.Derived.{HasBodies};
 ghost use Rattle.source_reading.specs.Pieces.{AreParts};
 ghost use Rattle.source_reading.specs.Walk.{IsForest};
 
+use crate::held::{Held, is_told};
 use il_base::{Items, NoMemory};
 use ilasm_grammar::{TreeNode, productions};
 use source_model::{derivations_are_forests, forests_join, forests_open};
@@ -16,15 +18,16 @@ use source_reading::pieces::{Piece, nodes_of};
 use source_reading::walk::leaf_at;
 use std::alloc::Global;
 
-/// The productions of the instructions of a method, and the tokens of the names of its labels, each in order.
+/// The productions of the instructions of a method and the tokens of the names of its labels, each in order, and what else it holds.
 #[derive(Drop)]
 pub struct Lines {
     pub instructions: Items<Piece>,
     pub labels: Items<u32>,
+    pub held: Held,
 }
 
 /// Those of a method, from the nodes below its production. An instruction takes four nodes or more, and most take about eight, so
-/// there is room for most from the start.
+/// there is room for most from the start. What stands in instructions, and before the braces, is gone past.
 pub fn lines_in(alloc: Global, nodes: &[TreeNode]) -> Result<Lines, NoMemory>
     requires { IsForest nodes.now }
     ensures parts { IfOk result (λ x. AreParts nodes.now x.instructions) }
@@ -35,6 +38,7 @@ pub fn lines_in(alloc: Global, nodes: &[TreeNode]) -> Result<Lines, NoMemory>
     forests_join();
     let mut instructions = Items::with_capacity(alloc, nodes.len() / 8)?;
     let mut labels = Items::new(alloc);
+    let mut held = Held::nothing();
     let mut at = 0;
     while let Some(node) = nodes.get(at) {
         match *node {
@@ -49,14 +53,17 @@ pub fn lines_in(alloc: Global, nodes: &[TreeNode]) -> Result<Lines, NoMemory>
                     start,
                     count,
                 };
+                at = start;
                 if is_instruction(production) {
                     instructions.push(piece)?;
                     at = start + count;
                 } else if production == productions::ITEM_NAME {
-                    labels.push(leaf_at(nodes_of(nodes, piece), 0))?;
+                    push_label(&mut labels, leaf_at(nodes_of(nodes, piece), 0))?;
                     at = start + count;
-                } else {
-                    at = start;
+                } else if is_of_head(production) {
+                    at = start + count;
+                } else if is_told(production) {
+                    held = held.with(production);
                 }
             }
             TreeNode::Leaf { .. } => at += 1,
@@ -65,7 +72,20 @@ pub fn lines_in(alloc: Global, nodes: &[TreeNode]) -> Result<Lines, NoMemory>
     Ok(Lines {
         instructions,
         labels,
+        held,
     })
+}
+
+// Adds the token of the name of a label. The first gets room for some more, since most methods with one have several.
+fn push_label(labels: &mut Items<u32>, token: u32) -> Result<(), NoMemory>
+    ensures { OnOk result (labels.new ≡ labels.old ++ token ∷ []) }
+{
+    if labels.is_empty() {
+        labels.reserve(8)?;
+        labels.push(token)
+    } else {
+        labels.push(token)
+    }
 }
 
 fn is_instruction(production: u16) -> bool
@@ -84,5 +104,19 @@ fn is_instruction(production: u16) -> bool
             | productions::INSTRUCTION_SWITCH
             | productions::INSTRUCTION_LDSTR
             | productions::INSTRUCTION_LDTOKEN
+    )
+}
+
+// Whether a production is one before the braces of a method, or a type.
+fn is_of_head(production: u16) -> bool
+    ensures { result ≡ is_among head_forms production }
+{
+    matches!(
+        production,
+        productions::METHOD_ATTR_STAR_MORE
+            | productions::CALL_CONV
+            | productions::TYPE
+            | productions::DEF_ARGS_OPT_SOME
+            | productions::IMPL_ATTR_STAR_MORE
     )
 }

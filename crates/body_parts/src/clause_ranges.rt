@@ -5,16 +5,16 @@ ghost use Rattle.il_lexer.specs.declared.types.TokenKind.TheVariants.{Name};
 ghost use Rattle.source_model.specs.Clauses.{block_in, filter_start, handler_range, label_range, scope_range, stands, try_range};
 ghost use Rattle.source_model.specs.Forest.{Forest, preorder};
 ghost use Rattle.source_model.specs.Source.{Source};
-ghost use Rattle.source_parts.specs.CodePlaces.{IsCode};
+ghost use Rattle.body_parts.specs.CodePlaces.{IsCode};
 ghost use Rattle.source_reading.specs.Derived.{HasBodies};
 ghost use Rattle.source_reading.specs.Readers.{IsOf};
 ghost use Rattle.source_reading.specs.Walk.{IsForest};
 ghost use Rattle.body_parts.specs.Ranges.{range_of};
 
+use crate::code_places::Code;
 use il_base::NoMemory;
 use ilasm_grammar::{TreeNode, productions};
 use source_model::{derivations_are_forests, forests_open};
-use source_parts::code_places::Code;
 use source_reading::walk::{child, leaf_at, next};
 use std::alloc::Global;
 

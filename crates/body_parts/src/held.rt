@@ -2,14 +2,11 @@
 
 ghost use Rattle.std.specs.Prelude.{◌≡◌, ◌∷◌, []};
 ghost use Rattle.ilasm_grammar.specs.declared.productions.TheConstants.{OVERRIDDEN_METHOD, OVERRIDDEN_SPEC};
-ghost use Rattle.body_parts.specs.HeldItems.{AddsTo, IsHeld, line_forms, told_forms};
-ghost use Rattle.source_model.specs.Forest.{Forest, is_among, preorder};
-ghost use Rattle.source_reading.specs.Walk.{IsForest};
+ghost use Rattle.body_parts.specs.HeldItems.{AddsTo, holding_nothing, line_forms, told_forms};
+ghost use Rattle.source_model.specs.Forest.{is_among};
 
 use crate::clauses::is_clause;
-use ilasm_grammar::{TreeNode, productions};
-use source_model::{derivations_are_forests, forests_join, forests_open};
-use source_reading::walk::next;
+use ilasm_grammar::productions;
 
 /// Whether a method has methods that it overrides, a line that makes it the entry point, a bound of its stack, a local, `init`, a
 /// clause, and a line of `.param` or an attribute.
@@ -25,8 +22,23 @@ pub struct Held {
 }
 
 impl Held {
-    // The same with what a production is.
-    fn with(self, production: u16) -> Held
+    /// Nothing of all that.
+    pub fn nothing() -> Held
+        ensures { result ≡ holding_nothing }
+    {
+        Held {
+            overrides: false,
+            entry: false,
+            bound: false,
+            local: false,
+            init: false,
+            clause: false,
+            lines: false,
+        }
+    }
+
+    /// The same with what a production is.
+    pub fn with(self, production: u16) -> Held
         ensures { AddsTo self production result }
     {
         Held {
@@ -65,8 +77,8 @@ fn is_line(production: u16) -> bool
     )
 }
 
-// Whether a production is one of those that are looked for. Most aren't.
-fn is_told(production: u16) -> bool
+/// Whether a production is one of those that are looked for. Most aren't.
+pub fn is_told(production: u16) -> bool
     ensures { result ≡ is_among told_forms production }
 {
     matches!(
@@ -88,44 +100,4 @@ fn is_told(production: u16) -> bool
             | productions::MEMBER_CUSTOM
             | productions::ITEM_CUSTOM
     )
-}
-
-/// Which of them a method has, from the nodes below its production.
-pub fn held_in(nodes: &[TreeNode]) -> Held
-    requires { IsForest nodes.now }
-    ensures { (f : Forest) → preorder f ≡ nodes.now → IsHeld result f }
-{
-    derivations_are_forests();
-    forests_open();
-    forests_join();
-    let mut held = Held {
-        overrides: false,
-        entry: false,
-        bound: false,
-        local: false,
-        init: false,
-        clause: false,
-        lines: false,
-    };
-    let mut left = nodes;
-    while let Some((node, rest)) = next(left) {
-        match node {
-            TreeNode::Branch {
-                production,
-                nodes: count,
-            } => {
-                if production == productions::ITEM_INSTRUCTION {
-                    let (_, after) = rest.split_at(count as usize);
-                    left = after;
-                } else if is_told(production) {
-                    held = held.with(production);
-                    left = rest;
-                } else {
-                    left = rest;
-                }
-            }
-            TreeNode::Leaf { .. } => left = rest,
-        }
-    }
-    held
 }

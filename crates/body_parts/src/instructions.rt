@@ -2,22 +2,19 @@
 
 ghost use Rattle.std.specs.Prelude.{◌≡◌, ◌<◌, ◌^◌, IfOk, length};
 ghost use Rattle.source_model.specs.Bodies.{code};
-ghost use Rattle.source_model.specs.Forest.{Forest, Part, preorder};
+ghost use Rattle.source_model.specs.Forest.{Forest};
 ghost use Rattle.source_model.specs.Instructions.{instructions_of};
 ghost use Rattle.source_model.specs.Nodes.{Around};
-ghost use Rattle.source_model.specs.Operands.{instruction};
 ghost use Rattle.source_model.specs.Source.{Source};
 ghost use Rattle.source_reading.specs.Pieces.{ArePieces, AreParts};
-ghost use Rattle.source_reading.specs.Walk.{IsForest};
 ghost use Rattle.body_parts.specs.BodyPlaces.{IsWithin};
-ghost use Rattle.body_parts.specs.MethodsInRange.{IsInstructionInRange, IsMethodInRange};
+ghost use Rattle.body_parts.specs.MethodsInRange.{IsMethodInRange};
 
 use crate::body_places::BodyPlace;
-use crate::operands::operand;
-use assembly_tree::{Code, Ins};
+use crate::operands::push_instruction;
+use assembly_tree::Code;
 use il_base::{Items, NoMemory};
 use ilasm_grammar::TreeNode;
-use source_reading::operations::op_of;
 use source_reading::pieces::{Piece, nodes_of};
 use std::alloc::Global;
 
@@ -36,27 +33,7 @@ pub fn code(
     let mut all = Items::with_capacity(alloc, found.len())?;
     for piece in found {
         let below = nodes_of(nodes, *piece);
-        let one = instruction(alloc, at, piece.production, below)?;
-        all.push(one)?;
+        push_instruction(&mut all, alloc, at, piece.production, below)?;
     }
     Ok(all)
-}
-
-// An instruction, from its production and the nodes below that.
-fn instruction(
-    alloc: Global,
-    at: &BodyPlace,
-    production: u16,
-    nodes: &[TreeNode],
-) -> Result<Ins, NoMemory>
-    requires forest { IsForest nodes.now }
-    requires few { length nodes.now < 2 ^ 32 }
-    ensures { (s : Source) (a : Around) (f : Forest) (p : Part) → IsWithin at.now s a f → production ≡ p.production → preorder p.below ≡ nodes.now →
-        IsInstructionInRange s f p → IfOk result (λ i. i ≡ instruction s a f p) }
-{
-    let operand = operand(alloc, at, production, nodes)?;
-    Ok(Ins {
-        op: op_of(&at.place.reader, nodes),
-        operand,
-    })
 }

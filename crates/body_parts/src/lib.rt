@@ -8,6 +8,8 @@ pub mod body_lines;
 pub mod body_places;
 pub mod clause_ranges;
 pub mod clauses;
+pub mod code_places;
+pub mod code_pushes;
 pub mod held;
 pub mod held_parts;
 pub mod instructions;

@@ -16,7 +16,7 @@ use crate::method_heads::{Head, read_head};
 use crate::method_rows::{Rows, read_rows};
 use assembly_tree::{Body, Method};
 use body_parts::bodies::body;
-use body_parts::held::held_in;
+use body_parts::body_lines::lines_in;
 use il_base::NoMemory;
 use ilasm_grammar::TreeNode;
 use member_parts::generics::written_names;
@@ -46,11 +46,11 @@ fn method_at(alloc: Global, place: &Place, nodes: &[TreeNode]) -> Result<Method,
     ensures { (s : Source) (a : Around) (n : Node) → IsAt place.now s a → a.method ≡ n.below → preorder n.below ≡ nodes.now → IsSoundMethod s n →
         IfOk result (λ m. m ≡ method_from s a n.below) }
 {
-    let held = held_in(nodes);
+    let lines = lines_in(alloc, nodes)?;
     let head = read_head(alloc, place, nodes)?;
-    let rows = read_rows(alloc, place, nodes, held)?;
-    let code = body(alloc, place, nodes, held)?;
-    Ok(put_together(head, rows, held.entry, code))
+    let rows = read_rows(alloc, place, nodes, lines.held)?;
+    let code = body(alloc, place, nodes, &lines)?;
+    Ok(put_together(head, rows, lines.held.entry, code))
 }
 
 fn put_together(head: Head, rows: Rows, entry: bool, code: Option<Body>) -> Method

@@ -4,7 +4,7 @@ use Rattle.source_reading.specs.Pieces.{ArePieces, piece_of}
 use Rattle.source_flags.specs.declared.outside.Shut.TheVariants.{Instructions}
 use Rattle.source_flags.proofs.Apart.{same_outside}
 use Rattle.body_parts.proofs.HeldLemmas.{not_held}
-use Rattle.body_parts.proofs.PastLemmas.{local_past}
+use Rattle.body_parts.proofs.PastLemmas.{local_past, locals_unpassed}
 use Rattle.body_parts.proofs.held_parts.locals_in.Goals as goal
 
 pub returns-in_ok-found-clause-locals : goal.returns-in_ok-found-clause-locals
@@ -13,5 +13,5 @@ returns-in_ok-found-clause-locals c s f e h held =
 
 pub returns-else-held-clause-locals : goal.returns-else-held-clause-locals
 returns-else-held-clause-locals c s f e h held =
-    let none = not_held (LOCAL ∷ []) local_past s f h (sym held.local ∙ c.if-held.false) in
+    let none = not_held (LOCAL ∷ []) locals_unpassed s f h (sym held.local ∙ c.if-held.false) in
     subst (ArePieces c.args.nodes.now c.new.result) (sym none) (ap (map (piece_of c.args.nodes.now)) c.new.ensures)

@@ -6,22 +6,20 @@ use Rattle.source_flags.proofs.Gathered.{few_below}
 use Rattle.body_parts.proofs.InstructionLemmas.{code_is, one_in_range}
 use Rattle.body_parts.proofs.instructions.code.Goals as goal
 
-pub instruction-requires-clause-forest : goal.instruction-requires-clause-forest
-instruction-requires-clause-forest c =
+pub push_instruction-requires-clause-forest : goal.push_instruction-requires-clause-forest
+push_instruction-requires-clause-forest c =
     let m = part_read c.args.nodes.now c.args.found.now c.requires.parts.0 c.loop-piece.piece-index _ c.requires.parts.1 c.loop-piece-test.true in
     (m.of.below, m.below ∙ sym c.nodes_of-below.ensures)
 
-pub instruction-requires-clause-few : goal.instruction-requires-clause-few
-instruction-requires-clause-few c = few_below c.args.nodes.now _ _ c.nodes_of-below.result.now c.nodes_of-below.ensures c.requires.few
+pub push_instruction-requires-clause-few : goal.push_instruction-requires-clause-few
+push_instruction-requires-clause-few c = few_below c.args.nodes.now _ _ c.nodes_of-below.result.now c.nodes_of-below.ensures c.requires.few
 
 pub loop-piece-preserved : goal.loop-piece-preserved
 loop-piece-preserved c s a f x h are =
     let ps = instructions_of f in
     let i = c.loop-piece.piece-index in
     let m = part_read c.args.nodes.now c.args.found.now ps i _ are c.loop-piece-test.true in
-    c.in_ok-push.ensures.ok
-    ∙ ap (λ k. c.loop-piece.all ++ k ∷ [])
-    (c.in_ok-one.ensures s a f m.of x m.production (m.below ∙ sym c.nodes_of-below.ensures) (one_in_range s f h i m.of m.at))
+    c.in_ok-push_instruction.ensures s a f m.of x m.production (m.below ∙ sym c.nodes_of-below.ensures) (one_in_range s f h i m.of m.at)
     ∙ map_next (instruction s a f) ps i m.of c.loop-piece.all m.at (c.loop-piece.invariant s a f x h are)
 
 pub returns : goal.returns

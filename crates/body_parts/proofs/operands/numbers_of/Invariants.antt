@@ -2,7 +2,7 @@ use Rattle.std.proofs.Common.{◌≡◌, map, take}
 use Rattle.source_model.specs.Forest.{Forest}
 use Rattle.source_model.specs.Instructions.{label_number}
 use Rattle.source_model.specs.Source.{Source}
-use Rattle.source_parts.specs.CodePlaces.{IsCode}
+use Rattle.body_parts.specs.CodePlaces.{IsCode}
 use Rattle.source_reading.specs.Methods.{AreNames}
 use Rattle.body_parts.proofs.operands.numbers_of.Given as goal
 

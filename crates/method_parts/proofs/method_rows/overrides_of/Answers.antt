@@ -1,12 +1,12 @@
 use Rattle.std.proofs.Common.{[], ◌∷◌, map, ap, sym, ◌∙◌}
 use Rattle.ilasm_grammar.specs.declared.productions.TheConstants.{OVERRIDDEN_METHOD, OVERRIDDEN_SPEC}
 use Rattle.source_flags.proofs.Gathered.{has_bodies}
-use Rattle.source_parts.proofs.PastLemmas.{overrides_past}
+use Rattle.body_parts.proofs.PastLemmas.{overrides_unpassed}
 use Rattle.source_model.specs.Members.{overridden}
 use Rattle.body_parts.proofs.HeldLemmas.{not_held}
 use Rattle.method_parts.proofs.method_rows.overrides_of.Goals as goal
 
 pub returns-else-held : goal.returns-else-held
 returns-else-held c s a x f e h held =
-    let none = not_held (OVERRIDDEN_METHOD ∷ OVERRIDDEN_SPEC ∷ []) overrides_past s f (has_bodies s f h) (sym held.overrides ∙ c.if-held.false) in
+    let none = not_held (OVERRIDDEN_METHOD ∷ OVERRIDDEN_SPEC ∷ []) overrides_unpassed s f (has_bodies s f h) (sym held.overrides ∙ c.if-held.false) in
     c.new.ensures ∙ sym (ap (map (overridden s a f)) none)

@@ -1,4 +1,5 @@
-use Rattle.std.proofs.Common.{◌≡◌, length, ap, sym, arith}
+use Rattle.std.proofs.Common.{◌≡◌, ◌++◌, ◌∷◌, [], length, ap, sym, subst, arith}
+use Rattle.std.specs.Prelude.{IfOk}
 use Rattle.assembly_tree.specs.declared.body.Operand.TheVariants as operand
 use Rattle.ilasm_grammar.specs.declared.productions.TheConstants.{METHOD_REF}
 use Rattle.source_model.specs.Forest.{preorder, the}
@@ -6,7 +7,8 @@ use Rattle.source_reading.proofs.ReferenceLemmas.{sound_part}
 use Rattle.source_reading.proofs.SizeLemmas.{the_smaller}
 use Rattle.source_flags.specs.InRange.{IsInRange}
 use Rattle.source_flags.proofs.Gathered.{readable}
-use Rattle.body_parts.proofs.operands.method_operand.Goals as goal
+use Rattle.body_parts.specs.Operands.{instruction_with}
+use Rattle.body_parts.proofs.operands.push_method.Goals as goal
 
 pub method_ref-requires-clause-few : goal.method_ref-requires-clause-few
 method_ref-requires-clause-few c =
@@ -17,5 +19,7 @@ method_ref-requires-clause-few c =
 pub returns : goal.returns
 returns c s a f x e each some =
     let own = sound_part (IsInRange s) METHOD_REF f each some in
-    ap (λ r. operand.Method r)
-    (c.in_ok-reference.ensures s a x (the METHOD_REF f) (sym (c.the.ensures f e)) (own.0.fits, own.0.types) (readable s (the METHOD_REF f) own.1))
+    subst (λ o. IfOk c.push_method_ref.result (λ _. c.push_method_ref.new.all ≡ c.args.all.now ++ instruction_with c.args.op o ∷ []))
+    (ap (λ r. operand.Method r)
+    (c.in_ok-reference.ensures s a x (the METHOD_REF f) (sym (c.the.ensures f e)) (own.0.fits, own.0.types) (readable s (the METHOD_REF f) own.1)))
+    c.push_method_ref.ensures

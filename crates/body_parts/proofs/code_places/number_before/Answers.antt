@@ -2,7 +2,7 @@ use Rattle.std.proofs.Common.{sym, rules}
 use Rattle.std.specs.Prelude.{nat_lt}
 use Rattle.std.proofs.lemmas.List.Sorted.{IsPartitionPoint-from_clause, IsPartitionedBy-ltb}
 use Rattle.source_reading.proofs.OrderLemmas.{split_point}
-use Rattle.body_parts.proofs.body_labels.number_before.Goals as goal
+use Rattle.body_parts.proofs.code_places.number_before.Goals as goal
 
 pub returns : goal.returns
 returns c sorted =

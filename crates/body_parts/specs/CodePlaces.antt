@@ -1,0 +1,24 @@
+-- What is known of the code of a method (ECMA-335 II.5.4).
+use Rattle.std.specs.Prelude.{◌≡◌, ◌⊎◌, ℕ, ◌<◌, ◌^◌, List, [], Option, bytes_eq, find, length, map}
+use Rattle.std.specs.List.Sorted.{IsNonDecreasing}
+use Rattle.source_model.specs.Forest.{Forest}
+use Rattle.source_model.specs.Instructions.{instructions_of, labels, mnemonic_token}
+use Rattle.source_model.specs.Source.{Source}
+use Rattle.source_model.specs.Values.{name_text}
+use Rattle.source_reading.specs.Methods.{AreNames}
+use Rattle.source_reading.specs.Readers.{Reads}
+use Rattle.body_parts.specs.declared.code_places.Code.{Code}
+
+-- the first of some tokens that is this name
+abbrev pub first_named : Source → List ℕ → List ℕ → Option ℕ
+first_named s name tokens = find (λ token. bytes_eq (name_text s token) name) tokens
+
+-- these are the labels and the first tokens of the instructions of a method, which is given by what stands below its production
+pub record IsCode (x : Code) (s : Source) (f : Forest) : Type 0 where
+  pub reads : Reads x.reader s
+  pub labels-are : x.labels.now ≡ labels f
+  pub labelled : AreNames s x.labels.now
+  pub names-are : (x.names.now ≡ []) ⊎ (x.names.now ≡ map (name_text s) x.labels.now)
+  pub starts-are : x.starts.now ≡ map mnemonic_token (instructions_of f)
+  pub rising : IsNonDecreasing x.starts.now
+  pub few : length x.starts.now < 2 ^ 32

@@ -1,0 +1,118 @@
+//! The numbers that labels and braces stand for in the code of a method (ECMA-335 II.5.4, II.15.4.1, II.19).
+
+ghost use Rattle.std.specs.Prelude.{◌≡◌, IfOk, bytes_eq, slice_get};
+ghost use Rattle.std.specs.List.Sorted.{IsNonDecreasing};
+ghost use Rattle.body_parts.specs.CodePlaces.{IsCode, first_named};
+ghost use Rattle.il_lexer.specs.declared.types.TokenKind.TheVariants.{Name};
+ghost use Rattle.source_model.specs.Forest.{Forest};
+ghost use Rattle.source_model.specs.Instructions.{label_named, label_number, labels, number_at};
+ghost use Rattle.source_model.specs.Source.{Source};
+ghost use Rattle.source_reading.specs.Labels.{count_below};
+ghost use Rattle.source_model.specs.Values.{name_text};
+ghost use Rattle.source_reading.specs.Methods.{AreNames};
+ghost use Rattle.source_reading.specs.Readers.{IsOf, Reads};
+
+use il_base::NoMemory;
+use source_reading::declared::Declared;
+use source_reading::equality::are_equal;
+use source_reading::narrowing::word_of;
+use source_reading::reader::Reader;
+use std::alloc::Global;
+
+/// The labels of a method by the tokens of their names, and the first tokens of its instructions. Where the labels are many, `names`
+/// are theirs; else it is empty.
+#[derive(Clone, Copy)]
+pub struct Code<'a> {
+    pub reader: Reader<'a>,
+    pub labels: &'a [u32],
+    pub names: &'a Declared,
+    pub starts: &'a [u32],
+}
+
+impl<'a> Code<'a> {
+    /// How many instructions begin before a token, which is the number of the one that follows it.
+    pub fn number_at(&self, token: u32) -> u32
+        ensures { (s : Source) (f : Forest) → IsCode self.now s f → result ≡ number_at f token }
+    {
+        word_of(number_before(self.starts, token))
+    }
+
+    /// The number of the instruction that follows the label with a name, or of all instructions at the end.
+    pub fn label_number(&self, alloc: Global, token: u32) -> Result<u32, NoMemory>
+        ensures { (s : Source) (f : Forest) → IsCode self.now s f → IsOf s Name token → IfOk result (λ n. n ≡ label_number s f token) }
+    {
+        let found = self.label_at(alloc, token)?;
+        match found {
+            Some(label) => Ok(self.number_at(label)),
+            None => Ok(word_of(self.starts.len())),
+        }
+    }
+
+    // The first label with the name that a token is.
+    fn label_at(&self, alloc: Global, token: u32) -> Result<Option<u32>, NoMemory>
+        ensures { (s : Source) (f : Forest) → IsCode self.now s f → IsOf s Name token → IfOk result (λ l. l ≡ label_named s f token) }
+    {
+        if let Some(name) = self.reader.plain_name(token) {
+            return self.label_with(alloc, name);
+        }
+        let name = self.reader.name_text(alloc, token)?;
+        self.label_with(alloc, name.as_bytes())
+    }
+
+    // The first label with this name.
+    fn label_with(&self, alloc: Global, name: &[u8]) -> Result<Option<u32>, NoMemory>
+        ensures { (s : Source) (f : Forest) → IsCode self.now s f → IfOk result (λ l. l ≡ first_named s name.now (labels f)) }
+    {
+        if self.names.len() == 0 {
+            return first_named(alloc, &self.reader, self.labels, name);
+        }
+        match self.names.find(name) {
+            Some(k) => Ok(token_at(self.labels, k)),
+            None => Ok(None),
+        }
+    }
+}
+
+// The token at a place.
+fn token_at(tokens: &[u32], k: usize) -> Option<u32>
+    ensures { result ≡ slice_get tokens.now k }
+{
+    tokens.get(k).copied()
+}
+
+// The first of some tokens that is this name.
+fn first_named(
+    alloc: Global,
+    reader: &Reader,
+    tokens: &[u32],
+    name: &[u8],
+) -> Result<Option<u32>, NoMemory>
+    ensures { (s : Source) → Reads reader.now s → AreNames s tokens.now → IfOk result (λ l. l ≡ first_named s name.now tokens.now) }
+{
+    let mut left = tokens;
+    while let [token, rest @ ..] = left {
+        if is_named(alloc, reader, *token, name)? {
+            return Ok(Some(*token));
+        }
+        left = rest;
+    }
+    Ok(None)
+}
+
+// Whether a token is this name.
+fn is_named(alloc: Global, reader: &Reader, token: u32, name: &[u8]) -> Result<bool, NoMemory>
+    ensures { (s : Source) → Reads reader.now s → IsOf s Name token → IfOk result (λ b. b ≡ bytes_eq (name_text s token) name.now) }
+{
+    if let Some(text) = reader.plain_name(token) {
+        return Ok(are_equal(text, name));
+    }
+    let text = reader.name_text(alloc, token)?;
+    Ok(are_equal(text.as_bytes(), name))
+}
+
+// How many tokens are less than one, where they never fall.
+fn number_before(starts: &[u32], token: u32) -> usize
+    ensures { IsNonDecreasing starts.now → result ≡ count_below token starts.now }
+{
+    starts.partition_point(|start| *start < token)
+}
