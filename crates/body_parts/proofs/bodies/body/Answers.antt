@@ -1,4 +1,4 @@
-use Rattle.std.proofs.Common.{◌≡◌, [], ap, sym, subst, ◌∙◌, rules}
+use Rattle.std.proofs.Common.{◌≡◌, [], sym, subst, ◌∙◌, rules}
 use Rattle.source_model.specs.Instructions.{instructions_of}
 use Rattle.source_reading.specs.Pieces.{ArePieces, AreParts}
 use Rattle.body_parts.proofs.BodyLemmas.{method_in_range, no_body, nothing_found, some_body, something_found}

@@ -1,13 +1,13 @@
 use Rattle.std.proofs.Common.{◌≡◌, ◌+◌, ◌≤◌, ◌∷◌, [], slice_get, ap, sym, ◌∙◌, subst, length, refl, arith}
-use Rattle.std.specs.Prelude.{Some, true, false, ◌==◌}
+use Rattle.std.specs.Prelude.{Some, false, ◌==◌}
 use Rattle.std.proofs.lemmas.Option.{slice_get_read}
 use Rattle.ilasm_grammar.specs.declared.productions.TheConstants.{ITEM_NAME}
-use Rattle.source_model.specs.Forest.{is_among, leaf_at, parts, parts_outside}
+use Rattle.source_model.specs.Forest.{leaf_at, parts, parts_outside}
 use Rattle.source_model.specs.Instructions.{instruction_forms}
 use Rattle.source_reading.specs.Pieces.{ArePieces}
 use Rattle.source_reading.proofs.PieceLemmas.{mapped_below}
 use Rattle.source_flags.proofs.PastShut as pieces
-use Rattle.body_parts.specs.HeldItems.{head_forms, passed_forms}
+use Rattle.body_parts.specs.HeldItems.{passed_forms}
 use Rattle.body_parts.proofs.HeldLemmas as held
 use Rattle.body_parts.proofs.LineWalks as named
 use Rattle.body_parts.proofs.LineWalks.{forms_apart, name_among, no_name_among}

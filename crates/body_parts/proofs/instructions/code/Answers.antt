@@ -1,4 +1,4 @@
-use Rattle.std.proofs.Common.{◌≤◌, ◌++◌, ◌∷◌, [], length, map, ap, sym, ◌∙◌, arith}
+use Rattle.std.proofs.Common.{◌≤◌, length, map, ap, sym, ◌∙◌, arith}
 use Rattle.source_model.specs.Instructions.{instructions_of}
 use Rattle.source_model.specs.Operands.{instruction}
 use Rattle.source_reading.proofs.PieceLemmas.{all_taken, map_next, part_read}

@@ -1,5 +1,5 @@
-use Rattle.std.proofs.Common.{◌≡◌, [], ◌∷◌, ap, sym, subst, ◌∙◌}
-use Rattle.std.specs.Prelude.{IfOk, not}
+use Rattle.std.proofs.Common.{[], ◌∷◌, sym, subst, ◌∙◌}
+use Rattle.std.specs.Prelude.{IfOk}
 use Rattle.ilasm_grammar.specs.declared.productions.TheConstants.{DEF_ARG, DEF_ARGS_OPT_SOME}
 use Rattle.source_model.specs.Forest.{child, parts}
 use Rattle.source_model.specs.Parameters.{parameters}

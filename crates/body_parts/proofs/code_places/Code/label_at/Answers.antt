@@ -1,4 +1,4 @@
-use Rattle.std.proofs.Common.{◌≡◌, ap, subst, ◌∙◌}
+use Rattle.std.proofs.Common.{◌≡◌, subst, ◌∙◌}
 use Rattle.std.specs.Prelude.{IfOk, IfSome}
 use Rattle.source_model.specs.Instructions.{labels}
 use Rattle.source_model.specs.Values.{name_text}

@@ -1,5 +1,3 @@
-use Rattle.std.proofs.Common.{◌∙◌}
-use Rattle.source_model.specs.Nodes.{Node}
 use Rattle.body_parts.proofs.VariableParts.{locals_named}
 use Rattle.body_parts.proofs.variables.Variables.read.Goals as goal
 
