@@ -1,10 +1,10 @@
 -- The hash by which a content is found again.
 use Rattle.std.specs.Prelude.{ℕ, ◌*◌, ◌%◌, ◌^◌, List, fold, bit_xor}
 
--- one step of FNV-1a at 64 bits
+-- one step of FNV-1 at 64 bits, with the byte doubled
 unfoldable pub mix : ℕ → ℕ → ℕ
-mix hash byte = (bit_xor hash byte * 0x00000100000001B3) % (2 ^ 64)
+mix hash byte = bit_xor ((hash * 0x00000100000001B3) % (2 ^ 64)) (2 * byte)
 
--- the FNV-1a hash of a content
+-- the hash of a content
 unfoldable pub hash_of : List ℕ → ℕ
 hash_of content = fold mix 0xCBF29CE484222325 content

@@ -41,6 +41,19 @@ impl Chains {
         }
     }
 
+    /// Makes room for so many entries, where there are none yet.
+    pub fn make_room(&mut self, alloc: Global, _bytes: &[u8], count: usize) -> Result<(), NoMemory>
+        requires { Finds self.old _bytes.now }
+        ensures finds { Finds self.new _bytes.now }
+        ensures same { self.new.places ≡ self.old.places }
+    {
+        if self.places.is_empty() {
+            self.newest = HashPlaces::with_room(alloc, count)?;
+            self.places.reserve(count)?;
+        }
+        Ok(())
+    }
+
     /// The index of the entry with this content.
     pub fn find(&self, bytes: &[u8], content: &[u8]) -> Option<u32>
         requires { Finds self.now bytes.now }
@@ -119,7 +132,8 @@ fn are_equal(one: &[u8], other: &[u8]) -> bool
     true
 }
 
-/// The FNV-1a hash of a content.
+/// The FNV-1 hash of a content, with each byte doubled. Contents that differ in their last byte alone, as numbered names
+/// do, stand near one another in the table, in every other slot.
 #[tactic(auto, unfolding(crate::specs::Hash::hash_of))]
 fn hash_of(content: &[u8]) -> u64
     ensures { result ≡ hash_of content.now }
@@ -133,10 +147,10 @@ fn hash_of(content: &[u8]) -> u64
 
 const START: u64 = 0xCBF2_9CE4_8422_2325;
 
-// One step of FNV-1a.
+// One step of it.
 #[tactic(auto, unfolding(crate::specs::Hash::mix))]
 fn mix(hash: u64, byte: u8) -> u64
     ensures { result ≡ mix hash byte }
 {
-    (hash ^ u64::from(byte)).wrapping_mul(0x0000_0100_0000_01B3)
+    hash.wrapping_mul(0x0000_0100_0000_01B3) ^ (2 * u64::from(byte))
 }

@@ -35,6 +35,16 @@ impl Entries {
         self.chains.find(self.bytes.as_slice(), content)
     }
 
+    /// Makes room for so many entries, where there are none yet.
+    pub fn make_room(&mut self, alloc: Global, count: usize) -> Result<(), NoMemory>
+        requires { Finds self.old.chains self.old.bytes }
+        ensures finds { Finds self.new.chains self.new.bytes }
+        ensures bytes { self.new.bytes ≡ self.old.bytes }
+        ensures places { self.new.chains.places ≡ self.old.chains.places }
+    {
+        self.chains.make_room(alloc, self.bytes.as_slice(), count)
+    }
+
     /// Where the bytes end.
     pub fn end(&self) -> u32
         requires { length self.now.bytes < 2 ^ 29 }

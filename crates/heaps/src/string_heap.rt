@@ -38,6 +38,13 @@ impl StringHeap {
         Ok(StringHeap { entries })
     }
 
+    /// Makes room for so many texts, where there are none yet.
+    pub fn make_room(&mut self, alloc: Global, count: usize) -> Result<(), NoMemory>
+        ensures { self.new ≡ self.old }
+    {
+        self.entries.make_room(alloc, count)
+    }
+
     /// The index of a text: the old one where the text is there, and else that of a new entry at the
     /// end. After want of memory the heap is as it was.
     pub fn add(&mut self, content: &[u8]) -> Result<u32, NoMemory>
