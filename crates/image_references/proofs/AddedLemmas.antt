@@ -1,13 +1,11 @@
 -- What one addition to a heap or a table leaves.
-use Rattle.std.proofs.Common.{◌≡◌, ◌⊎◌, ap, refl, sym, ◌∙◌, subst, ℕ, ◌+◌, ◌*◌, ◌^◌, ◌<◌, ◌≤◌, ◌-◌, List, [], ◌∷◌, ◌++◌, length, Option, Some, None, Result, Ok, Err, inl, inr, arith}
-use Rattle.std.specs.Prelude.{IfOk, OnOk, OnErr}
+use Rattle.std.proofs.Common.{◌≡◌, ◌⊎◌, ap, refl, ◌∙◌, subst, ℕ, ◌+◌, ◌*◌, ◌^◌, ◌≤◌, List, [], ◌∷◌, ◌++◌, length, Some, None, Result, Ok, Err, inl, inr, arith}
+use Rattle.std.specs.Prelude.{IfOk}
 use Rattle.std.proofs.lemmas.List.{length-append}
 use Rattle.heaps.specs.Heap.{Heap}
 use Rattle.assembly_tree.specs.Weight.{name_weight}
 use Rattle.sig_codec.specs.Spelling.{Notation, writing, SpellsType}
-use Rattle.sig_codec.specs.Tokens.{IsTypeToken}
 use Rattle.type_terms.specs.declared.name.TypeName.{TypeName}
-use Rattle.type_terms.specs.declared.term.Owner.{Owner, out-Owner}
 use Rattle.type_terms.specs.declared.term.Owner.TheVariants as owners
 use Rattle.type_terms.specs.declared.term.SigType.{SigType}
 use Rattle.image_references.specs.Blobs.{HoldsBlob, KeepsBlobs}
@@ -16,7 +14,7 @@ use Rattle.image_references.specs.Found.{token_in}
 use Rattle.image_references.specs.Indexes.{IsToken}
 use Rattle.image_references.specs.KnownTokens.{names_apart, types_apart, layer_token}
 use Rattle.image_references.specs.NameTokens.{HasNameToken, LiesOn, AddsName, AreNames, Learns}
-use Rattle.image_references.specs.Noted.{longest, IsNamed, IsSpecified}
+use Rattle.image_references.specs.Noted.{IsNamed, IsSpecified}
 use Rattle.image_references.specs.References.{tokens_of, size, HasSignature, IsSpecToken, one_cell, IsNameRow, IsSpecRow, Grows, Goes, AreKnown}
 use Rattle.image_references.specs.Rows.{IsRowAt, EachRow, Lacks}
 use Rattle.image_references.specs.Texts.{KeepsTexts}
@@ -26,7 +24,7 @@ use Rattle.image_references.specs.declared.references.References.{References}
 use Rattle.image_references.specs.declared.row_set.Cells.{Cells}
 use Rattle.image_references.proofs.EachRowLemmas.{each_more, one_of}
 use Rattle.image_references.proofs.WidenedLemmas.{wide_name}
-use Rattle.image_references.proofs.GrowthLemmas.{widened, grows_refl, grows_trans, still, still_known, learns_one, token_kept, all_and, tokens_kept, signature_kept}
+use Rattle.image_references.proofs.GrowthLemmas.{widened, grows_refl, grows_trans, still, still_known, learns_one, all_and, tokens_kept, signature_kept}
 use Rattle.image_references.proofs.NameLemmas.{found_last, holds_of_found}
 use Rattle.image_references.proofs.PathLemmas.{goes_on}
 use Rattle.image_references.proofs.SizeLemmas.{names_grown, blobs_grown, specs_grown, name_weight_is, declared_kind, spec_kind}

@@ -20,7 +20,7 @@ use Rattle.image_references.specs.KnownTokens.{methods_apart, fields_apart, loca
 use Rattle.image_references.specs.Members.{Leaves, HasLocals}
 use Rattle.image_references.specs.NamesWeight.{named_weight, instruction_names, clause_names, names_weight}
 use Rattle.image_references.specs.Noted.{IsOwned}
-use Rattle.image_references.specs.References.{size, Grows, AreKnown}
+use Rattle.image_references.specs.References.{Grows, AreKnown}
 use Rattle.image_references.specs.Units.{bytes_of_units}
 use Rattle.image_references.specs.Writable.{IsMethodWritable, IsMethodRefWritable, IsFieldRefWritable, IsOperandWritable, IsInstructionWritable, IsHandledWritable, IsClauseWritable}
 use Rattle.image_references.specs.declared.references.References.{References}

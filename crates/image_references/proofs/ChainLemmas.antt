@@ -4,7 +4,7 @@ use Rattle.std.specs.Prelude.{slice_get}
 use Rattle.std.proofs.lemmas.Option.{slice_get_within, same_Some}
 use Rattle.std.proofs.lemmas.List.{length-append}
 use Rattle.std.proofs.lemmas.Bool.{cases_eq}
-use Rattle.image_references.specs.Chains.{IsChained, HasHash}
+use Rattle.image_references.specs.Chains.{IsLinked, IsChained, HasHash}
 
 pub snoc_cases : {X : Type 0} (xs : List X) (x y : X) (k : ℕ) → slice_get (xs ++ x ∷ []) k ≡ Some y
     → (slice_get xs k ≡ Some y) ⊎ ((k ≡ length xs) × (y ≡ x))
@@ -25,6 +25,19 @@ snoc_new (z ∷ xs) x zero e = absurd (omega arith)
 snoc_new (z ∷ xs) x (suc n) e = snoc_new xs x n (omega arith)
 
 module _ {X : Type 0} (hash : X → ℕ) where
+  pub IsLinked-none : (newest : ℕ → Option ℕ) → ((h : ℕ) → newest h ≡ None) → IsLinked hash newest [] []
+  IsLinked-none newest none = record {
+    paired = refl;
+    reached = λ k c at. absurd cc;
+    begun = λ h m at. absurd (cc (none h));
+    linked = λ m j c at next. absurd cc;
+    complete = λ m k c d next at. absurd cc;
+  }
+
+  -- what is said of items that may stand twice holds of those that don't
+  pub links : (newest : ℕ → Option ℕ) (cs : List X) (ns : List (Option ℕ)) → IsChained hash newest cs ns → IsLinked hash newest cs ns
+  links newest cs ns ok = record { paired = ok.paired; reached = ok.reached; begun = ok.begun; linked = ok.linked; complete = ok.complete }
+
   pub IsChained-none : (newest : ℕ → Option ℕ) → ((h : ℕ) → newest h ≡ None) → IsChained hash newest [] []
   IsChained-none newest none = record {
     paired = refl;
@@ -39,8 +52,7 @@ module _ {X : Type 0} (hash : X → ℕ) where
   hash_old : (cs : List X) (c : X) (m h : ℕ) → HasHash hash cs m h → HasHash hash (cs ++ c ∷ []) m h
   hash_old cs c m h (d, at, e) = (d, snoc_old cs c d m at, e)
 
-  module _ (newest later : ℕ → Option ℕ) (cs : List X) (ns : List (Option ℕ)) (c : X) (ok : IsChained hash newest cs ns)
-      (absent : (k : ℕ) → slice_get cs k ≡ Some c → ⊥)
+  module _ (newest later : ℕ → Option ℕ) (cs : List X) (ns : List (Option ℕ)) (c : X) (ok : IsLinked hash newest cs ns)
       (here : later (hash c) ≡ Some (length cs))
       (others : (q : ℕ) → (q ≡ hash c → ⊥) → later q ≡ newest q) where
     pushed_reached : (k : ℕ) (d : X) → slice_get (cs ++ c ∷ []) k ≡ Some d → (m : ℕ) × (later (hash d) ≡ Some m) × (k ≤ m)
@@ -93,6 +105,19 @@ module _ {X : Type 0} (hash : X → ℕ) where
       ]
     ]
 
+    pub IsLinked-push : IsLinked hash later (cs ++ c ∷ []) (ns ++ newest (hash c) ∷ [])
+    IsLinked-push = record {
+      paired = length-append ns (newest (hash c) ∷ []) ∙ ap (λ n. n + 1) ok.paired ∙ sym (length-append cs (c ∷ []));
+      reached = pushed_reached;
+      begun = pushed_begun;
+      linked = pushed_linked;
+      complete = pushed_complete;
+    }
+
+  module _ (newest later : ℕ → Option ℕ) (cs : List X) (ns : List (Option ℕ)) (c : X) (ok : IsChained hash newest cs ns)
+      (absent : (k : ℕ) → slice_get cs k ≡ Some c → ⊥)
+      (here : later (hash c) ≡ Some (length cs))
+      (others : (q : ℕ) → (q ≡ hash c → ⊥) → later q ≡ newest q) where
     pushed_distinct : (j k : ℕ) (d : X) → slice_get (cs ++ c ∷ []) j ≡ Some d → slice_get (cs ++ c ∷ []) k ≡ Some d → j ≡ k
     pushed_distinct j k d p q = elim (snoc_cases cs c d j p) [
       | inl old ↦ elim (snoc_cases cs c d k q) [
@@ -106,14 +131,31 @@ module _ {X : Type 0} (hash : X → ℕ) where
     ]
 
     pub IsChained-push : IsChained hash later (cs ++ c ∷ []) (ns ++ newest (hash c) ∷ [])
-    IsChained-push = record {
-      paired = length-append ns (newest (hash c) ∷ []) ∙ ap (λ n. n + 1) ok.paired ∙ sym (length-append cs (c ∷ []));
-      reached = pushed_reached;
-      begun = pushed_begun;
-      linked = pushed_linked;
-      complete = pushed_complete;
-      distinct = pushed_distinct;
-    }
+    IsChained-push =
+        let pushed = IsLinked-push newest later cs ns c (links newest cs ns ok) here others in
+        record {
+          paired = pushed.paired;
+          reached = pushed.reached;
+          begun = pushed.begun;
+          linked = pushed.linked;
+          complete = pushed.complete;
+          distinct = pushed_distinct;
+        }
+
+  module _ (newest : ℕ → Option ℕ) (cs : List X) (ns : List (Option ℕ)) (ok : IsLinked hash newest cs ns) (d : X) where
+    -- a search goes on from an item m that isn't d
+    pub next_smaller : (m j : ℕ) (c : X) → slice_get cs m ≡ Some c → slice_get ns m ≡ Some (Some j) → j < m
+    next_smaller m j c at next = (ok.linked m j c at next).0
+
+    pub next_hashed : (m j : ℕ) (c : X) → slice_get cs m ≡ Some c → slice_get ns m ≡ Some (Some j) → hash c ≡ hash d → HasHash hash cs j (hash d)
+    next_hashed m j c at next same = rw same at (ok.linked m j c at next).1
+
+    pub next_ahead : (m k : ℕ) (c : X) (next : Option ℕ) → slice_get cs m ≡ Some c → slice_get ns m ≡ Some next → hash c ≡ hash d
+        → (c ≡ d → ⊥) → slice_get cs k ≡ Some d → k ≤ m → (j : ℕ) × (next ≡ Some j) × (k ≤ j)
+    next_ahead m k c next at link same other here below = elim (cases_eq k m) [
+      | inl e ↦ absurd (other (same_Some c d (sym at ∙ ap (slice_get cs) (sym e) ∙ here)))
+      | inr n ↦ ok.complete m k c d next at link here (omega arith) (sym same)
+    ]
 
   module _ (newest : ℕ → Option ℕ) (cs : List X) (ns : List (Option ℕ)) (ok : IsChained hash newest cs ns) (d : X) where
     -- the search begins at the newest item with the hash of d

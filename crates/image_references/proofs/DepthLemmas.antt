@@ -1,11 +1,8 @@
 -- Depth by the variant of a type.
-use Rattle.std.proofs.Common.{◌≡◌, ap, ◌∙◌, refl, ℕ, ℤ, zero, suc, ◌+◌, ◌*◌, ◌<◌, ◌≤◌, max, Bool, List, [], ◌∷◌, map, drop, arith}
-use Rattle.type_terms.specs.declared.name.TypeName.{TypeName}
+use Rattle.std.proofs.Common.{◌≡◌, ap, ◌∙◌, ℕ, zero, suc, ◌≤◌, List, [], ◌∷◌, map, drop, arith}
 use Rattle.type_terms.specs.declared.term.Owner.{Owner, fold_out-Owner, map-Owner}
 use Rattle.type_terms.specs.declared.term.Owner.TheVariants as owners
-use Rattle.type_terms.specs.declared.term.Owner.TheOpen as layer
 use Rattle.type_terms.specs.declared.term.SigType.{SigType, fold_out-SigType, map-SigType, out-SigType}
-use Rattle.type_terms.specs.declared.term.SigType.TheVariants as type
 use Rattle.type_terms.specs.Depth.{depth, owner_depth, depth_step, owner_depth_step, largest}
 use Rattle.sig_codec.specs.Spelling.{Layer}
 

@@ -1,9 +1,8 @@
 -- Rows of which each is what it should be, as rows, texts and names come.
-use Rattle.std.proofs.Common.{◌≡◌, ◌⊎◌, inl, inr, ap, refl, sym, ◌∙◌, subst, ℕ, List, [], ◌∷◌, ◌++◌, length, Some, Result, Ok, Err}
-use Rattle.std.specs.Prelude.{slice_get, OnOk, OnErr, IfOk}
-use Rattle.std.proofs.lemmas.List.{append-nil, append_assoc}
+use Rattle.std.proofs.Common.{◌≡◌, ◌⊎◌, inl, inr, ap, refl, sym, ◌∙◌, subst, ℕ, List, [], ◌∷◌, ◌++◌, Some, Result, Ok, Err}
+use Rattle.std.specs.Prelude.{slice_get, OnOk, OnErr}
+use Rattle.std.proofs.lemmas.List.{append_assoc}
 use Rattle.heaps.specs.Heap.{Heap}
-use Rattle.type_terms.specs.declared.name.Scope.{Scope}
 use Rattle.type_terms.specs.declared.name.Scope.TheVariants.{Extern}
 use Rattle.type_terms.specs.declared.name.TypeId.{TypeId}
 use Rattle.type_terms.specs.declared.name.TypeName.{TypeName}

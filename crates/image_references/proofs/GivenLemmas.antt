@@ -1,5 +1,5 @@
 -- Methods with their arguments, and the tokens that locals and texts are given.
-use Rattle.std.proofs.Common.{◌≡◌, ◌⊎◌, ap, refl, sym, subst, ℕ, zero, suc, ◌-◌, ◌+◌, ◌*◌, ◌≤◌, ◌^◌, ◌<◌, List, [], ◌∷◌, ◌++◌, length, Option, Some, None, Result, Ok, Err, arith}
+use Rattle.std.proofs.Common.{◌≡◌, ◌⊎◌, ap, refl, sym, subst, ℕ, zero, suc, ◌+◌, ◌*◌, ◌≤◌, ◌^◌, ◌<◌, List, [], ◌∷◌, ◌++◌, length, Option, Some, None, Result, Ok, Err, arith}
 use Rattle.std.specs.Prelude.{IfOk, OnOk, sum_by}
 use Rattle.std.proofs.lemmas.List.{length-append, length-drop}
 use Rattle.assembly_tree.specs.Weight.{type_weight, owner_weight, signature_weight, method_ref_weight, optional}

@@ -1,27 +1,13 @@
 -- What has been given stays as more comes.
-use base.Stored.{Coded}
-use Rattle.std.proofs.Common.{◌≡◌, ap, refl, sym, ◌∙◌, subst, ℕ, ◌<◌, ◌^◌, cond, List, [], ◌∷◌, ◌++◌, length, Some, inl, inr, arith}
+use Rattle.std.proofs.Common.{◌≡◌, ap, refl, sym, ◌∙◌, subst, ℕ, List, [], ◌∷◌, ◌++◌, Some}
 use Rattle.std.specs.List.{AllByRecursion}
-use Rattle.std.proofs.lemmas.Bool.{cases_Bool}
 use Rattle.std.proofs.lemmas.List.{append-nil, append_assoc}
 use Rattle.sig_codec.specs.Spelling.{Notation}
-use Rattle.sig_codec.specs.Signature.{SpellsMethod, SpellsField, SpellsLocals, SpellsInstantiation}
-use Rattle.sig_codec.specs.Spelling.{SpellsType}
-use Rattle.type_terms.specs.declared.name.TypeName.{TypeName}
-use Rattle.type_terms.specs.declared.reference.FieldRef.{FieldRef}
 use Rattle.type_terms.specs.declared.reference.MethodRef.{MethodRef}
-use Rattle.type_terms.specs.declared.term.Owner.{Owner, out-Owner}
-use Rattle.type_terms.specs.declared.term.Owner.TheOpen.{Owner-F, Name, Spec}
-use Rattle.type_terms.specs.declared.term.SigType.{SigType}
-use Rattle.image_references.specs.Blobs.{HoldsBlob, KeepsBlobs}
-use Rattle.image_references.specs.Found.{same_term, token_in}
-use Rattle.image_references.specs.KnownTokens.{layer_token, owner_token, names_apart, types_apart}
-use Rattle.image_references.specs.NameTokens.{AreNames, Learns}
-use Rattle.image_references.specs.References.{tokens_of, HasSignature, IsSpecToken, IsMemberRow, HasMemberToken, HasGenericToken, of_declared, of_referred, IsMethodToken, plain, instance, IsFieldToken, IsLocalsToken, IsTextToken, AreKnown, Grows, Widens}
-use Rattle.image_references.specs.Rows.{IsRowAt}
-use Rattle.image_references.specs.Texts.{HoldsText, KeepsTexts}
+use Rattle.type_terms.specs.declared.term.Owner.{Owner}
+use Rattle.image_references.specs.NameTokens.{Learns}
+use Rattle.image_references.specs.References.{tokens_of, HasSignature, HasGenericToken, IsMethodToken, AreKnown, Grows, Widens}
 use Rattle.image_references.specs.TypePaths.{GoesOn}
-use Rattle.image_references.specs.Units.{HoldsUnits, KeepsUnits}
 use Rattle.image_references.specs.declared.references.References.{References}
 use Rattle.image_references.specs.declared.row_set.Cells.{Cells}
 use Rattle.image_references.proofs.NameLemmas.{all_more}

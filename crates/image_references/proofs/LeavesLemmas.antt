@@ -1,7 +1,6 @@
 -- Steps that give a number to something, one after another; a text more, rows more, and tokens that have been given.
-use base.Stored.{Coded}
-use Rattle.std.proofs.Common.{◌≡◌, ◌⊎◌, ap, refl, sym, ◌∙◌, subst, ℕ, ◌+◌, ◌*◌, ◌^◌, ◌<◌, ◌≤◌, ◌-◌, List, [], ◌∷◌, ◌++◌, length, Some, Result, Ok, Err, inl, inr, arith}
-use Rattle.std.specs.Prelude.{IfOk, OnOk}
+use Rattle.std.proofs.Common.{◌≡◌, ◌⊎◌, ap, refl, sym, ◌∙◌, subst, ℕ, ◌+◌, ◌^◌, ◌<◌, ◌≤◌, ◌-◌, List, [], ◌∷◌, ◌++◌, length, Result, Ok, Err, inl, inr, arith}
+use Rattle.std.specs.Prelude.{IfOk}
 use Rattle.std.specs.List.{AllByRecursion}
 use Rattle.std.proofs.lemmas.List.{append-nil}
 use Rattle.assembly_tree.specs.Weight.{owner_weight}
@@ -10,7 +9,7 @@ use Rattle.type_terms.specs.declared.term.Owner.{Owner}
 use Rattle.image_references.specs.Members.{Leaves, IsTextAt, IsPlaced}
 use Rattle.image_references.specs.NameTokens.{Learns}
 use Rattle.image_references.specs.Noted.{IsOwned}
-use Rattle.image_references.specs.References.{tokens_of, size, Grows, AreKnown}
+use Rattle.image_references.specs.References.{size, Grows, AreKnown}
 use Rattle.image_references.specs.Texts.{HoldsText, KeepsTexts}
 use Rattle.image_references.specs.declared.references.References.{References}
 use Rattle.image_references.specs.declared.row_set.Cells.{Cells}

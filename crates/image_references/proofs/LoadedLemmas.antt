@@ -1,12 +1,11 @@
 -- One text more in the heap of user strings.
-use Rattle.std.proofs.Common.{◌≡◌, ◌⊎◌, ap, refl, sym, ◌∙◌, subst, ℕ, zero, suc, ◌+◌, ◌*◌, ◌/◌, ◌%◌, ◌^◌, ◌<◌, Bool, true, false, cond, List, [], ◌∷◌, ◌++◌, length, Some, Result, Ok, Err, inl, inr, arith}
+use Rattle.std.proofs.Common.{◌≡◌, ◌⊎◌, ap, refl, sym, ◌∙◌, subst, ℕ, zero, suc, ◌+◌, ◌*◌, ◌/◌, ◌%◌, Bool, true, false, cond, List, [], ◌∷◌, ◌++◌, length, Some, Result, Ok, Err, inl, inr, arith}
 use Rattle.std.specs.Prelude.{slice_get, Contains, IfOk, OnOk, nat_lt}
-use Rattle.std.specs.Int.{w16, to_le_bytes}
 use Rattle.std.specs.List.{AllByRecursion}
 use Rattle.std.proofs.lemmas.List.{length-append}
-use Rattle.std.proofs.lemmas.List.Elements.{Contains-append_left, Contains-append_cases}
+use Rattle.std.proofs.lemmas.List.Elements.{Contains-append_cases}
 use Rattle.il_base.specs.Numbers.{packed_bytes}
-use Rattle.assembly_tree.specs.Room.{packed_width, entry_size, room_of_texts}
+use Rattle.assembly_tree.specs.Room.{packed_width, entry_size}
 use Rattle.heaps.specs.Content.{HasUnits}
 use Rattle.heaps.specs.Heap.{Heap, Grows}
 use Rattle.heaps.specs.Written.{IsUnitsEntry}

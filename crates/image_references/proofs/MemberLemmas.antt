@@ -1,5 +1,5 @@
 -- Rows of members that have been found or added, and the tokens that fields and methods are given.
-use Rattle.std.proofs.Common.{◌≡◌, ◌≢◌, ◌⊎◌, inl, inr, refl, sym, subst, ℕ, ◌+◌, ◌*◌, ◌≤◌, ◌-◌, List, [], ◌∷◌, ◌++◌, length, Some, Result, Ok, Err, arith}
+use Rattle.std.proofs.Common.{◌≡◌, ◌≢◌, ◌⊎◌, inl, inr, refl, sym, subst, ℕ, ◌+◌, ◌≤◌, List, [], ◌∷◌, ◌++◌, length, Some, Result, Ok, Err, arith}
 use Rattle.std.specs.Prelude.{IfOk, OnOk}
 use Rattle.assembly_tree.specs.Weight.{field_ref_weight, owner_weight, type_weight}
 use Rattle.sig_codec.specs.Spelling.{Notation}

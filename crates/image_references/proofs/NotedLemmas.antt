@@ -1,10 +1,9 @@
 -- A type is noted once its parts are.
-use Rattle.std.proofs.Common.{◌≡◌, ap, refl, sym, ◌∙◌, subst, ℕ, ℤ, ◌+◌, ◌*◌, ◌/◌, ◌%◌, ◌^◌, ◌<◌, ◌≤◌, Bool, List, [], ◌∷◌, length, Option, Some, inl, inr, arith}
+use Rattle.std.proofs.Common.{◌≡◌, ap, sym, ◌∙◌, subst, ℕ, ◌+◌, ◌<◌, ◌≤◌, Bool, List, [], ◌∷◌, length, Option, Some, inl, inr, arith}
 use Rattle.std.specs.Prelude.{sum_by}
 use Rattle.std.proofs.lemmas.List.Sums.{sum_by-cons}
 use Rattle.type_terms.specs.declared.name.TypeName.{TypeName}
-use Rattle.type_terms.specs.declared.term.Primitive.{Primitive}
-use Rattle.type_terms.specs.declared.term.Owner.{Owner, out-Owner, fold_out-Owner, map-Owner}
+use Rattle.type_terms.specs.declared.term.Owner.{Owner, fold_out-Owner, map-Owner}
 use Rattle.type_terms.specs.declared.term.Owner.TheVariants as owners
 use Rattle.type_terms.specs.declared.term.Owner.TheOpen as layer
 use Rattle.type_terms.specs.declared.term.SigType.{SigType, out-SigType}
@@ -20,8 +19,8 @@ use Rattle.image_references.specs.References.{tokens_of, size, Grows, AreKnown}
 use Rattle.image_references.specs.Writable.{AreWritable}
 use Rattle.image_references.specs.declared.references.References.{References}
 use Rattle.image_references.proofs.GrowthLemmas.{grows_refl, grows_trans, tokens_kept}
-use Rattle.image_references.proofs.SpellingSizes.{layer_longest, layer_weight, longest-out, weight-out, longest_at, weight_at, longest-args, weight-args}
-use Rattle.image_references.proofs.WritableLemmas.{still_spelled, all_still_spelled, spelling_widens, still_writable_each, of_more}
+use Rattle.image_references.proofs.SpellingSizes.{layer_longest, layer_weight, longest_at, weight_at, longest-args, weight-args}
+use Rattle.image_references.proofs.WritableLemmas.{still_spelled, still_writable_each, of_more}
 
 pub kind_of : (token : ℕ) → IsDeclared token → IsTypeToken token
 kind_of token (inl e) = inl e

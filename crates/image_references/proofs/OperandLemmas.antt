@@ -1,5 +1,5 @@
 -- What an instruction names and what a clause catches, by their variants.
-use Rattle.std.proofs.Common.{◌≡◌, ap, sym, subst, ℕ, ◌*◌, ◌≤◌, List, length, arith}
+use Rattle.std.proofs.Common.{◌≡◌, ap, sym, subst, ℕ, List, arith}
 use Rattle.assembly_tree.specs.Weight.{owner_weight, method_ref_weight, field_ref_weight, handled_weight}
 use Rattle.assembly_tree.specs.declared.body.ClauseKind.{ClauseKind}
 use Rattle.assembly_tree.specs.declared.body.ClauseKind.TheVariants as kind

@@ -1,7 +1,7 @@
 -- Where cells stand among the rows of a set.
 use Rattle.std.proofs.Common.{◌⊎◌, inl, inr, ◌-◌, ◌≡◌, ap, refl, sym, ◌∙◌, subst, ℕ, zero, suc, ◌<◌, Bool, true, false, ◌||◌, ◌&&◌, List, [], ◌∷◌, ◌++◌, length, get_or, Some, true≢false, nat_eq, arith}
 use Rattle.std.specs.Prelude.{slice_get}
-use Rattle.image_references.specs.Rows.{IsRowAt, Lacks, AreDistinct, are_same, LeadsTo}
+use Rattle.image_references.specs.Rows.{IsRowAt, Lacks, AreDistinct, are_same}
 use Rattle.std.specs.Bool.{Decides}
 use Rattle.std.specs.Cmp.{first_so, second_so}
 use Rattle.std.specs.List.{position, list_any}

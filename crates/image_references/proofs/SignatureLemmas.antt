@@ -1,10 +1,10 @@
 -- Signatures as blobs: what has a spelling once its types are noted, how much room the blob takes, and what it leaves.
-use Rattle.std.proofs.Common.{◌≡◌, ap, refl, sym, ◌∙◌, subst, ℕ, ◌+◌, ◌^◌, ◌<◌, ◌≤◌, List, [], ◌∷◌, length, Result, Ok, Err, arith}
+use Rattle.std.proofs.Common.{◌≡◌, ap, subst, ℕ, ◌+◌, ◌^◌, ◌≤◌, List, length, Result, Ok, Err, arith}
 use Rattle.std.specs.Prelude.{sum_by, IfOk}
 use Rattle.assembly_tree.specs.Weight.{type_weight, signature_weight}
 use Rattle.type_terms.specs.declared.reference.MethodSig.{MethodSig}
 use Rattle.type_terms.specs.declared.term.SigType.{SigType}
-use Rattle.sig_codec.specs.Spellable.{CanBePacked, HaveSpellings, MethodHasSpelling, PropertyHasSpelling, LocalsHaveSpelling, InstantiationHasSpelling}
+use Rattle.sig_codec.specs.Spellable.{HaveSpellings, MethodHasSpelling, PropertyHasSpelling}
 use Rattle.sig_codec.specs.Spelling.{Notation, writing}
 use Rattle.image_references.specs.Blobs.{HoldsBlob}
 use Rattle.image_references.specs.Noted.{longest, IsNoted, AreNoted, IsSigned}

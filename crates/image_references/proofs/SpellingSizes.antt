@@ -1,19 +1,15 @@
 -- How many bytes a spelling has at most, and what a type weighs by its layer.
-use Rattle.std.proofs.Common.{◌≡◌, ◌∙◌, ap, refl, sym, ℕ, ℤ, ◌+◌, ◌*◌, ◌≤◌, Bool, true, false, cond, List, [], ◌∷◌, ◌++◌, length, map, take, drop, Option, None, Some, zero, suc, arith}
+use Rattle.std.proofs.Common.{◌≡◌, ◌∙◌, ap, sym, ℕ, ℤ, ◌+◌, ◌*◌, ◌≤◌, List, [], ◌∷◌, ◌++◌, length, map, take, drop, Option, None, Some, zero, suc, arith}
 use Rattle.std.specs.Prelude.{sum, sum_by}
 use Rattle.std.proofs.lemmas.List.{length-append, take-append-drop}
 use Rattle.std.proofs.lemmas.List.Sums.{sum-map, sum_by-cons, sum_by-append}
-use Rattle.il_base.specs.Numbers.{Packed, PackedSigned, packed_bytes}
+use Rattle.il_base.specs.Numbers.{Packed, PackedSigned}
 use Rattle.assembly_tree.specs.Weight as weight
 use Rattle.assembly_tree.specs.Weight.{type_weight, owner_weight, name_weight}
-use Rattle.type_terms.specs.declared.name.TypeName.{TypeName}
 use Rattle.type_terms.specs.declared.reference.MethodSig.{MethodSig}
-use Rattle.type_terms.specs.declared.term.Primitive.{Primitive}
-use Rattle.type_terms.specs.declared.term.Owner.{Owner, fold-Owner, fold_out-Owner, map-Owner, out-Owner}
+use Rattle.type_terms.specs.declared.term.Owner.{Owner, fold-Owner}
 use Rattle.type_terms.specs.declared.term.Owner.TheVariants as owner
-use Rattle.type_terms.specs.declared.term.Owner.TheOpen as layer
-use Rattle.type_terms.specs.declared.term.SigType.{SigType, fold-SigType, fold_out-SigType, map-SigType, out-SigType}
-use Rattle.type_terms.specs.declared.term.SigType.TheVariants as type
+use Rattle.type_terms.specs.declared.term.SigType.{SigType, fold_out-SigType, map-SigType, out-SigType}
 use Rattle.sig_codec.specs.Spelling.{Layer, Notation, writing, SpellsOwner, SpellsEachBy, SpellsCounted, SpellsShape, SpellsType, SpellsLayer, SpellsEach}
 use Rattle.sig_codec.specs.Spelling as spelling
 use Rattle.sig_codec.specs.Signature.{SpellsMethod, SpellsField, SpellsProperty, SpellsLocals, SpellsInstantiation, SpellsGeneric, SpellsParams}

@@ -1,9 +1,9 @@
 -- What has been given stays as more comes, and as more is declared.
 use base.Stored.{Coded}
-use Rattle.std.proofs.Common.{◌≡◌, ap, refl, sym, ◌∙◌, subst, ℕ, ◌<◌, ◌^◌, cond, List, [], ◌∷◌, ◌++◌, length, Some, inl, inr, arith}
+use Rattle.std.proofs.Common.{◌≡◌, ap, sym, ◌∙◌, subst, ℕ, ◌<◌, ◌^◌, cond, List, [], ◌∷◌, ◌++◌, length, Some, inl, inr}
 use Rattle.std.specs.List.{AllByRecursion}
 use Rattle.std.proofs.lemmas.Bool.{cases_Bool}
-use Rattle.std.proofs.lemmas.List.{append-nil, append_assoc}
+use Rattle.std.proofs.lemmas.List.{append-nil}
 use Rattle.sig_codec.specs.Spelling.{Notation}
 use Rattle.sig_codec.specs.Signature.{SpellsMethod, SpellsField, SpellsLocals, SpellsInstantiation}
 use Rattle.sig_codec.specs.Spelling.{SpellsType}
@@ -17,15 +17,13 @@ use Rattle.type_terms.specs.declared.reference.MethodRef.{MethodRef}
 use Rattle.type_terms.specs.declared.term.Owner.{Owner, out-Owner}
 use Rattle.type_terms.specs.declared.term.Owner.TheOpen.{Owner-F, Name, Spec}
 use Rattle.type_terms.specs.declared.term.SigType.{SigType}
-use Rattle.image_references.specs.Blobs.{HoldsBlob, KeepsBlobs}
 use Rattle.image_references.specs.Found.{same_term, token_in}
-use Rattle.image_references.specs.KnownTokens.{layer_token, owner_token, names_apart, types_apart}
+use Rattle.image_references.specs.KnownTokens.{layer_token, names_apart, types_apart}
 use Rattle.image_references.specs.NameTokens.{NameableIn, IsScopeAmong, AreNames, Learns}
 use Rattle.image_references.specs.References.{tokens_of, HasSignature, IsSpecToken, IsMemberRow, HasMemberToken, HasGenericToken, of_declared, of_referred, IsMethodToken, plain, instance, IsFieldToken, IsLocalsToken, IsTextToken, IsNameRow, IsSpecRow, IsLocalsRow, IsMemberSignature, IsMemberInBounds, IsReferredMember, IsInstanceRow, AreReferred, AreKnown, Widens}
-use Rattle.image_references.specs.Rows.{IsRowAt, EachRow}
-use Rattle.image_references.specs.Texts.{HoldsText, KeepsTexts}
+use Rattle.image_references.specs.Rows.{EachRow}
+use Rattle.image_references.specs.Texts.{KeepsTexts}
 use Rattle.image_references.specs.TypePaths.{GoesOn, in_declared}
-use Rattle.image_references.specs.Units.{HoldsUnits, KeepsUnits}
 use Rattle.image_references.specs.Writable.{CanBeNamed}
 use Rattle.image_references.specs.declared.references.Referred.{Referred}
 use Rattle.image_references.specs.declared.references.References.{References}

@@ -1,28 +1,18 @@
 -- What can be written still can as more comes; its parts; and what has a spelling has one as more tokens are given.
-use Rattle.std.proofs.Common.{◌≡◌, ap, refl, sym, ◌∙◌, subst, ℕ, ℤ, ◌+◌, ◌^◌, ◌<◌, Bool, List, [], ◌∷◌, length, drop, Option, Some}
-use Rattle.std.proofs.lemmas.List.{append-nil}
-use Rattle.type_terms.specs.declared.name.Scope.{Scope}
-use Rattle.type_terms.specs.declared.name.Scope.TheVariants.{Here, Extern}
-use Rattle.type_terms.specs.declared.name.TypeId.{TypeId}
+use Rattle.std.proofs.Common.{◌≡◌, subst, ℕ, ℤ, ◌^◌, ◌<◌, Bool, List, ◌∷◌, length, Option, Some}
 use Rattle.type_terms.specs.declared.name.TypeName.{TypeName}
 use Rattle.type_terms.specs.declared.term.Owner.{Owner, Name, out-Owner}
 use Rattle.type_terms.specs.declared.term.Owner.TheVariants as owners
 use Rattle.type_terms.specs.declared.term.Owner.TheOpen as layer
 use Rattle.type_terms.specs.declared.term.SigType.{SigType, out-SigType}
-use Rattle.type_terms.specs.declared.term.SigType.TheVariants as type
 use Rattle.sig_codec.specs.Spellable.{HasToken, HasDeclaredToken, CanBePacked, IsShape, HasSpelling, HasParts, HaveSpellings}
 use Rattle.sig_codec.specs.Spellable as spellable
 use Rattle.sig_codec.specs.Spelling.{Layer}
 use Rattle.image_references.specs.Bounds.{IsTypeInBounds}
-use Rattle.image_references.specs.NameTokens.{NameableIn}
 use Rattle.image_references.specs.References.{Grows, Widens, tokens_of}
-use Rattle.image_references.specs.TypePaths.{in_declared}
 use Rattle.image_references.specs.Writable.{CanBeNamed, IsWritable, IsLayerWritable, IsOwnerWritable, IsOwnerLayerWritable, AreWritable}
 use Rattle.image_references.specs.Writable as w
 use Rattle.image_references.specs.declared.references.References.{References}
-use Rattle.image_references.specs.declared.row_set.Cells.{Cells}
-use Rattle.heaps.specs.Heap.{Heap}
-use Rattle.image_references.specs.Texts.{KeepsTexts}
 use Rattle.image_references.proofs.GrowthLemmas.{widened, tokens_kept}
 use Rattle.image_references.proofs.WidenedLemmas.{wide_name}
 

@@ -1,5 +1,5 @@
--- The hashes by which names, types and references are found again: FNV-1a at 64 bits over what they are made of.
-use Rattle.std.specs.Prelude.{ℕ, ◌*◌, ◌%◌, ◌^◌, List, Option, Some, None, fold, bit_xor}
+-- The hashes by which names, types and references are found again: FNV-1 at 64 bits over what they are made of.
+use Rattle.std.specs.Prelude.{ℕ, ◌*◌, ◌/◌, ◌%◌, ◌^◌, List, Option, Some, None, fold, bit_xor}
 use Rattle.type_terms.specs.Order.{prim_place}
 use Rattle.type_terms.specs.declared.name.Scope.{Scope}
 use Rattle.type_terms.specs.declared.name.Scope.TheVariants.{Here, Extern}
@@ -16,13 +16,21 @@ use Rattle.type_terms.specs.declared.term.Owner.TheOpen.{Owner-F, SigType-F, Nam
 abbrev pub start : ℕ
 start = 0xCBF29CE484222325
 
--- one step of FNV-1a
+-- one step of FNV-1
 unfoldable pub mix : ℕ → ℕ → ℕ
-mix hash number = (bit_xor hash number * 0x00000100000001B3) % (2 ^ 64)
+mix hash number = bit_xor ((hash * 0x00000100000001B3) % (2 ^ 64)) number
+
+-- the same with a number doubled
+abbrev pub mix_doubled : ℕ → ℕ → ℕ
+mix_doubled hash number = mix hash (2 * number)
+
+-- the cells of a row
+abbrev pub hash_cells : ℕ → ℕ → ℕ → ℕ
+hash_cells first second third = mix (mix (mix (mix start first) third) (second / 32)) (2 * (second % 32))
 
 -- the bytes of a text, or units
 unfoldable pub mix_text : ℕ → List ℕ → ℕ
-mix_text hash text = fold mix hash text
+mix_text hash text = fold mix_doubled hash text
 
 -- ---- names
 

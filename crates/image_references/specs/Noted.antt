@@ -5,7 +5,7 @@ use Rattle.sig_codec.specs.Spellable.{HasSpelling, HaveSpellings}
 use Rattle.sig_codec.specs.Spelling.{Notation}
 use Rattle.sig_codec.specs.Tokens.{IsTypeToken, IsDeclared}
 use Rattle.type_terms.specs.declared.name.TypeName.{TypeName}
-use Rattle.type_terms.specs.declared.term.Owner.{Owner, fold-Owner}
+use Rattle.type_terms.specs.declared.term.Owner.{Owner}
 use Rattle.type_terms.specs.declared.term.Owner.TheVariants as owner
 use Rattle.type_terms.specs.declared.term.SigType.{SigType, fold-SigType}
 use Rattle.type_terms.specs.declared.term.Owner.TheOpen.{Owner-F, SigType-F, Name, Spec, Prim, Class, Value, Inst, Var, MVar, SzArray, Array, ByRef, Pointer, Mod, Pinned}

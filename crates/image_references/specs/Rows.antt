@@ -1,6 +1,6 @@
 -- Rows that are found again by their cells.
-use Rattle.std.specs.Prelude.{◌≡◌, ℕ, ◌-◌, ◌<◌, ◌&&◌, ◌⊎◌, Bool, nat_eq, List, [], ◌∷◌, ◌++◌, Option, Some, slice_get}
-use Rattle.image_references.specs.Hashing.{start, mix}
+use Rattle.std.specs.Prelude.{◌≡◌, ℕ, ◌-◌, ◌<◌, ◌&&◌, ◌⊎◌, Bool, nat_eq, List, [], ◌∷◌, ◌++◌, Some, slice_get}
+use Rattle.image_references.specs.Hashing.{hash_cells}
 use Rattle.image_references.specs.declared.row_set.Cells.{Cells}
 
 -- the row with this number, counted from 1, has these cells
@@ -24,18 +24,11 @@ EachRow Holds rows = (k : ℕ) (cells : Cells) → slice_get rows k ≡ Some cel
 abbrev pub AddsOneAtMost : Cells → List Cells → List Cells → Type 0
 AddsOneAtMost cells old new = (new ≡ old) ⊎ (new ≡ old ++ cells ∷ [])
 
--- ---- rows in a list, where some may have the same cells
-
 -- whether two rows have the same cells
 abbrev pub are_same : Cells → Cells → Bool
 are_same a b = nat_eq a.first b.first && (nat_eq a.second b.second && nat_eq a.third b.third)
 
--- cells lead to the place of a row that has them, counted from 0, where there is one
-pub record LeadsTo (places : Cells → Option ℕ) (rows : List Cells) : Type 0 where
-  pub right : (cells : Cells) (k : ℕ) → places cells ≡ Some k → slice_get rows k ≡ Some cells
-  pub reached : (cells : Cells) (k : ℕ) → slice_get rows k ≡ Some cells → (j : ℕ) × (places cells ≡ Some j)
-
 -- ---- the hash by which a row is found
 
 abbrev pub cells_hash : Cells → ℕ
-cells_hash cells = mix (mix (mix start cells.first) cells.second) cells.third
+cells_hash cells = hash_cells cells.first cells.second cells.third

@@ -67,6 +67,17 @@ impl<'a, T: Term> Found<'a, T> {
         }
     }
 
+    /// Makes room for so many terms, where there are none yet.
+    pub fn make_room(&mut self, alloc: Global, count: usize) -> Result<(), NoMemory>
+        ensures { self.new ≡ self.old }
+    {
+        if self.entries.is_empty() {
+            self.newest = HashPlaces::with_room(alloc, count)?;
+            self.entries.reserve(count)?;
+        }
+        Ok(())
+    }
+
     /// The token of a term. Takes no memory.
     pub fn find(&self, term: &T) -> Option<u32>
         ensures { result ≡ token_in T.stored self.now term.now }

@@ -1,8 +1,9 @@
-//! The hashes by which names, types and references are found again: FNV-1a at 64 bits over what they
-//! are made of.
+//! The hashes by which names, types and references are found again: FNV-1 at 64 bits over what they
+//! are made of. What comes last is not multiplied: things that differ in it alone, as numbered names do, stand near one another
+//! in a table.
 ghost use Rattle.std.specs.Prelude.{◌≡◌};
 ghost use Rattle.type_terms.specs.Order.{prim_place};
-ghost use Rattle.image_references.specs.Hashing.{start, mix, mix_text, mix_id, mix_path, mix_scope, mix_name, mix_type, mix_owner, mix_types, mix_signature, mix_method, mix_field};
+ghost use Rattle.image_references.specs.Hashing.{mix, mix_text, hash_cells, mix_id, mix_path, mix_scope, mix_name, mix_type, mix_owner, mix_types, mix_signature, mix_method, mix_field};
 
 use il_base::Units;
 use type_terms::{FieldRef, MethodRef, MethodSig, Owner, Prim, Scope, SigType, TypeId, TypeName};
@@ -10,20 +11,24 @@ use type_terms::{FieldRef, MethodRef, MethodSig, Owner, Prim, Scope, SigType, Ty
 /// Where a hash begins.
 pub const START: u64 = 0xCBF2_9CE4_8422_2325;
 
-/// One step of FNV-1a.
+/// One step of FNV-1.
 #[tactic(auto, unfolding(crate::specs::Hashing::mix))]
 fn mix(hash: u64, number: u64) -> u64
     ensures { result ≡ mix hash number }
 {
-    (hash ^ number).wrapping_mul(0x0000_0100_0000_01B3)
+    hash.wrapping_mul(0x0000_0100_0000_01B3) ^ number
 }
 
-/// The hash of the cells of a row.
+/// The hash of the cells of a row. The last bits of the second cell, which is mostly the index of a name, come last: names that
+/// follow one another in their heap stand near one another in a table.
 pub fn hash_cells(first: u32, second: u32, third: u32) -> u64
-    ensures { result ≡ mix (mix (mix start first) second) third }
+    ensures { result ≡ hash_cells first second third }
 {
-    let hash = mix(START, u64::from(first));
-    mix(mix(hash, u64::from(second)), u64::from(third))
+    let hash = mix(mix(START, u64::from(first)), u64::from(third));
+    mix(
+        mix(hash, u64::from(second / 32)),
+        2 * u64::from(second % 32),
+    )
 }
 
 #[tactic(auto, unfolding(crate::specs::Hashing::mix_text))]
@@ -32,7 +37,7 @@ fn mix_text(hash: u64, text: &[u8]) -> u64
 {
     let mut hash = hash;
     for byte in text {
-        hash = mix(hash, u64::from(*byte));
+        hash = mix(hash, 2 * u64::from(*byte));
     }
     hash
 }
@@ -44,7 +49,7 @@ pub fn mix_units(hash: u64, units: &Units) -> u64
 {
     let mut hash = hash;
     for unit in units.as_slice() {
-        hash = mix(hash, u64::from(*unit));
+        hash = mix(hash, 2 * u64::from(*unit));
     }
     hash
 }

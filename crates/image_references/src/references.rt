@@ -6,6 +6,7 @@ use crate::heap_contents::Heaps;
 use crate::known::Known;
 use crate::row_list::RowList;
 use crate::row_set::RowSet;
+use il_base::NoMemory;
 use std::alloc::Global;
 
 /// What is declared, as rows by which names and references find it: types by encloser, name and space,
@@ -36,6 +37,15 @@ pub struct References<'a> {
     pub declared: Declared,
     pub referred: Referred,
     pub known: Known<'a>,
+}
+
+impl<'a> References<'a> {
+    /// Makes room for the tokens of so many names, where none has a token yet.
+    pub fn make_room(&mut self, alloc: Global, names: usize) -> Result<(), NoMemory>
+        ensures { self.new ≡ self.old }
+    {
+        self.known.names.make_room(alloc, names)
+    }
 }
 
 impl Referred {

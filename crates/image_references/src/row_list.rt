@@ -1,31 +1,32 @@
 //! Rows in the order in which they came, found again by their cells.
 ghost use Rattle.std.specs.Prelude.{◌≡◌, ◌-◌, ◌^◌, ◌<◌, ◌++◌, ◌∷◌, [], length, slice_get, Some, IfSome, IfNone, IfOk, OnOk, OnErr};
 
-use crate::row_set::Cells;
+use crate::row_set::{Cells, Linked, hash_of};
+use hash_places::HashPlaces;
 use il_base::{Items, NoMemory};
-use indexmap::IndexMap;
 use std::alloc::Global;
 use std::marker::Model;
 
-/// The rows of one table, numbered from 1. Contracts see the list of them.
+/// The rows of one table, numbered from 1; some may have the same cells. Contracts see the list of them.
 #[derive(Drop)]
 pub struct RowList {
-    rows: Items<Cells>,
-    // From cells to the place of the newest row with them.
-    newest: IndexMap<Cells, u32>,
+    // From a hash to the place of the newest row with it.
+    newest: HashPlaces,
+    rows: Items<Linked>,
 }
 
 impl Model for RowList {
-    ghost use Rattle.std.specs.Prelude.{List, ◌<◌, ◌^◌, length};
-    ghost use Rattle.indexmap.specs.IndexMap.{get};
+    ghost use Rattle.std.specs.Prelude.{List, ◌<◌, ◌^◌, length, map};
+    ghost use Rattle.hash_places.specs.Slots.{place_of};
+    ghost use Rattle.image_references.specs.Chains.{IsLinked};
     ghost use Rattle.image_references.specs.declared.row_set.Cells.{Cells};
-    ghost use Rattle.image_references.specs.Rows.{are_same, LeadsTo};
+    ghost use Rattle.image_references.specs.Rows.{cells_hash};
 
     ghost Value = { List Cells };
 
-    ghost view = { λ r. r.rows };
+    ghost view = { λ r. map (λ e. e.cells) r.rows };
 
-    ghost invariant = { λ r. (length r.rows < 2 ^ 24) × LeadsTo (get are_same r.newest) r.rows };
+    ghost invariant = { λ r. (length r.rows < 2 ^ 24) × IsLinked cells_hash (place_of r.newest) (map (λ e. e.cells) r.rows) (map (λ e. e.next) r.rows) };
 }
 
 impl RowList {
@@ -36,9 +37,18 @@ impl RowList {
         ensures { result ≡ [] }
     {
         RowList {
+            newest: HashPlaces::new(alloc),
             rows: Items::new(alloc),
-            newest: IndexMap::new(alloc),
         }
+    }
+
+    /// No rows, with room for so many.
+    pub fn with_room(alloc: Global, count: usize) -> Result<RowList, NoMemory>
+        ensures { IfOk result (λ rows. rows ≡ []) }
+    {
+        let newest = HashPlaces::with_room(alloc, count)?;
+        let rows = Items::with_capacity(alloc, count)?;
+        Ok(RowList { newest, rows })
     }
 
     /// The number of rows.
@@ -54,7 +64,7 @@ impl RowList {
         requires { k < length self.now }
         ensures { slice_get self.now k ≡ Some result }
     {
-        *self.rows.at(k)
+        self.rows.at(k).cells
     }
 
     /// The number of a row with these cells. Takes no memory.
@@ -63,10 +73,15 @@ impl RowList {
         ensures none { IfNone result (Lacks self.now cells) }
         ensures few { IfSome result (λ row. row < 2 ^ 24) }
     {
-        match self.newest.get(&cells) {
-            None => None,
-            Some(place) => Some(*place + 1),
+        let mut at = self.newest.get(hash_of(cells));
+        while let Some(place) = at {
+            let row = self.rows.at(place);
+            if row.cells == cells {
+                return Some(place as u32 + 1);
+            }
+            at = row.next;
         }
+        None
     }
 
     /// Adds a row at the end, and answers its number.
@@ -76,9 +91,11 @@ impl RowList {
         ensures number { IfOk result (λ row. row ≡ length self.new) }
         ensures err { OnErr result (self.new ≡ self.old) }
     {
-        let place = self.rows.len();
-        self.rows.push(cells)?;
-        match self.newest.insert(cells, place as u32) {
+        let hash = hash_of(cells);
+        let next = self.newest.get(hash);
+        let place = self.rows.as_slice().len();
+        self.rows.push(Linked { cells, next })?;
+        match self.newest.insert(hash, place) {
             Ok(_) => Ok(place as u32 + 1),
             Err(_) => {
                 self.rows.truncate(place);

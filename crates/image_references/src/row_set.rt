@@ -18,9 +18,9 @@ pub struct Cells {
 
 /// A row, and the place of the newest older row with the same hash.
 #[derive(Clone, Copy)]
-struct Linked {
-    cells: Cells,
-    next: Option<usize>,
+pub(crate) struct Linked {
+    pub cells: Cells,
+    pub next: Option<usize>,
 }
 
 /// Distinct rows of one table, numbered from 1. Contracts see the list of them.
@@ -57,6 +57,15 @@ impl RowSet {
             newest: HashPlaces::new(alloc),
             rows: Items::new(alloc),
         }
+    }
+
+    /// No rows, with room for so many.
+    pub fn with_room(alloc: Global, count: usize) -> Result<RowSet, NoMemory>
+        ensures { IfOk result (λ rows. rows ≡ []) }
+    {
+        let newest = HashPlaces::with_room(alloc, count)?;
+        let rows = Items::with_capacity(alloc, count)?;
+        Ok(RowSet { newest, rows })
     }
 
     /// The number of rows.
@@ -142,8 +151,8 @@ impl RowSet {
     }
 }
 
-// The hash of cells.
-fn hash_of(cells: Cells) -> u64
+/// The hash of cells.
+pub(crate) fn hash_of(cells: Cells) -> u64
     ensures { result ≡ cells_hash cells }
 {
     hash_cells(cells.first, cells.second, cells.third)

@@ -1,4 +1,4 @@
-use Rattle.std.proofs.Common.{◌≡◌, ◌∙◌, ap, sym, ◌+◌, ◌≤◌, ◌∷◌, drop, drop_of_length-le, arith}
+use Rattle.std.proofs.Common.{◌≡◌, ◌∙◌, ap, sym, ◌+◌, ◌∷◌, drop, drop_of_length-le, arith}
 use Rattle.std.proofs.lemmas.List.{drop_more}
 use Rattle.image_references.specs.NamesWeight.{clause_names}
 use Rattle.assembly_tree.specs.declared.body.Clause.{Clause}

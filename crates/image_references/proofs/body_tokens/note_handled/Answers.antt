@@ -1,4 +1,4 @@
-use Rattle.std.proofs.Common.{◌≡◌, subst, ◌+◌, ◌≤◌, arith}
+use Rattle.std.proofs.Common.{subst, arith}
 use Rattle.image_references.specs.Writable.{IsHandledWritable}
 use Rattle.image_references.proofs.OperandLemmas.{weight_of_caught, caught_noted}
 use Rattle.image_references.proofs.body_tokens.note_handled.Goals as goal

@@ -1,8 +1,5 @@
-use Rattle.std.proofs.Common.{◌≡◌, length, ◌+◌, ◌*◌, ◌≤◌, arith}
-use Rattle.std.specs.Prelude.{sum_by}
-use Rattle.assembly_tree.specs.Weight.{type_weight}
+use Rattle.std.proofs.Common.{arith}
 use Rattle.image_references.specs.BodyTokens.{HaveLocalsToken}
-use Rattle.image_references.specs.Members.{HasLocals}
 use Rattle.image_references.proofs.BodyLemmas.{locals_noted, some_locals, nothing_noted}
 use Rattle.image_references.proofs.body_tokens.note_locals.Goals as goal
 

@@ -1,4 +1,4 @@
-use Rattle.std.proofs.Common.{◌≡◌, subst, ◌+◌, ◌*◌, ◌≤◌, length, arith}
+use Rattle.std.proofs.Common.{subst, arith}
 use Rattle.image_references.specs.Writable.{IsOperandWritable}
 use Rattle.image_references.proofs.OperandLemmas.{weight_of_method, weight_of_field, weight_of_owner, method_noted, field_noted, of_noted, text_noted}
 use Rattle.image_references.proofs.body_tokens.note_operand.Goals as goal

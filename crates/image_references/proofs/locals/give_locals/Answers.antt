@@ -1,4 +1,3 @@
-use Rattle.std.proofs.Common.{◌≡◌}
 use Rattle.image_references.proofs.GivenLemmas.{locals_given}
 use Rattle.image_references.proofs.LeavesLemmas.{few_locals}
 use Rattle.image_references.proofs.locals.give_locals.Goals as goal

@@ -1,4 +1,3 @@
-use Rattle.std.proofs.Common.{◌≡◌}
 use Rattle.image_references.proofs.LeavesLemmas.{few_members}
 use Rattle.image_references.proofs.MemberLemmas.{field_given}
 use Rattle.image_references.proofs.members.give_field.Goals as goal

@@ -1,4 +1,4 @@
-use Rattle.std.proofs.Common.{◌≡◌, sym, length, ◌+◌, ◌≤◌, arith}
+use Rattle.std.proofs.Common.{sym, length, ◌+◌, ◌≤◌, arith}
 use Rattle.std.proofs.lemmas.Result.{IfOk-weaker}
 use Rattle.assembly_tree.specs.Weight.{field_ref_weight, owner_weight, type_weight}
 use Rattle.image_references.specs.Members.{HasField}

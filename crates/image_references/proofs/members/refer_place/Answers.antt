@@ -1,4 +1,4 @@
-use Rattle.std.proofs.Common.{length, ◌+◌, ◌≤◌, arith}
+use Rattle.std.proofs.Common.{length, ◌+◌, arith}
 use Rattle.assembly_tree.specs.Weight.{owner_weight}
 use Rattle.image_references.proofs.LeavesLemmas.{placed}
 use Rattle.image_references.proofs.members.refer_place.Goals as goal

@@ -1,4 +1,4 @@
-use Rattle.std.proofs.Common.{◌≡◌, length, ◌+◌, ◌≤◌, arith}
+use Rattle.std.proofs.Common.{length, ◌+◌, ◌≤◌, arith}
 use Rattle.std.proofs.lemmas.Result.{IfOk-weaker}
 use Rattle.assembly_tree.specs.Weight.{owner_weight, signature_weight}
 use Rattle.image_references.specs.References.{size, HasGenericToken}

@@ -1,4 +1,3 @@
-use Rattle.std.proofs.Common.{◌≡◌}
 use Rattle.image_references.proofs.MemberLemmas.{method_given}
 use Rattle.image_references.proofs.methods.give_method.Goals as goal
 

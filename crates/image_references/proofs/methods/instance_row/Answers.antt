@@ -1,4 +1,3 @@
-use Rattle.std.proofs.Common.{◌≡◌, ap}
 use Rattle.image_references.specs.declared.row_set.Cells.{Cells}
 use Rattle.image_references.proofs.GivenLemmas.{instance_added}
 use Rattle.image_references.proofs.LeavesLemmas.{few_instances}

@@ -1,4 +1,4 @@
-use Rattle.std.proofs.Common.{◌≡◌, ap, subst, ◌+◌, ◌≤◌, arith}
+use Rattle.std.proofs.Common.{ap, subst, arith}
 use Rattle.std.proofs.lemmas.Result.{IfOk-weaker}
 use Rattle.image_references.specs.Bounds.{AreArgumentsInBounds}
 use Rattle.image_references.specs.Members.{instance_weight}

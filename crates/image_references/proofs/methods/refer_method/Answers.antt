@@ -1,4 +1,4 @@
-use Rattle.std.proofs.Common.{◌≡◌, sym, length, ◌+◌, ◌≤◌, arith}
+use Rattle.std.proofs.Common.{sym, length, ◌+◌, ◌≤◌, arith}
 use Rattle.std.proofs.lemmas.Result.{IfOk-weaker}
 use Rattle.assembly_tree.specs.Weight.{method_ref_weight, owner_weight, signature_weight}
 use Rattle.image_references.specs.Members.{HasMethod, instance_weight}

@@ -1,4 +1,3 @@
-use Rattle.std.proofs.Common.{◌≡◌}
 use Rattle.image_references.proofs.LeavesLemmas.{few_members}
 use Rattle.image_references.proofs.MemberLemmas.{generic_by_row}
 use Rattle.image_references.proofs.methods.row_token.Goals as goal

@@ -1,5 +1,3 @@
-use Rattle.std.proofs.Common.{length, ◌+◌, arith}
-use Rattle.image_references.specs.TypePaths.{path_size}
 use Rattle.image_references.proofs.AddedLemmas.{named}
 use Rattle.image_references.proofs.SizeLemmas.{room_for_names, room_for_rows}
 use Rattle.image_references.proofs.naming.refer_name.Goals as goal

@@ -1,5 +1,5 @@
-use Rattle.std.proofs.Common.{rules, ◌≡◌, ◌∙◌, ap, sym, subst, ℕ, ◌+◌, ◌*◌, ◌^◌, ◌<◌, ◌≤◌, max, List, [], ◌∷◌, length, map, drop, drop_of_length-le, arith}
-use Rattle.std.specs.Prelude.{sum_by, OnOk}
+use Rattle.std.proofs.Common.{rules, ◌≡◌, ◌∙◌, ap, sym, subst, ◌+◌, ◌*◌, ◌^◌, ◌<◌, ◌≤◌, List, ◌∷◌, map, drop, drop_of_length-le, arith}
+use Rattle.std.specs.Prelude.{sum_by}
 use Rattle.std.proofs.lemmas.List.{drop_more}
 use Rattle.std.proofs.lemmas.List.Sums.{sum_by-cons}
 use Rattle.std.proofs.lemmas.Result.{IfOk-weaker, on_ok_weaker}
@@ -9,10 +9,9 @@ use Rattle.type_terms.specs.declared.term.Owner.TheVariants as owners
 use Rattle.type_terms.specs.declared.term.Owner.TheOpen as layer
 use Rattle.type_terms.specs.declared.term.SigType.{SigType}
 use Rattle.type_terms.specs.declared.term.SigType.TheVariants as type
-use Rattle.assembly_tree.specs.Weight.{type_weight, owner_weight, name_weight}
+use Rattle.assembly_tree.specs.Weight.{type_weight, owner_weight}
 use Rattle.sig_codec.specs.Spellable as spellable
-use Rattle.image_references.specs.Noted.{longest}
-use Rattle.image_references.specs.References.{size, tokens_of}
+use Rattle.image_references.specs.References.{size}
 use Rattle.image_references.specs.Writable.{IsWritable, IsOwnerWritable, AreWritable}
 use Rattle.image_references.proofs.DepthLemmas.{depth_at, owner_depth_spec, item_depth}
 use Rattle.image_references.proofs.NotedLemmas.{name_owner_weight, spec_owner_weight, owned_name, owned_type, noted_leaf, noted_name, noted_round, noted_inst, noted_modified, to_begin, to_go_on, to_end}

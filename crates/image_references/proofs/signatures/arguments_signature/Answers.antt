@@ -1,4 +1,4 @@
-use Rattle.std.proofs.Common.{ap, sym, subst, ℕ, ◌+◌, ◌≤◌, List, length, arith}
+use Rattle.std.proofs.Common.{ap, sym, subst, ℕ, List, length, arith}
 use Rattle.sig_codec.specs.Signature.{SpellsInstantiation}
 use Rattle.sig_codec.specs.Spellable.{HaveSpellings}
 use Rattle.type_terms.specs.declared.term.SigType.{SigType}

@@ -1,4 +1,4 @@
-use Rattle.std.proofs.Common.{◌≡◌, ap, sym, subst, ℕ, ◌+◌, ◌≤◌, List, length, arith}
+use Rattle.std.proofs.Common.{ap, sym, subst, ℕ, ◌+◌, ◌≤◌, List, length, arith}
 use Rattle.std.specs.Prelude.{sum_by}
 use Rattle.sig_codec.specs.Signature.{SpellsMethod}
 use Rattle.type_terms.specs.declared.term.SigType.{SigType}

@@ -1,4 +1,3 @@
-use Rattle.std.proofs.Common.{◌+◌, arith}
 use Rattle.image_references.proofs.AddedLemmas.{spec_added}
 use Rattle.image_references.proofs.SizeLemmas.{few_specs_now}
 use Rattle.image_references.proofs.type_specs.add_row.Goals as goal

@@ -1,4 +1,4 @@
-use Rattle.std.proofs.Common.{rules, ◌≡◌, ◌∙◌, ap, sym, subst, ℕ, ◌+◌, ◌*◌, ◌%◌, ◌<◌, List, length, Ok, arith}
+use Rattle.std.proofs.Common.{rules, ◌≡◌, ◌∙◌, ap, sym, subst, ℕ, List, length, arith}
 use Rattle.std.specs.Prelude.{IfOk}
 use Rattle.heaps.specs.Content.{HasUnits}
 use Rattle.image_references.specs.Loaded.{AreUnits}

@@ -1,4 +1,4 @@
-use Rattle.std.proofs.Common.{◌≡◌, sym, subst, ℕ, ◌<◌, ◌^◌}
+use Rattle.std.proofs.Common.{sym, subst, ℕ, ◌<◌, ◌^◌}
 use Rattle.image_references.specs.Loaded.{AreUnits}
 use Rattle.image_references.specs.Members.{HasLoaded}
 use Rattle.image_references.proofs.GivenLemmas.{loaded_given, room_for_units}

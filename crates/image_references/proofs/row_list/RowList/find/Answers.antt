@@ -1,24 +1,57 @@
-use Rattle.std.proofs.Common.{◌≡◌, ◌+◌, ◌<◌, length, arith}
-use Rattle.indexmap.specs.IndexMap.{get}
-use Rattle.image_references.specs.Rows.{are_same}
-use Rattle.image_references.proofs.RowListLemmas.{found_row, place_within}
+use Rattle.std.proofs.Common.{◌≡◌, ◌+◌, ◌-◌, ◌∙◌, ap, sym, map, Some, true≢false, arith}
+use Rattle.std.proofs.lemmas.Option.{same_Some, slice_get_within}
+use Rattle.hash_places.specs.Slots.{place_of}
+use Rattle.image_references.specs.Rows.{cells_hash}
+use Rattle.image_references.specs.declared.row_set.Linked.{Linked}
+use Rattle.image_references.proofs.ChainLemmas.{ahead_of-smaller, next_smaller, next_hashed, next_ahead}
+use Rattle.image_references.proofs.FoundLemmas.{at_map}
+use Rattle.image_references.proofs.RowLemmas.{decides_cells}
 use Rattle.image_references.proofs.row_list.RowList.find.Goals as goal
 
-pub overflow_add-result : goal.overflow_add-result
-overflow_add-result c =
-    let old = c.self.inside in
-    let within = place_within (get are_same old.newest) old.rows c.args.cells c.in-Some.place.now c.self.invariant.1 c.in-Some.ensures.value in
+pub returns-then-eq-clause-found : goal.returns-then-eq-clause-found
+returns-then-eq-clause-found c =
+    let e = c.at-row.result.now in
+    let m = c.in-Some.place in
+    let at = at_map (λ (x : Linked). x.cells) c.self.inside.rows m e c.at-row.ensures ∙ ap Some ((decides_cells e.cells c.args.cells).0 (sym c.eq.ensures ∙ c.if-eq.true)) in
+    let before : m + 1 - 1 ≡ m = omega arith in
+    rw (← c.self.view_is) (record { counted = omega arith; at = rw before at })
+
+pub returns-then-eq-clause-few : goal.returns-then-eq-clause-few
+returns-then-eq-clause-few c =
+    let within = slice_get_within c.self.inside.rows c.in-Some.place c.at-row.result.now c.at-row.ensures in
     let few = c.self.invariant.0 in
     omega arith
 
-pub returns-in-Some-clause-found : goal.returns-in-Some-clause-found
-returns-in-Some-clause-found c =
-    let old = c.self.inside in
-    rw (← c.self.view_is) (found_row (get are_same old.newest) old.rows c.args.cells c.in-Some.place.now c.self.invariant.1 c.in-Some.ensures.value)
+pub returns-clause-none : goal.returns-clause-none
+returns-clause-none c =
+    rw (← c.self.view_is) (λ k h. let a = c.loop-at.invariant.ahead k h in let none = c.in_default.is in cc)
 
-pub returns-in-Some-clause-few : goal.returns-in-Some-clause-few
-returns-in-Some-clause-few c =
-    let old = c.self.inside in
-    let within = place_within (get are_same old.newest) old.rows c.args.cells c.in-Some.place.now c.self.invariant.1 c.in-Some.ensures.value in
-    let few = c.self.invariant.0 in
-    omega arith
+pub loop-at-smaller : goal.loop-at-smaller
+loop-at-smaller c =
+    let es = c.self.inside.rows in
+    let e = c.at-row.result.now in
+    ahead_of-smaller e.next c.loop-at.at c.in-Some.place c.in-Some.is (λ j next.
+    next_smaller cells_hash (place_of c.self.inside.newest) (map (λ (x : Linked). x.cells) es) (map (λ (x : Linked). x.next) es) c.self.invariant.1 c.args.cells
+    c.in-Some.place j e.cells (at_map (λ (x : Linked). x.cells) es c.in-Some.place e c.at-row.ensures)
+    (at_map (λ (x : Linked). x.next) es c.in-Some.place e c.at-row.ensures ∙ ap Some next))
+
+pub loop-at-preserved : goal.loop-at-preserved
+loop-at-preserved c =
+    let es = c.self.inside.rows in
+    let e = c.at-row.result.now in
+    let m = c.in-Some.place in
+    let at = at_map (λ (x : Linked). x.cells) es m e c.at-row.ensures in
+    let link = at_map (λ (x : Linked). x.next) es m e c.at-row.ensures in
+    let h = c.loop-at.invariant.hashed m c.in-Some.is in
+    let alike : cells_hash e.cells ≡ cells_hash c.args.cells = ap cells_hash (same_Some e.cells h.0 (sym at ∙ h.1)) ∙ h.2 in
+    record {
+      hashed = λ j next. next_hashed cells_hash (place_of c.self.inside.newest) (map (λ (x : Linked). x.cells) es) (map (λ (x : Linked). x.next) es) c.self.invariant.1 c.args.cells
+          m j e.cells at (link ∙ ap Some next) alike;
+      ahead = λ k here.
+          let a = c.loop-at.invariant.ahead k here in
+          let place : a.0 ≡ m = same_Some a.0 m (sym a.1 ∙ c.in-Some.is) in
+          next_ahead cells_hash (place_of c.self.inside.newest) (map (λ (x : Linked). x.cells) es) (map (λ (x : Linked). x.next) es) c.self.invariant.1 c.args.cells
+          m k e.cells e.next at link alike
+          (λ same. true≢false (sym ((decides_cells e.cells c.args.cells).1 same) ∙ sym c.eq.ensures ∙ c.if-eq.false))
+          here (omega (arith, a.2));
+    }

@@ -1,17 +1,25 @@
-use Rattle.std.proofs.Common.{rules, ◌≡◌, ◌∙◌, ap, sym, ◌+◌, ◌<◌, [], ◌∷◌, ◌++◌, length, Some, cond, arith}
-use Rattle.std.proofs.lemmas.List.{length-append}
-use Rattle.indexmap.specs.IndexMap.{get}
-use Rattle.image_references.specs.Rows.{are_same}
-use Rattle.image_references.specs.declared.row_set.Cells.{Cells}
-use Rattle.image_references.proofs.RowListLemmas.{leads_on}
+use Rattle.std.proofs.Common.{rules, ◌≡◌, ℕ, [], ◌∷◌, ◌++◌, Some, cond, length}
+use Rattle.std.specs.Prelude.{nat_eq}
+use Rattle.hash_places.specs.Slots.{place_of}
+use Rattle.image_references.specs.Rows.{cells_hash}
+use Rattle.image_references.specs.declared.row_set.Linked.{Linked}
+use Rattle.image_references.proofs.RowListLemmas.{list_push, list_undo}
 use Rattle.image_references.proofs.row_list.RowList.push.Goals as goal
 
 pub invariant_of-self-in-Ok : goal.invariant_of-self-in-Ok
 invariant_of-self-in-Ok c =
     let old = c.self.inside in
-    let added : c.push.new.self ≡ old.rows ++ c.args.cells ∷ [] = search rules in
-    let place : c.len-place.result ≡ length old.rows = search rules in
-    let newest : (q : Cells) → get are_same c.insert.new.self q ≡ cond (are_same c.args.cells q) (Some c.len-place.result) (get are_same old.newest q) = search rules in
-    let room : length old.rows < 16777215 = rw (c.self.view_is) (c.requires) in
-    let long = ap (length {A = Cells}) added ∙ length-append old.rows (c.args.cells ∷ []) in
-    (omega arith, leads_on (get are_same old.newest) (get are_same c.insert.new.self) old.rows c.push.new.self c.args.cells c.len-place.result c.self.invariant.1 added place newest)
+    let entry : Linked = record { cells = c.args.cells; next = c.get-next.result } in
+    let newest : (q : ℕ) → place_of c.insert.new.self q ≡ cond (nat_eq (cells_hash c.args.cells) q) (Some (length c.as_slice-place.result.now)) (place_of old.newest q) = search rules in
+    let rows : c.push.new.self ≡ old.rows ++ entry ∷ [] = search rules in
+    list_push (place_of old.newest) (place_of c.insert.new.self) old.rows c.push.new.self entry (length c.as_slice-place.result.now) (search rules) rows c.self.invariant.1
+    (rw c.self.view_is c.requires) (search rules) newest
+
+pub invariant_of-self-in-Err : goal.invariant_of-self-in-Err
+invariant_of-self-in-Err c =
+    let old = c.self.inside in
+    let entry : Linked = record { cells = c.args.cells; next = c.get-next.result } in
+    let kept : (q : ℕ) → place_of c.insert.new.self q ≡ place_of old.newest q = search rules in
+    let rows : c.push.new.self ≡ old.rows ++ entry ∷ [] = search rules in
+    rw c.truncate.ensures (list_undo (place_of old.newest) (place_of c.insert.new.self) old.rows c.push.new.self entry (length c.as_slice-place.result.now) (search rules) rows c.self.invariant.1
+    c.self.invariant.0 kept)
