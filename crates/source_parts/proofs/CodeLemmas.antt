@@ -1,11 +1,9 @@
--- The numbers of instructions and labels.
-use Rattle.std.proofs.Common.{◌≡◌, ℕ, suc, ◌≤◌, List, [], ◌∷◌, Option, None, Some, cond, length, map, refl, ap, sym, ◌∙◌, arith}
-use Rattle.std.specs.Prelude.{Bool, true, false, nat_lt, filter, option_map}
+-- The numbers of instructions.
+use Rattle.std.proofs.Common.{◌≡◌, ℕ, suc, ◌≤◌, List, [], ◌∷◌, cond, length, map, ap, sym, ◌∙◌, arith}
+use Rattle.std.specs.Prelude.{Bool, true, false, nat_lt, filter}
 use Rattle.std.proofs.lemmas.List.{length-map}
-use Rattle.std.proofs.lemmas.Option.{same_Some}
 use Rattle.source_model.specs.Forest.{Forest}
-use Rattle.source_model.specs.Instructions.{instructions_of, label_named, label_number, mnemonic_token, number_at, number_of_label}
-use Rattle.source_model.specs.Source.{Source}
+use Rattle.source_model.specs.Instructions.{instructions_of, mnemonic_token, number_at}
 use Rattle.source_reading.specs.Labels.{count_below}
 use Rattle.source_reading.proofs.OrderLemmas.{number_is}
 
@@ -30,26 +28,3 @@ number_fits f starts k e =
 
 pub all_of_starts : (f : Forest) (starts : List ℕ) → starts ≡ map mnemonic_token (instructions_of f) → length starts ≡ length (instructions_of f)
 all_of_starts f starts e = ap length e ∙ length-map (instructions_of f) mnemonic_token
-
-module _ (s : Source) (f : Forest) (k : ℕ) where
-  pub label_found : (n : ℕ) → Some n ≡ option_map (number_at f) (label_named s f k) → n ≡ label_number s f k
-  label_found n e = go (label_named s f k) e
-    where
-      go : (o : Option ℕ) → Some n ≡ option_map (number_at f) o → n ≡ number_of_label f o
-      go None h = absurd cc
-      go (Some l) h = same_Some n (number_at f l) h
-
-  pub label_absent : None ≡ option_map (number_at f) (label_named s f k) → length (instructions_of f) ≡ label_number s f k
-  label_absent e = go (label_named s f k) e
-    where
-      go : (o : Option ℕ) → None ≡ option_map (number_at f) o → length (instructions_of f) ≡ number_of_label f o
-      go None h = refl
-      go (Some l) h = absurd cc
-
-  -- a number that was found is at most that of all instructions
-  pub label_fits : (starts : List ℕ) (n : ℕ) → starts ≡ map mnemonic_token (instructions_of f) → Some n ≡ option_map (number_at f) (label_named s f k) → n ≤ length starts
-  label_fits starts n is e = go (label_named s f k) e
-    where
-      go : (o : Option ℕ) → Some n ≡ option_map (number_at f) o → n ≤ length starts
-      go None h = absurd cc
-      go (Some l) h = let same = same_Some n (number_at f l) h in omega (arith, same, number_fits f starts l is)

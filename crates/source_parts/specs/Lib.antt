@@ -1,5 +1,4 @@
 pub mod Chosen
-pub mod CodePlaces
 pub mod Customs
 pub mod Externs
 pub mod Laws
