@@ -1,6 +1,5 @@
 mod AnyTexts
 mod BlockLemmas
-mod Feeds
 mod FirstBytes
 mod FoundTokens
 mod FrontLemmas
@@ -22,6 +21,7 @@ mod ReachedWords
 mod RunLemmas
 mod UnplacedLemmas
 mod WordNumbers
+mod SearchLemmas
 mod SpelledBytes
 mod SpelledGaps
 mod SpelledNames

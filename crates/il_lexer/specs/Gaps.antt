@@ -1,5 +1,5 @@
 -- Gaps: blanks and comments (II.5.2).
-use Rattle.std.specs.Prelude.{ℕ, ◌+◌, Bool, not, ◌==◌, ◌&&◌, ◌||◌, if◌then◌else◌, List, [], ◌∷◌, drop, Option, None, Some}
+use Rattle.std.specs.Prelude.{ℕ, ◌+◌, Bool, not, ◌==◌, ◌&&◌, if◌then◌else◌, List, [], ◌∷◌, drop, Option, None, Some}
 use Rattle.std.specs.Option.{option_map}
 use Rattle.il_lexer.specs.Classes.{is_blank, first_is}
 use Rattle.il_lexer.specs.Runs.{front, run_of}
@@ -20,10 +20,6 @@ comment_length (b ∷ bs) =
     if b == 47 then Some (1 + front (λ c. not (c == 10)) bs)
     else if b == 42 then option_map (λ n. 1 + n) (block_length bs)
     else None
-
--- one of these bytes is a line feed
-abbrev pub is_feed_among : ℕ → ℕ → ℕ → ℕ → ℕ → ℕ → ℕ → ℕ → Bool
-is_feed_among a b c d e f g h = a == 10 || (b == 10 || (c == 10 || (d == 10 || (e == 10 || (f == 10 || (g == 10 || h == 10))))))
 
 -- a blank or a comment
 abbrev pub gap_piece : List ℕ → Option ℕ

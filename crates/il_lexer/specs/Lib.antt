@@ -1,6 +1,7 @@
 pub mod Classes
 pub mod Runs
 pub mod Gaps
+pub mod Kinds
 pub mod Quotes
 pub mod Spellings
 pub mod WordKeys

@@ -2,12 +2,13 @@
 
 ghost use Rattle.std.specs.Prelude.{◌≡◌, ◌+◌, ◌<◌, ◌≤◌, ◌==◌, not, length, drop, IfSome};
 ghost use Rattle.il_lexer.specs.Runs.{front};
-ghost use Rattle.il_lexer.specs.Gaps.{is_close, is_feed_among, block_length, comment_length, gap_piece, gap};
+ghost use Rattle.il_lexer.specs.Gaps.{is_close, block_length, comment_length, gap_piece, gap};
 ghost use Rattle.il_lexer.specs.Lexing.{after_gap};
 
 use crate::bytes::{behind, stands_at};
 use crate::classes::{is_blank, is_gap_start};
 use crate::runs::{Piece, run_of};
+use crate::searches::{Kind, before};
 
 // Whether a comment's end is at the front.
 fn is_close(rest: &[u8]) -> bool
@@ -31,58 +32,22 @@ fn block_length(rest: &[u8]) -> Option<usize>
     None
 }
 
+struct LineFeed;
+
+impl Kind for LineFeed {
+    ghost is_kind = { λ _ c. c == 10 };
+
+    fn has(&self, byte: u8) -> bool {
+        byte == b'\n'
+    }
+}
+
 /// The bytes up to the end of the line.
 pub fn line_length(rest: &[u8]) -> usize
     ensures value { result ≡ front (λ c. not (c == 10)) rest.now }
     ensures fits { result ≤ length rest.now }
 {
-    let mut tail = rest;
-    let mut at = 0;
-    while let Some(more) = past_sixteen(tail) {
-        tail = more;
-        at += 16;
-    }
-    at + feed_at(tail)
-}
-
-// The same, byte by byte.
-fn feed_at(rest: &[u8]) -> usize
-    ensures value { result ≡ front (λ c. not (c == 10)) rest.now }
-    ensures fits { result ≤ length rest.now }
-{
-    rest.iter().take_while(|b| **b != b'\n').count()
-}
-
-// The bytes behind the first sixteen, where no line feed is among these.
-#[tactic(auto, using(crate::proofs::Feeds::eight_on))]
-fn past_sixteen(bytes: &[u8]) -> Option<&[u8]>
-    ensures passed { IfSome result (λ more. front (λ c. not (c == 10)) bytes.now ≡ 16 + front (λ c. not (c == 10)) more.now) }
-    ensures fewer { IfSome result (λ more. length bytes.now ≡ 16 + length more.now) }
-{
-    let [a, b, c, d, e, f, g, h, i, j, k, l, m, n, o, p, more @ ..] = bytes else {
-        return None;
-    };
-    if is_feed_among(*a, *b, *c, *d, *e, *f, *g, *h)
-        || is_feed_among(*i, *j, *k, *l, *m, *n, *o, *p)
-    {
-        None
-    } else {
-        Some(more)
-    }
-}
-
-// Whether one of eight bytes is a line feed.
-fn is_feed_among(a: u8, b: u8, c: u8, d: u8, e: u8, f: u8, g: u8, h: u8) -> bool
-    ensures { result ≡ is_feed_among a b c d e f g h }
-{
-    a == b'\n'
-        || b == b'\n'
-        || c == b'\n'
-        || d == b'\n'
-        || e == b'\n'
-        || f == b'\n'
-        || g == b'\n'
-        || h == b'\n'
+    before(&LineFeed, rest)
 }
 
 // The rest of a comment after its `/`.

@@ -34,7 +34,7 @@ pub(crate) fn slot_of(key: u64, first: u8) -> u64
     key.wrapping_add(first as u64).wrapping_mul(MULTIPLIER) / 0x10_0000_0000_0000
 }
 
-/// Whether two texts of one key are the same.
+/// Whether two texts of one key are the same: their last eight bytes are, where their lengths are.
 pub(crate) fn is_same_keyed(known: &[u8], text: &[u8]) -> bool
     requires { key_from 0 known.now ≡ key_from 0 text.now }
     ensures { IsTrue result ↔ (known.now ≡ text.now) }
@@ -45,5 +45,6 @@ pub(crate) fn is_same_keyed(known: &[u8], text: &[u8]) -> bool
     if text.len() <= 8 {
         return true;
     }
-    is_same(known, text)
+    let front = text.len() - 8;
+    is_same(&known[..front], &text[..front])
 }

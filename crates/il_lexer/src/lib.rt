@@ -13,6 +13,7 @@ mod pairs;
 mod quotes;
 mod runs;
 mod scan;
+mod searches;
 mod spellings;
 pub mod types;
 pub mod word;

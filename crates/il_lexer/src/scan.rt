@@ -1,6 +1,6 @@
 //! The tokens of a whole source.
 
-ghost use Rattle.std.specs.Prelude.{◌≡◌, ◌+◌, ◌-◌, ◌<◌, ◌≤◌, ◌^◌, length, drop, IsUtf8, MatchResult, MatchOption, ℕ, false};
+ghost use Rattle.std.specs.Prelude.{◌≡◌, ◌+◌, ◌-◌, ◌<◌, ◌≤◌, ◌^◌, length, drop, IsUtf8, MatchResult, MatchOption, ℕ, nat_le, true, false};
 ghost use Rattle.std.specs.Str.Lossy.{utf8_valid_len};
 ghost use Rattle.il_lexer.specs.Lexing.{place_after, place_of, mark_length, depth_after, is_opening, is_closing, IsAccepted, HasFault, IfBad, BreaksAt};
 
@@ -8,6 +8,7 @@ use crate::bytes::{behind, stands_at};
 use crate::gaps::past_gap;
 use crate::lexeme::token_at;
 use crate::lines::{first_line, place_on};
+use crate::searches::{Kind, before};
 use crate::types::{LexFault, Token, TokenKind, Tokens};
 use crate::word;
 use il_base::Pos;
@@ -171,11 +172,32 @@ fn scan(alloc: Global, source: &[u8]) -> Result<Tokens, LexFault>
     }
 }
 
+// A byte of 0x7F or above. That 0x7F, which is ASCII, is one of them lets sixteen bytes be compared together.
+struct HighByte;
+
+impl Kind for HighByte {
+    ghost is_kind = { λ _ c. nat_le 127 c };
+
+    fn has(&self, byte: u8) -> bool {
+        byte >= 0x7F
+    }
+}
+
+// Whether all bytes are low ones of ASCII, as those of most sources are.
+fn is_low(source: &[u8]) -> bool
+    ensures { result ≡ true → IsUtf8 source.now }
+{
+    before(&HighByte, source) == source.len()
+}
+
 // The place of the first byte of no whole character, where there is one.
 fn broken_at(source: &[u8]) -> Option<Pos>
     requires { length source.now ≤ 2 ^ 27 }
     ensures { MatchOption result (IsUtf8 source.now) (λ pos. (¬ (IsUtf8 source.now)) × (pos ≡ place_of source.now (utf8_valid_len source.now))) }
 {
+    if is_low(source) {
+        return None;
+    }
     match str::from_utf8(source) {
         Ok(_) => None,
         Err(error) => Some(place_at(source, first_place(source), 0, error.valid_up_to())),
