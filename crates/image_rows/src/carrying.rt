@@ -28,7 +28,7 @@ pub fn all_carried<'a, P, T: Carries<P>>(
 ) -> Result<Items<&'a P>, NoMemory>
     ensures { IfOk result (λ all. lent all ≡ map T.value_of (lent carriers.now)) }
 {
-    let mut all = Items::new(alloc);
+    let mut all = Items::with_capacity(alloc, carriers.len())?;
     add_carried(&mut all, carriers)?;
     Ok(all)
 }
@@ -41,7 +41,7 @@ pub fn carried_after<'a, P, T: Carries<P>>(
 ) -> Result<Items<&'a P>, NoMemory>
     ensures { IfOk result (λ all. lent all ≡ first.now ∷ map T.value_of (lent carriers.now)) }
 {
-    let mut all = Items::new(alloc);
+    let mut all = Items::with_capacity(alloc, carriers.len().saturating_add(1))?;
     all.push(first)?;
     add_carried(&mut all, carriers)?;
     Ok(all)

@@ -24,7 +24,7 @@ pub fn classes_of<'a>(alloc: Global, a: &'a Assembly) -> Result<Classes<'a>, NoM
     ensures classes { IfOk result (AreClasses 0 2 a.now.types) }
     ensures few { IfOk result (λ classes. 64 * length classes ≤ weight_of a.now) }
 {
-    let mut into = Items::new(alloc);
+    let mut into = Items::with_capacity(alloc, a.types.len())?;
     add_classes(a.types.as_slice(), 0, &mut into)?;
     Ok(into)
 }

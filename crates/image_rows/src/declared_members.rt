@@ -32,9 +32,10 @@ pub fn declare_members<'a>(
     requires room { size refs.old + (fields_bytes a.now classes.now + methods_bytes a.now classes.now) ≤ 2 ^ 26 }
     ensures { OnOk result (HasMembers a.now classes.now refs.old refs.new) }
 {
+    refs.make_room(alloc, classes.len() + 1)?;
     let mut fields = RowList::new(alloc);
     declare_fields(alloc, refs, &mut fields, a.fields.as_slice(), classes)?;
-    let mut methods = RowList::new(alloc);
+    let mut methods = RowList::with_room(alloc, classes.len())?;
     declare_methods(alloc, refs, &mut methods, a.methods.as_slice(), classes)?;
     put_rows(refs, fields, methods);
     Ok(())

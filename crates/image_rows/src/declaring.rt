@@ -12,6 +12,9 @@ use image_references::texts::add_id;
 use std::alloc::Global;
 use type_terms::TypeId;
 
+/// How many names there are mostly beside those of types.
+const MORE_NAMES: usize = 100;
+
 /// The rows of `<Module>` and of the declared types, each found by its encloser's row, its name and its
 /// space.
 pub fn declare_types<'a>(
@@ -25,7 +28,8 @@ pub fn declare_types<'a>(
     requires few { length classes.now < 2 ^ 24 - 2 }
     ensures { IfOk result (IsDeclaring classes.now strings.old strings.new) }
 {
-    let mut rows = RowSet::new(alloc);
+    strings.make_room(alloc, classes.len() + MORE_NAMES)?;
+    let mut rows = RowSet::with_room(alloc, classes.len() + 1)?;
     let module = module_id(alloc)?;
     declare_type(strings, &mut rows, 0, &module)?;
     declare_classes(strings, &mut rows, classes)?;

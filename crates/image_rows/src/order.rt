@@ -44,7 +44,8 @@ fn members_of_module<'a>(
 {
     let mut fields = Items::new(alloc);
     add_all(&mut fields, a.fields.as_slice())?;
-    let mut methods = Items::new(alloc);
+    // Most types have a method.
+    let mut methods = Items::with_capacity(alloc, types)?;
     let mut params = Items::new(alloc);
     add_methods(&mut methods, &mut params, a.methods.as_slice())?;
     let types = Items::with_capacity(alloc, types)?;

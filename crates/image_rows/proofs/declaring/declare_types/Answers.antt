@@ -7,8 +7,8 @@ use Rattle.image_rows.proofs.declaring.declare_types.Goals as goal
 
 pub returns : goal.returns
 returns c =
-    let first : Declares (module_place ∷ []) 10 c.args.strings.now c.declare_type.new.strings c.new-rows.result c.declare_type.new.rows =
-    subst (λ (id : TypeId). Declares (record { encloser = 0; id = id } ∷ []) (id_size id) c.args.strings.now c.declare_type.new.strings c.new-rows.result c.declare_type.new.rows)
+    let first : Declares (module_place ∷ []) 10 c.make_room.new.self c.declare_type.new.strings c.in_ok-rows.rows c.declare_type.new.rows =
+    subst (λ (id : TypeId). Declares (record { encloser = 0; id = id } ∷ []) (id_size id) c.make_room.new.self c.declare_type.new.strings c.in_ok-rows.rows c.declare_type.new.rows)
     c.in_ok-module.ensures c.in_ok-declare_type.ensures in
-    declares_all c.args.classes.now c.args.strings.now c.declare_type.new.strings c.declare_classes.new.strings c.new-rows.result c.declare_type.new.rows c.declare_classes.new.rows
-    c.new-rows.ensures c.requires.apart first c.in_ok-declare_classes.ensures
+    declares_all c.args.classes.now c.args.strings.now c.declare_type.new.strings c.declare_classes.new.strings c.in_ok-rows.rows c.declare_type.new.rows c.declare_classes.new.rows
+    c.in_ok-rows.ensures c.requires.apart (rw c.make_room.ensures at first) c.in_ok-declare_classes.ensures

@@ -13,7 +13,7 @@ returns c =
     record {
       types = ap (lent {X = TypeDef}) c.in_ok-types.ensures;
       fields = c.in_ok-add_all.ensures ∙ ap (λ xs. lent xs ++ c.as_slice.result.now) c.new-fields.ensures ∙ c.as_slice.ensures ∙ sym (append-nil a.fields);
-      methods = c.in_ok-add_methods.ensures.methods ∙ ap (λ xs. lent xs ++ c.as_slice-2.result.now) c.new-methods.ensures ∙ c.as_slice-2.ensures ∙ sym (append-nil a.methods);
+      methods = c.in_ok-add_methods.ensures.methods ∙ ap (λ xs. lent xs ++ c.as_slice-2.result.now) c.in_ok-methods.ensures ∙ c.as_slice-2.ensures ∙ sym (append-nil a.methods);
       params = c.in_ok-add_methods.ensures.params ∙ ap (λ xs. lent xs ++ flat_map params_of c.as_slice-2.result.now) c.new-params.ensures
           ∙ ap (λ xs. flat_map params_of xs) (c.as_slice-2.ensures ∙ sym (append-nil a.methods));
       properties = ap (lent {X = Property}) c.new.ensures;
