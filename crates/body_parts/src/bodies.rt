@@ -22,7 +22,7 @@ ghost use Rattle.body_parts.specs.MethodsInRange.{IsMethodInRange};
 ghost use Rattle.body_parts.specs.NamedVariables.{AreVariables, takes_variables};
 ghost use Rattle.body_parts.specs.WholeBodies.{IsBodyOf};
 
-use crate::body_labels::names_of_many;
+use crate::body_labels::names_of_several;
 use crate::body_lines::Lines;
 use crate::body_places::BodyPlace;
 use crate::code_places::Code;
@@ -85,7 +85,7 @@ fn body_with(
         ArePieces nodes.now found.now (instructions_of f) → named.now ≡ labels f → IsHeld held f → IfOk result (λ b. IsBodyOf s a f b) }
 {
     let starts = first_tokens(alloc, nodes, found)?;
-    let names = names_of_many(alloc, &place.reader, named)?;
+    let names = names_of_several(alloc, &place.reader, named)?;
     let locals = locals_in(alloc, nodes, held)?;
     let variables = variables_of(alloc, &place.reader, nodes, locals.as_slice(), found)?;
     let at = BodyPlace {

@@ -12,13 +12,17 @@ use source_reading::labels::names_at;
 use source_reading::reader::Reader;
 use std::alloc::Global;
 
-/// The names of labels by which one is found, from the tokens of them; none where the labels are so few that one is found as soon
-/// by going through the tokens.
-pub fn names_of_many(alloc: Global, reader: &Reader, tokens: &[u32]) -> Result<Declared, NoMemory>
+/// The names of labels by which one is found, from the tokens of them; none where there is one label or none, which is compared by
+/// itself.
+pub fn names_of_several(
+    alloc: Global,
+    reader: &Reader,
+    tokens: &[u32],
+) -> Result<Declared, NoMemory>
     ensures { (s : Source) → Reads reader.now s → AreNames s tokens.now →
         IfOk result (λ names. (names ≡ []) ⊎ (names ≡ map (name_text s) tokens.now)) }
 {
-    if tokens.len() <= 8 {
+    if tokens.len() <= 1 {
         return Ok(Declared::new(alloc));
     }
     names_at(alloc, reader, tokens)

@@ -19,8 +19,8 @@ use source_reading::narrowing::word_of;
 use source_reading::reader::Reader;
 use std::alloc::Global;
 
-/// The labels of a method by the tokens of their names, and the first tokens of its instructions. Where the labels are many, `names`
-/// are theirs; else it is empty.
+/// The labels of a method by the tokens of their names, and the first tokens of its instructions. Where there are several labels,
+/// `names` are theirs; else it is empty.
 #[derive(Clone, Copy)]
 pub struct Code<'a> {
     pub reader: Reader<'a>,
