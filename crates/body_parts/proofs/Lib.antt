@@ -1,6 +1,7 @@
 pub mod BodyLemmas
 pub mod ClauseLemmas
 pub mod FormLemmas
+pub mod Halves
 pub mod HeldLemmas
 pub mod InstructionLemmas
 pub mod LabelPlaces
@@ -14,3 +15,4 @@ pub mod RangeNames
 pub mod RealParts
 pub mod References
 pub mod VariableParts
+pub mod WholeCode

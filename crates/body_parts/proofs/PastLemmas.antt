@@ -13,7 +13,7 @@ use Rattle.source_model.specs.Forest.{Forest, is_among, parts, parts_outside}
 use Rattle.source_model.specs.Instructions.{instruction_forms}
 use Rattle.source_model.specs.Source.{Source}
 use Rattle.source_reading.specs.Derived.{HasBodies}
-use Rattle.body_parts.specs.HeldItems.{head_forms, line_forms, passed_forms, told_forms}
+use Rattle.body_parts.specs.HeldItems.{going_forms, head_forms, line_forms, passed_forms, told_forms}
 
 pub local_past : is_past Instructions (LOCAL ∷ []) ≡ true
 unfolding is_past mask_of ilasm_tables has_bit
@@ -103,6 +103,19 @@ head_untold = none_of told_forms head_forms refl
 
 pub name_untold : (p : ℕ) → is_among (ITEM_NAME ∷ []) p ≡ true → is_among told_forms p ≡ false
 name_untold = none_of told_forms (ITEM_NAME ∷ []) refl
+
+-- what goes on with the items of a method is nothing that is looked for or gone past
+pub going_untold : (p : ℕ) → is_among going_forms p ≡ true → is_among told_forms p ≡ false
+going_untold = none_of told_forms going_forms refl
+
+pub going_unpassed : (p : ℕ) → is_among going_forms p ≡ true → is_among passed_forms p ≡ false
+going_unpassed = none_of passed_forms going_forms refl
+
+pub going_no_instruction : (p : ℕ) → is_among going_forms p ≡ true → is_among instruction_forms p ≡ false
+going_no_instruction = none_of instruction_forms going_forms refl
+
+pub going_unnamed : (p : ℕ) → is_among going_forms p ≡ true → is_among (ITEM_NAME ∷ []) p ≡ false
+going_unnamed = none_of (ITEM_NAME ∷ []) going_forms refl
 
 -- what is gone past, by its kinds
 among_both : (xs ys : List ℕ) (p : ℕ) → is_among (xs ++ ys) p ≡ (is_among xs p || is_among ys p)

@@ -6,6 +6,7 @@ use Rattle.source_model.specs.Instructions.{instructions_of, labels, mnemonic_to
 use Rattle.source_model.specs.Source.{Source}
 use Rattle.source_model.specs.Values.{name_text}
 use Rattle.source_reading.specs.Methods.{AreNames}
+use Rattle.source_reading.specs.Pieces.{ArePieces}
 use Rattle.source_reading.specs.Readers.{Reads}
 use Rattle.body_parts.specs.declared.code_places.Code.{Code}
 
@@ -13,12 +14,12 @@ use Rattle.body_parts.specs.declared.code_places.Code.{Code}
 abbrev pub first_named : Source → List ℕ → List ℕ → Option ℕ
 first_named s name tokens = find (λ token. bytes_eq (name_text s token) name) tokens
 
--- these are the labels and the first tokens of the instructions of a method, which is given by what stands below its production
+-- these are the labels and the instructions of a method, which is given by what stands below its production
 pub record IsCode (x : Code) (s : Source) (f : Forest) : Type 0 where
   pub reads : Reads x.reader s
   pub labels-are : x.labels.now ≡ labels f
   pub labelled : AreNames s x.labels.now
   pub names-are : (x.names.now ≡ []) ⊎ (x.names.now ≡ map (name_text s) x.labels.now)
-  pub starts-are : x.starts.now ≡ map mnemonic_token (instructions_of f)
-  pub rising : IsNonDecreasing x.starts.now
-  pub few : length x.starts.now < 2 ^ 32
+  pub instructions-are : ArePieces x.nodes.now x.instructions.now (instructions_of f)
+  pub rising : IsNonDecreasing (map mnemonic_token (instructions_of f))
+  pub few : length x.instructions.now < 2 ^ 32

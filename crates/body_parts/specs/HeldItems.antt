@@ -8,8 +8,10 @@ use Rattle.ilasm_grammar.specs.declared.productions.TheConstants.{
   INIT_OPT_SOME,
   ITEM_CUSTOM,
   ITEM_ENTRYPOINT,
+  ITEM_INSTRUCTION,
   ITEM_MAXSTACK,
   ITEM_NAME,
+  ITEM_STAR_MORE,
   LOCAL,
   MEMBER_CUSTOM,
   MEMBER_PARAM,
@@ -28,6 +30,10 @@ use Rattle.body_parts.specs.declared.held.Held.{Held}
 -- what stands before the braces of a method, and types
 abbrev pub head_forms : List ℕ
 head_forms = METHOD_ATTR_STAR_MORE ∷ CALL_CONV ∷ TYPE ∷ DEF_ARGS_OPT_SOME ∷ IMPL_ATTR_STAR_MORE ∷ []
+
+-- what holds items of a method, and is nothing by itself
+abbrev pub going_forms : List ℕ
+going_forms = ITEM_INSTRUCTION ∷ ITEM_STAR_MORE ∷ []
 
 -- what the walk of a method goes past: its head, types, instructions and the names of labels
 abbrev pub passed_forms : List ℕ

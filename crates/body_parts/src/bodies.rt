@@ -1,28 +1,27 @@
 //! The bodies of methods (ECMA-335 II.15.4.1, II.25.4).
 
-ghost use Rattle.std.specs.Prelude.{◌≡◌, ◌==◌, ◌<◌, ◌^◌, ◌∷◌, [], IfOk, length, Some, None, true};
+ghost use Rattle.std.specs.Prelude.{◌≡◌, ◌⊎◌, ◌==◌, ◌<◌, ◌^◌, ◌∷◌, [], IfOk, length, map};
 ghost use Rattle.std.specs.List.{list_any};
 ghost use Rattle.ilasm_grammar.specs.declared.productions.TheConstants.{INSTRUCTION_OP_VAR, LOCAL};
-ghost use Rattle.source_model.specs.Bodies.{body, body_unless_empty, code};
+ghost use Rattle.source_model.specs.Bodies.{body};
 ghost use Rattle.source_model.specs.BodyNumbers.{body_numbers_out_of_range_in};
 ghost use Rattle.source_model.specs.Forest.{Forest, parts, preorder};
 ghost use Rattle.source_model.specs.Instructions.{instructions_of, labels};
 ghost use Rattle.source_model.specs.Nodes.{Around, Node};
 ghost use Rattle.source_model.specs.Source.{Source};
+ghost use Rattle.source_model.specs.Values.{name_text};
 ghost use Rattle.source_flags.specs.InRange.{AllInRange};
 ghost use Rattle.source_reading.specs.Methods.{IsMethod};
 ghost use Rattle.source_reading.specs.Pieces.{ArePieces, AreParts};
 ghost use Rattle.source_reading.specs.Places.{IsAt};
-ghost use Rattle.source_reading.specs.Readers.{Reads};
 ghost use Rattle.source_reading.specs.Walk.{IsForest};
 ghost use Rattle.body_parts.specs.BodyLines.{AreLines};
 ghost use Rattle.body_parts.specs.BodyPlaces.{IsWithin};
+ghost use Rattle.body_parts.specs.CodePlaces.{IsCode};
 ghost use Rattle.body_parts.specs.HeldItems.{IsHeld};
 ghost use Rattle.body_parts.specs.MethodsInRange.{IsMethodInRange};
-ghost use Rattle.body_parts.specs.NamedVariables.{AreVariables, takes_variables};
 ghost use Rattle.body_parts.specs.WholeBodies.{IsBodyOf};
 
-use crate::body_labels::names_of_several;
 use crate::body_lines::Lines;
 use crate::body_places::BodyPlace;
 use crate::code_places::Code;
@@ -35,9 +34,10 @@ use assembly_tree::Body;
 use il_base::NoMemory;
 use ilasm_grammar::TreeNode;
 use ilasm_grammar::productions::INSTRUCTION_OP_VAR;
-use source_reading::pieces::{Piece, first_tokens};
+use source_reading::declared::Declared;
+use source_reading::labels::names_at;
+use source_reading::pieces::Piece;
 use source_reading::place::Place;
-use source_reading::reader::Reader;
 use std::alloc::Global;
 
 /// The body of a method, from the nodes below its production and what was found in them; a method whose braces hold no instruction
@@ -69,7 +69,7 @@ pub fn body(
     Ok(Some(one))
 }
 
-// The body of a method that has these instructions, and labels with these names.
+// The body of a method that has these instructions, and labels with these names. One label is compared by itself.
 fn body_with(
     alloc: Global,
     place: &Place,
@@ -84,42 +84,96 @@ fn body_with(
     ensures { (s : Source) (a : Around) (f : Forest) → IsAt place.now s a → preorder f ≡ nodes.now → IsMethodInRange s f →
         ArePieces nodes.now found.now (instructions_of f) → named.now ≡ labels f → IsHeld held f → IfOk result (λ b. IsBodyOf s a f b) }
 {
-    let starts = first_tokens(alloc, nodes, found)?;
-    let names = names_of_several(alloc, &place.reader, named)?;
+    if named.len() > 1 {
+        return body_of_many_labels(alloc, place, nodes, found, named, held);
+    }
+    let names = Declared::new(alloc);
+    body_named(alloc, place, nodes, found, named, &names, held)
+}
+
+// The same of a method with several labels, which are found by their names.
+#[inline(never)]
+fn body_of_many_labels(
+    alloc: Global,
+    place: &Place,
+    nodes: &[TreeNode],
+    found: &[Piece],
+    named: &[u32],
+    held: Held,
+) -> Result<Body, NoMemory>
+    requires forest { IsForest nodes.now }
+    requires parts { AreParts nodes.now found.now }
+    requires few { length nodes.now < 2 ^ 32 }
+    ensures { (s : Source) (a : Around) (f : Forest) → IsAt place.now s a → preorder f ≡ nodes.now → IsMethodInRange s f →
+        ArePieces nodes.now found.now (instructions_of f) → named.now ≡ labels f → IsHeld held f → IfOk result (λ b. IsBodyOf s a f b) }
+{
+    let names = names_at(alloc, &place.reader, named)?;
+    body_named(alloc, place, nodes, found, named, &names, held)
+}
+
+// The same with the names of the labels, or none.
+fn body_named(
+    alloc: Global,
+    place: &Place,
+    nodes: &[TreeNode],
+    found: &[Piece],
+    named: &[u32],
+    names: &Declared,
+    held: Held,
+) -> Result<Body, NoMemory>
+    requires forest { IsForest nodes.now }
+    requires parts { AreParts nodes.now found.now }
+    requires few { length nodes.now < 2 ^ 32 }
+    ensures { (s : Source) (a : Around) (f : Forest) → IsAt place.now s a → preorder f ≡ nodes.now → IsMethodInRange s f →
+        ArePieces nodes.now found.now (instructions_of f) → named.now ≡ labels f → (names.now ≡ []) ⊎ (names.now ≡ map (name_text s) named.now) →
+        IsHeld held f → IfOk result (λ b. IsBodyOf s a f b) }
+{
     let locals = locals_in(alloc, nodes, held)?;
-    let variables = variables_of(alloc, &place.reader, nodes, locals.as_slice(), found)?;
+    let code = Code {
+        reader: place.reader,
+        nodes,
+        instructions: found,
+        labels: named,
+        names,
+    };
+    if takes_variables(found) {
+        return body_with_variables(alloc, place, &code, nodes, found, locals.as_slice(), held);
+    }
+    let variables = Variables::none(alloc);
     let at = BodyPlace {
         place: *place,
-        code: Code {
-            reader: place.reader,
-            labels: named,
-            names: &names,
-            starts: starts.as_slice(),
-        },
+        code,
         variables: &variables,
     };
     body_at(alloc, &at, nodes, found, locals.as_slice(), held)
 }
 
-// The arguments and the locals of a method that have names, which are looked for only where an instruction takes one.
-fn variables_of(
+// The same of a method of which an instruction takes an argument or a local. Those that have names are looked for only there.
+#[inline(never)]
+fn body_with_variables(
     alloc: Global,
-    reader: &Reader,
+    place: &Place,
+    code: &Code,
     nodes: &[TreeNode],
-    locals: &[Piece],
     found: &[Piece],
-) -> Result<Variables, NoMemory>
+    locals: &[Piece],
+    held: Held,
+) -> Result<Body, NoMemory>
     requires forest { IsForest nodes.now }
+    requires parts { AreParts nodes.now found.now }
     requires locals { AreParts nodes.now locals.now }
-    ensures { (s : Source) (n : Node) → Reads reader.now s → IsMethod s n → preorder n.below ≡ nodes.now → ArePieces nodes.now locals.now (parts (LOCAL ∷ []) n.below) →
-        ArePieces nodes.now found.now (instructions_of n.below) → IfOk result (λ x. takes_variables n.below ≡ true → AreVariables x s n.below) }
+    requires few { length nodes.now < 2 ^ 32 }
+    ensures { (s : Source) (a : Around) (f : Forest) → IsAt place.now s a → IsCode code.now s f → preorder f ≡ nodes.now → IsMethodInRange s f →
+        ArePieces nodes.now found.now (instructions_of f) → ArePieces nodes.now locals.now (parts (LOCAL ∷ []) f) →
+        IsHeld held f → IfOk result (λ b. IsBodyOf s a f b) }
 {
-    if takes_variables(found) {
-        let variables = Variables::read(alloc, reader, nodes, locals)?;
-        Ok(variables)
-    } else {
-        Ok(Variables::none(alloc))
-    }
+    let variables = Variables::read(alloc, &place.reader, nodes, locals)?;
+    let at = BodyPlace {
+        place: *place,
+        code: *code,
+        variables: &variables,
+    };
+    body_at(alloc, &at, nodes, found, locals, held)
 }
 
 // Whether one of these instructions takes an argument or a local.
@@ -130,6 +184,7 @@ fn takes_variables(found: &[Piece]) -> bool
 }
 
 // The body of the method that a place is within.
+#[inline(never)]
 fn body_at(
     alloc: Global,
     at: &BodyPlace,

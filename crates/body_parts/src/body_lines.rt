@@ -2,7 +2,7 @@
 
 ghost use Rattle.std.specs.Prelude.{◌≡◌, ◌++◌, ◌∷◌, [], IfOk, OnOk};
 ghost use Rattle.body_parts.specs.BodyLines.{AreLines};
-ghost use Rattle.body_parts.specs.HeldItems.{head_forms};
+ghost use Rattle.body_parts.specs.HeldItems.{going_forms, head_forms};
 ghost use Rattle.source_model.specs.Forest.{Forest, is_among, preorder};
 ghost use Rattle.source_model.specs.Instructions.{instruction_forms};
 ghost use Rattle.source_model.specs.Source.{Source};
@@ -54,7 +54,9 @@ pub fn lines_in(alloc: Global, nodes: &[TreeNode]) -> Result<Lines, NoMemory>
                     count,
                 };
                 at = start;
-                if is_instruction(production) {
+                if goes_on(production) {
+                    at = start;
+                } else if is_instruction(production) {
                     instructions.push(piece)?;
                     at = start + count;
                 } else if production == productions::ITEM_NAME {
@@ -86,6 +88,16 @@ fn push_label(labels: &mut Items<u32>, token: u32) -> Result<(), NoMemory>
     } else {
         labels.push(token)
     }
+}
+
+// Whether a production goes on with the items of a method, or is the item of an instruction: most are.
+fn goes_on(production: u16) -> bool
+    ensures { result ≡ is_among going_forms production }
+{
+    matches!(
+        production,
+        productions::ITEM_INSTRUCTION | productions::ITEM_STAR_MORE
+    )
 }
 
 fn is_instruction(production: u16) -> bool

@@ -1,32 +1,38 @@
 //! The numbers that labels and braces stand for in the code of a method (ECMA-335 II.5.4, II.15.4.1, II.19).
 
-ghost use Rattle.std.specs.Prelude.{◌≡◌, IfOk, bytes_eq, slice_get};
+ghost use Rattle.std.specs.Prelude.{◌≡◌, IfOk, List, bytes_eq, map, slice_get};
 ghost use Rattle.std.specs.List.Sorted.{IsNonDecreasing};
 ghost use Rattle.body_parts.specs.CodePlaces.{IsCode, first_named};
 ghost use Rattle.il_lexer.specs.declared.types.TokenKind.TheVariants.{Name};
-ghost use Rattle.source_model.specs.Forest.{Forest};
-ghost use Rattle.source_model.specs.Instructions.{label_named, label_number, labels, number_at};
+ghost use Rattle.source_model.specs.Forest.{Forest, Part, first_token, preorder};
+ghost use Rattle.source_model.specs.Instructions.{label_named, label_number, labels, mnemonic_token, number_at};
 ghost use Rattle.source_model.specs.Source.{Source};
 ghost use Rattle.source_reading.specs.Labels.{count_below};
 ghost use Rattle.source_model.specs.Values.{name_text};
 ghost use Rattle.source_reading.specs.Methods.{AreNames};
+ghost use Rattle.source_reading.specs.Pieces.{ArePieces};
 ghost use Rattle.source_reading.specs.Readers.{IsOf, Reads};
 
 use il_base::NoMemory;
+use ilasm_grammar::TreeNode;
+use source_model::{derivations_are_forests, forests_join, forests_open};
 use source_reading::declared::Declared;
 use source_reading::equality::are_equal;
 use source_reading::narrowing::word_of;
+use source_reading::pieces::{Piece, nodes_of};
 use source_reading::reader::Reader;
+use source_reading::walk::next;
 use std::alloc::Global;
 
-/// The labels of a method by the tokens of their names, and the first tokens of its instructions. Where there are several labels,
-/// `names` are theirs; else it is empty.
+/// The labels of a method by the tokens of their names, and its instructions among the nodes below its production. Where there are
+/// several labels, `names` are theirs; else it is empty.
 #[derive(Clone, Copy)]
 pub struct Code<'a> {
     pub reader: Reader<'a>,
+    pub nodes: &'a [TreeNode],
+    pub instructions: &'a [Piece],
     pub labels: &'a [u32],
     pub names: &'a Declared,
-    pub starts: &'a [u32],
 }
 
 impl<'a> Code<'a> {
@@ -34,7 +40,7 @@ impl<'a> Code<'a> {
     pub fn number_at(&self, token: u32) -> u32
         ensures { (s : Source) (f : Forest) → IsCode self.now s f → result ≡ number_at f token }
     {
-        word_of(number_before(self.starts, token))
+        word_of(number_before(self.nodes, self.instructions, token))
     }
 
     /// The number of the instruction that follows the label with a name, or of all instructions at the end.
@@ -44,7 +50,7 @@ impl<'a> Code<'a> {
         let found = self.label_at(alloc, token)?;
         match found {
             Some(label) => Ok(self.number_at(label)),
-            None => Ok(word_of(self.starts.len())),
+            None => Ok(word_of(self.instructions.len())),
         }
     }
 
@@ -110,9 +116,36 @@ fn is_named(alloc: Global, reader: &Reader, token: u32, name: &[u8]) -> Result<b
     Ok(are_equal(text.as_bytes(), name))
 }
 
-// How many tokens are less than one, where they never fall.
-fn number_before(starts: &[u32], token: u32) -> usize
-    ensures { IsNonDecreasing starts.now → result ≡ count_below token starts.now }
+// How many instructions begin before a token, where their first tokens never fall.
+fn number_before(nodes: &[TreeNode], instructions: &[Piece], token: u32) -> usize
+    ensures { (ps : List Part) → ArePieces nodes.now instructions.now ps → IsNonDecreasing (map mnemonic_token ps) → result ≡ count_below token (map mnemonic_token ps) }
 {
-    starts.partition_point(|start| *start < token)
+    let mut low = 0;
+    let mut high = instructions.len();
+    while low < high {
+        let middle = low + (high - low) / 2;
+        if first_leaf(nodes_of(nodes, instructions[middle])) < token {
+            low = middle + 1;
+        } else {
+            high = middle;
+        }
+    }
+    low
+}
+
+// The first token among some nodes; 0 where there is none.
+fn first_leaf(nodes: &[TreeNode]) -> u32
+    ensures { (f : Forest) → preorder f ≡ nodes.now → result ≡ first_token f }
+{
+    derivations_are_forests();
+    forests_open();
+    forests_join();
+    let mut left = nodes;
+    while let Some((node, rest)) = next(left) {
+        match node {
+            TreeNode::Branch { .. } => left = rest,
+            TreeNode::Leaf { token } => return token,
+        }
+    }
+    0
 }

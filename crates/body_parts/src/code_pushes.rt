@@ -10,6 +10,7 @@ use opcode_table::Op;
 use type_terms::{FieldRef, MethodRef, Owner};
 
 /// Adds one that takes nothing.
+#[inline(never)]
 pub fn push_plain(all: &mut Code, op: Op) -> Result<(), NoMemory>
     ensures { OnOk result (all.new ≡ all.old ++ instruction_with op operand.Nothing ∷ []) }
 {
@@ -20,6 +21,7 @@ pub fn push_plain(all: &mut Code, op: Op) -> Result<(), NoMemory>
 }
 
 /// Adds one that takes an argument or a local.
+#[inline(never)]
 pub fn push_variable(all: &mut Code, op: Op, number: u16) -> Result<(), NoMemory>
     ensures { OnOk result (all.new ≡ all.old ++ instruction_with op (operand.Var number) ∷ []) }
 {
@@ -30,6 +32,7 @@ pub fn push_variable(all: &mut Code, op: Op, number: u16) -> Result<(), NoMemory
 }
 
 /// Adds one that takes a whole number.
+#[inline(never)]
 pub fn push_number(all: &mut Code, op: Op, number: i64) -> Result<(), NoMemory>
     ensures { OnOk result (all.new ≡ all.old ++ instruction_with op (operand.Int number) ∷ []) }
 {
@@ -40,6 +43,7 @@ pub fn push_number(all: &mut Code, op: Op, number: i64) -> Result<(), NoMemory>
 }
 
 /// Adds one that takes the bits of a real number.
+#[inline(never)]
 pub fn push_real(all: &mut Code, op: Op, bits: u64) -> Result<(), NoMemory>
     ensures { OnOk result (all.new ≡ all.old ++ instruction_with op (operand.Real bits) ∷ []) }
 {
@@ -50,6 +54,7 @@ pub fn push_real(all: &mut Code, op: Op, bits: u64) -> Result<(), NoMemory>
 }
 
 /// Adds one that takes the number of an instruction.
+#[inline(never)]
 pub fn push_target(all: &mut Code, op: Op, number: u32) -> Result<(), NoMemory>
     ensures { OnOk result (all.new ≡ all.old ++ instruction_with op (operand.Target number) ∷ []) }
 {
@@ -60,6 +65,7 @@ pub fn push_target(all: &mut Code, op: Op, number: u32) -> Result<(), NoMemory>
 }
 
 /// Adds one that takes those of some instructions.
+#[inline(never)]
 pub fn push_targets(all: &mut Code, op: Op, numbers: Numbers) -> Result<(), NoMemory>
     ensures { OnOk result (all.new ≡ all.old ++ instruction_with op (operand.Targets numbers) ∷ []) }
 {
@@ -70,6 +76,7 @@ pub fn push_targets(all: &mut Code, op: Op, numbers: Numbers) -> Result<(), NoMe
 }
 
 /// Adds one that takes a string.
+#[inline(never)]
 pub fn push_text(all: &mut Code, op: Op, units: Units) -> Result<(), NoMemory>
     ensures { OnOk result (all.new ≡ all.old ++ instruction_with op (operand.Text units) ∷ []) }
 {
@@ -80,6 +87,7 @@ pub fn push_text(all: &mut Code, op: Op, units: Units) -> Result<(), NoMemory>
 }
 
 /// Adds one that takes a type.
+#[inline(never)]
 pub fn push_owner(all: &mut Code, op: Op, owner: Owner) -> Result<(), NoMemory>
     ensures { OnOk result (all.new ≡ all.old ++ instruction_with op (operand.Of owner) ∷ []) }
 {
@@ -90,6 +98,7 @@ pub fn push_owner(all: &mut Code, op: Op, owner: Owner) -> Result<(), NoMemory>
 }
 
 /// Adds one that takes a method.
+#[inline(never)]
 pub fn push_method_ref(all: &mut Code, op: Op, reference: MethodRef) -> Result<(), NoMemory>
     ensures { OnOk result (all.new ≡ all.old ++ instruction_with op (operand.Method reference) ∷ []) }
 {
@@ -100,6 +109,7 @@ pub fn push_method_ref(all: &mut Code, op: Op, reference: MethodRef) -> Result<(
 }
 
 /// Adds one that takes a field.
+#[inline(never)]
 pub fn push_field_ref(all: &mut Code, op: Op, reference: FieldRef) -> Result<(), NoMemory>
     ensures { OnOk result (all.new ≡ all.old ++ instruction_with op (operand.Field reference) ∷ []) }
 {

@@ -3,7 +3,6 @@
 #![tactic(auto)]
 
 pub mod bodies;
-pub mod body_labels;
 pub mod body_lines;
 pub mod body_places;
 pub mod clause_ranges;

@@ -1,5 +1,5 @@
 -- What the walk for the lines of a method goes past has none of those that are looked for, and what it says of a plain method.
-use Rattle.std.proofs.Common.{◌≡◌, ℕ, List, [], ◌∷◌, ◌++◌, length, map, ap, sym, ◌∙◌, refl, subst}
+use Rattle.std.proofs.Common.{◌≡◌, ℕ, List, [], ◌∷◌, ◌++◌, map, ap, sym, ◌∙◌, refl}
 use Rattle.std.specs.Prelude.{Bool, true, false, not, ◌==◌, ◌||◌, ◌&&◌, if◌then◌else◌}
 use Rattle.std.specs.List.{flat_map, list_all}
 use Rattle.std.proofs.lemmas.Bool.{and_parts, eqb-true, false≢true}
@@ -7,13 +7,12 @@ use Rattle.std.proofs.lemmas.Grind.{flat_map-append}
 use Rattle.ilasm_grammar.specs.Ilasm.{body_at, has_bit}
 use Rattle.ilasm_grammar.specs.declared.productions.TheConstants.{ITEM_NAME}
 use Rattle.ilasm_grammar.specs.declared.tree.TreeNode.{TreeNode}
-use Rattle.ilasm_grammar.specs.declared.tree.TreeNode.TheVariants.{Branch}
 use Rattle.ilasm_grammar.proofs.TableCheck.{ilasm_tables}
 use Rattle.ilasm_grammar.proofs.Tables.{all_below}
-use Rattle.source_model.specs.BodyFaults.{label_names, label_names_in}
+use Rattle.source_model.specs.BodyFaults.{label_names_in}
 use Rattle.source_model.specs.Forest as tree
 use Rattle.source_model.specs.Forest.{Forest, Part, part, parts, parts_outside, preorder, is_among}
-use Rattle.source_model.specs.Instructions.{instruction_forms, instructions_of, targets}
+use Rattle.source_model.specs.Instructions.{instruction_forms, targets}
 use Rattle.source_model.specs.Source.{Source}
 use Rattle.source_reading.specs.Derived.{HasBodies}
 use Rattle.source_reading.specs.Pieces.{written}
@@ -121,6 +120,13 @@ no_name_among q e = ap (λ (c : Bool). c || false) (turned q ITEM_NAME e)
 
 pub unshut : (q : ℕ) → (q == ITEM_NAME) ≡ false → is_among instruction_forms q ≡ false → is_among shut q ≡ false
 unshut q e form = ap (λ (c : Bool). c || is_among instruction_forms q) (turned q ITEM_NAME e) ∙ form
+
+pub no_line_shut : (q : ℕ) → is_among (ITEM_NAME ∷ []) q ≡ false → is_among instruction_forms q ≡ false → is_among shut q ≡ false
+no_line_shut q e form = go (ITEM_NAME == q) e
+  where
+    go : (c : Bool) → (c || false) ≡ false → (c || is_among instruction_forms q) ≡ false
+    go false h = form
+    go true h = absurd (false≢true (sym h))
 
 -- ---- a method without the others
 

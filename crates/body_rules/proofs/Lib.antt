@@ -8,6 +8,7 @@ pub mod CodeLineLemmas
 pub mod EndLemmas
 pub mod KnownLemmas
 pub mod LabelWalks
+pub mod LineTable
 pub mod NamedLemmas
 pub mod NamingLemmas
 pub mod OffsetLemmas

@@ -10,7 +10,7 @@ use Rattle.source_model.specs.Forest.{Forest, Part}
 use Rattle.source_model.specs.Source.{Source}
 use Rattle.source_reading.specs.Pieces.{ArePieces, piece_of, written}
 use Rattle.source_reading.specs.declared.pieces.Piece.{Piece}
-use Rattle.body_rules.specs.OperandRanges.{is_ranged, number_at_fault, operand_at_fault, real_at_fault, variable_at_fault}
+use Rattle.body_rules.specs.OperandRanges.{is_ranged, operand_at_fault, real_at_fault, variable_at_fault}
 
 any_mapped : {X Y : Type 0} (t : Y → Bool) (g : X → Y) (xs : List X) → list_any t (map g xs) ≡ list_any (λ x. t (g x)) xs
 any_mapped t g [] = refl

@@ -8,7 +8,7 @@ ghost use Rattle.source_model.specs.Source.{Source};
 ghost use Rattle.source_reading.specs.Derived.{HasBodies};
 ghost use Rattle.source_reading.specs.Pieces.{AreParts};
 ghost use Rattle.source_reading.specs.Walk.{IsForest};
-ghost use Rattle.body_rules.specs.CodeLines.{AreLines, others};
+ghost use Rattle.body_rules.specs.CodeLines.{AreLines, is_line, others};
 
 use il_base::{Items, NoMemory};
 use ilasm_grammar::{TreeNode, productions};
@@ -47,21 +47,25 @@ pub fn lines_in(alloc: Global, nodes: &[TreeNode]) -> Result<Lines, NoMemory>
                 nodes: count,
             } => {
                 let start = at + 1;
-                let count = count as usize;
-                let piece = Piece {
-                    production,
-                    start,
-                    count,
-                };
-                if is_instruction(production) {
-                    instructions.push(piece)?;
-                    at = start + count;
-                } else if production == productions::ITEM_NAME {
-                    push_label(&mut labels, leaf_at(nodes_of(nodes, piece), 0))?;
-                    at = start + count;
-                } else {
-                    plain = plain && !is_other(production);
+                if !is_line(production) {
                     at = start;
+                } else {
+                    let count = count as usize;
+                    let piece = Piece {
+                        production,
+                        start,
+                        count,
+                    };
+                    if is_instruction(production) {
+                        instructions.push(piece)?;
+                        at = start + count;
+                    } else if production == productions::ITEM_NAME {
+                        push_label(&mut labels, leaf_at(nodes_of(nodes, piece), 0))?;
+                        at = start + count;
+                    } else {
+                        plain = plain && !is_other(production);
+                        at = start;
+                    }
                 }
             }
             TreeNode::Leaf { .. } => at += 1,
@@ -86,6 +90,42 @@ fn push_label(labels: &mut Items<u32>, token: u32) -> Result<(), NoMemory>
         labels.push(token)?;
         Ok(())
     }
+}
+
+// Of each production whether it is an instruction, a label or one of the others.
+static LINES: [u8; 704] = [
+    0, 0, 0, 0, 0, 0, 0, 0, 0, 0, 0, 0, 0, 0, 0, 0, 0, 0, 0, 0, 0, 0, 0, 0, 0, 0, 0, 0, 0, 0, 0, 0,
+    0, 0, 0, 0, 0, 0, 0, 0, 0, 0, 0, 0, 0, 0, 0, 0, 0, 0, 0, 0, 0, 0, 0, 0, 0, 0, 0, 0, 0, 0, 0, 0,
+    0, 0, 0, 0, 0, 0, 0, 0, 0, 0, 0, 0, 0, 0, 0, 0, 0, 0, 0, 0, 0, 0, 0, 0, 0, 0, 0, 0, 0, 0, 0, 0,
+    0, 0, 0, 0, 0, 0, 0, 0, 0, 0, 0, 0, 0, 0, 0, 0, 0, 0, 0, 0, 0, 0, 0, 0, 0, 0, 0, 0, 0, 0, 0, 0,
+    0, 0, 0, 0, 0, 0, 0, 0, 0, 0, 0, 0, 0, 0, 0, 0, 0, 0, 0, 0, 0, 0, 0, 0, 0, 0, 0, 0, 0, 0, 0, 0,
+    0, 0, 0, 0, 0, 0, 0, 0, 0, 0, 0, 0, 0, 0, 0, 0, 0, 0, 0, 0, 0, 0, 0, 0, 0, 0, 0, 0, 0, 0, 0, 0,
+    0, 0, 0, 0, 0, 0, 0, 0, 0, 0, 0, 0, 0, 0, 0, 0, 0, 0, 0, 0, 0, 0, 0, 0, 0, 0, 0, 0, 0, 0, 0, 0,
+    0, 0, 0, 0, 0, 0, 0, 0, 0, 0, 0, 0, 0, 0, 0, 0, 0, 0, 0, 0, 0, 0, 0, 0, 0, 0, 0, 0, 0, 0, 0, 0,
+    0, 0, 0, 0, 0, 0, 0, 0, 0, 0, 0, 0, 0, 0, 0, 0, 0, 0, 0, 0, 0, 0, 0, 0, 0, 0, 0, 0, 0, 0, 0, 0,
+    0, 0, 0, 0, 0, 0, 0, 0, 0, 0, 0, 0, 0, 0, 0, 0, 1, 0, 1, 0, 0, 0, 0, 0, 0, 0, 1, 1, 1, 1, 1, 1,
+    1, 1, 1, 1, 1, 0, 0, 0, 0, 0, 0, 0, 0, 0, 0, 0, 0, 0, 0, 0, 0, 0, 0, 0, 0, 0, 0, 0, 0, 0, 0, 0,
+    0, 0, 0, 0, 0, 0, 0, 0, 0, 0, 0, 0, 0, 0, 0, 0, 0, 0, 0, 0, 0, 0, 0, 0, 0, 0, 0, 0, 0, 0, 0, 0,
+    0, 0, 0, 0, 0, 0, 0, 0, 0, 0, 0, 0, 0, 0, 0, 0, 0, 0, 0, 0, 0, 0, 0, 0, 0, 0, 0, 0, 0, 0, 0, 0,
+    0, 0, 0, 0, 0, 0, 0, 0, 0, 0, 0, 0, 0, 0, 0, 0, 0, 0, 0, 0, 0, 0, 0, 0, 0, 0, 0, 0, 0, 0, 0, 0,
+    0, 0, 0, 0, 0, 0, 0, 0, 0, 0, 0, 0, 0, 0, 0, 0, 0, 0, 0, 0, 0, 0, 0, 0, 0, 0, 0, 0, 0, 0, 0, 0,
+    0, 0, 0, 0, 0, 0, 0, 0, 0, 0, 0, 0, 0, 0, 0, 0, 0, 0, 0, 0, 0, 0, 0, 0, 0, 0, 0, 0, 0, 0, 0, 0,
+    0, 0, 0, 0, 0, 0, 0, 0, 0, 0, 0, 0, 0, 0, 0, 0, 0, 0, 0, 0, 0, 0, 0, 0, 0, 0, 0, 0, 0, 0, 0, 0,
+    0, 0, 0, 0, 0, 0, 0, 0, 0, 0, 0, 0, 0, 0, 0, 0, 0, 0, 0, 0, 0, 0, 0, 0, 0, 0, 0, 0, 0, 0, 0, 1,
+    0, 0, 0, 0, 0, 0, 0, 0, 0, 0, 0, 0, 1, 0, 1, 1, 1, 1, 0, 1, 1, 0, 0, 0, 0, 0, 0, 0, 0, 0, 0, 0,
+    0, 0, 0, 0, 0, 0, 0, 0, 0, 0, 0, 0, 0, 0, 0, 0, 0, 0, 0, 0, 0, 0, 0, 0, 0, 0, 0, 0, 0, 0, 0, 0,
+    0, 0, 0, 0, 0, 0, 0, 0, 0, 0, 0, 0, 0, 0, 0, 0, 0, 0, 0, 0, 0, 0, 0, 0, 0, 0, 0, 0, 0, 0, 0, 0,
+    0, 0, 0, 0, 0, 0, 0, 0, 0, 0, 0, 0, 0, 0, 0, 0, 0, 0, 0, 0, 0, 0, 0, 0, 0, 0, 0, 0, 0, 0, 0, 0,
+];
+
+// Whether a production is one of those.
+fn is_line(production: u16) -> bool
+    ensures { result ≡ is_line production }
+{
+    if production >= 704 {
+        return false;
+    }
+    LINES[production as usize] != 0
 }
 
 fn is_instruction(production: u16) -> bool

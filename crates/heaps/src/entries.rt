@@ -131,7 +131,13 @@ fn extend(bytes: &mut Bytes, lead: &[u8], content: &[u8], tail: &[u8]) -> Result
     ensures ok { OnOk result (bytes.new ≡ bytes.old ++ (lead.now ++ (content.now ++ tail.now))) }
     ensures err { (more : List ℕ) × (bytes.new ≡ bytes.old ++ more) }
 {
-    bytes.extend(lead)?;
+    if !lead.is_empty() {
+        bytes.extend(lead)?;
+    }
     bytes.extend(content)?;
-    bytes.extend(tail)
+    match tail {
+        [] => Ok(()),
+        [byte] => bytes.push(*byte),
+        _ => bytes.extend(tail),
+    }
 }

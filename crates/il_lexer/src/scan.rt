@@ -209,7 +209,8 @@ pub fn end_place(source: &[u8]) -> Pos
     requires { length source.now ≤ 2 ^ 27 }
     ensures { result ≡ place_of source.now (length source.now) }
 {
-    place_at(source, first_place(source), 0, source.len())
+    let mut line = first_line(source);
+    place_on(source, &mut line, source.len())
 }
 
 /// The tokens of `source`, which has at most 2^27 bytes, or its lexical fault: rule L1 at the first byte of no whole

@@ -1,4 +1,4 @@
-ghost use Rattle.std.specs.Prelude.{◌≡◌, [], ◌∷◌, ◌++◌, ◌<◌, ◌-◌, ◌↔◌, length, take, slice_get, slice_index_or, slice_set, IsTrue, IfOk, OnOk, OnErr, MatchOption, Some};
+ghost use Rattle.std.specs.Prelude.{◌≡◌, [], ◌∷◌, ◌++◌, ◌<◌, ◌-◌, ◌↔◌, length, take, slice_get, slice_index_or, slice_set, IsTrue, IfOk, OnOk, OnErr, MatchOption, Some, vec_len, vec_capacity};
 ghost use Rattle.std.specs.Option.{option_copied};
 
 use crate::{Copies, NoMemory};
@@ -84,6 +84,22 @@ impl<T> Items<T> {
     }
 }
 
+// Makes room for one more item, apart so that a push without it is short: an item that `Vec::push` may hand
+// back is moved several times.
+#[cold]
+#[inline(never)]
+fn grow_by_one<T>(items: &mut Vec<T>) -> Result<(), NoMemory>
+    ensures items { items.new.items ≡ items.old.items }
+    ensures room { OnOk result (vec_len items.new < vec_capacity items.new) }
+{
+    if items.is_empty() {
+        items.reserve_exact(1)?;
+    } else {
+        items.reserve(1)?;
+    }
+    Ok(())
+}
+
 impl<T: Drop> Items<T> {
     /// Adds an item at the end. A first item gets room for itself alone, since many lists of a tree
     /// have one item.
@@ -91,10 +107,10 @@ impl<T: Drop> Items<T> {
         ensures ok { OnOk result (self.new ≡ self.old ++ item ∷ []) }
         ensures err { OnErr result (self.new ≡ self.old) }
     {
-        if self.items.is_empty() {
-            self.items.reserve_exact(1)?;
+        if self.items.len() == self.items.capacity() {
+            grow_by_one(&mut self.items)?;
         }
-        self.items.push(item)?;
+        self.items.push_reserved(item);
         Ok(())
     }
 

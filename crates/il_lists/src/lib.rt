@@ -6,6 +6,7 @@ mod boxed;
 mod copies;
 mod items;
 mod memory;
+mod short_text;
 mod text;
 
 pub use boxed::Boxed;

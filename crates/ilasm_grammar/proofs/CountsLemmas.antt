@@ -7,7 +7,7 @@ use Rattle.ilasm_grammar.specs.declared.symbol.Symbol.{Symbol}
 use Rattle.ilasm_grammar.specs.declared.tree.TreeNode.{TreeNode}
 use Rattle.ilasm_grammar.specs.declared.tree.TreeNode.TheVariants.{Branch, Leaf}
 use Rattle.ilasm_grammar.specs.Grammar.{Grammar, Derives, Derives.none, Derives.leaf, Derives.branch}
-use Rattle.ilasm_grammar.specs.Counts.{arity_of, sizes_of, counted, hops}
+use Rattle.ilasm_grammar.specs.Counts.{arity_of, sizes_of, counted, hops, HaveRules}
 use Rattle.ilasm_grammar.specs.Leftmost.{erased}
 use Rattle.ilasm_grammar.proofs.LeftmostLemmas.{erased-++}
 
@@ -101,6 +101,19 @@ module _ (g : Grammar) where
   set_next [] Y j node le = absurd (omega arith)
   set_next (x ∷ raw) Y zero node le = refl
   set_next (x ∷ raw) Y (suc j) node le = ap (λ y. x ∷ y) (set_next raw Y j node (omega arith))
+
+  got : (raw rest : List TreeNode) (j : ℕ) (node : TreeNode) → drop j raw ≡ node ∷ rest → slice_get raw j ≡ Some node
+  got [] rest zero node e = cc
+  got [] rest (suc j) node e = cc
+  got (x ∷ raw) rest zero node e = cc
+  got (x ∷ raw) rest (suc j) node e = got raw rest j node e
+
+  -- the production of the branch in front of those that are counted
+  pub has_rule : (raw nodes : List TreeNode) (j production count : ℕ) → suc j ≤ length raw → nodes ≡ take (suc j) raw ++ counted g (drop (suc j) raw) →
+      slice_get nodes j ≡ Some (Branch production count) → HaveRules g raw → g production ≡ None → ⊥
+  has_rule raw nodes j production count le n e h =
+      let r = next_node raw (counted g (drop (suc j) raw)) j (Branch production count) le (ap (λ x. slice_get x j) (sym n) ∙ e) in
+      h j production count (got raw (drop (suc j) raw) j (Branch production count) r.0)
 
   pub leaf_counted : (raw nodes : List TreeNode) (sizes : List ℕ) (j token : ℕ) → suc j ≤ length raw → nodes ≡ take (suc j) raw ++ counted g (drop (suc j) raw) →
       sizes ≡ sizes_of g (drop (suc j) raw) → slice_get nodes j ≡ Some (Leaf token) →

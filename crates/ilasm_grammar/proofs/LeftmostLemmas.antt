@@ -1,9 +1,10 @@
 -- Leftmost derivations and derivation trees give each other.
-use Rattle.std.proofs.Common.{◌≡◌, ℕ, suc, ◌+◌, List, [], ◌∷◌, ◌++◌, length, refl, sym, ap, ◌∙◌, subst, append_assoc, length-append, arith}
+use Rattle.std.proofs.Common.{◌≡◌, ℕ, zero, suc, ◌+◌, List, [], ◌∷◌, ◌++◌, length, refl, sym, ap, ◌∙◌, subst, append_assoc, length-append, arith, None}
 use Rattle.ilasm_grammar.specs.declared.symbol.Symbol.{Symbol}
 use Rattle.ilasm_grammar.specs.declared.symbol.Symbol.TheVariants.{Terminal, Nonterminal}
 use Rattle.ilasm_grammar.specs.declared.tree.TreeNode.{TreeNode}
 use Rattle.ilasm_grammar.specs.declared.tree.TreeNode.TheVariants.{Branch, Leaf}
+use Rattle.ilasm_grammar.specs.Counts.{HaveRules}
 use Rattle.ilasm_grammar.specs.Leftmost.{erased, Leftmost, Leftmost.done, Leftmost.shift, Leftmost.apply}
 use Rattle.ilasm_grammar.specs.Grammar.{Grammar, Derives, Derives.none, Derives.leaf, Derives.branch}
 
@@ -83,6 +84,19 @@ parted g (Nonterminal head ∷ symbols) more {at = at} (branch {production = pro
       kinds-is = k ∙ ap (λ x. front ++ x) p.kinds-is ∙ sym (append_assoc front p.front p.back);
       nodes-is = ap (λ x. Branch production count ∷ x) (n ∙ ap (λ x. below ++ x) p.nodes-is ∙ sym (append_assoc below p.below p.after));
     }
+
+-- the branches of a leftmost derivation have productions
+pub have_rules : (g : Grammar) {at : ℕ} {symbols : List Symbol} {kinds : List ℕ} {nodes : List TreeNode} →
+    Leftmost g at symbols kinds nodes → HaveRules g nodes
+have_rules g done zero p c e absent = cc
+have_rules g done (suc k) p c e absent = cc
+have_rules g (shift r) zero p c e absent = cc
+have_rules g (shift r) (suc k) p c e absent = have_rules g r k p c e absent
+have_rules g (apply {production = production} e r z) zero p c h absent =
+    let same : production ≡ p = cc in
+    let gone : g production ≡ None = ap g same ∙ absent in
+    cc
+have_rules g (apply e r z) (suc k) p c h absent = have_rules g r k p c h absent
 
 -- each leftmost derivation is that of a tree
 pub record Grown (g : Grammar) (at : ℕ) (symbols : List Symbol) (kinds : List ℕ) (raw : List TreeNode) : Type 0 where

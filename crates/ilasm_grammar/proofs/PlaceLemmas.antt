@@ -1,9 +1,10 @@
 -- The bodies that stand at places of the tables of symbols.
-use Rattle.std.proofs.Common.{◌≡◌, ◌⊎◌, inl, inr, ℕ, zero, suc, ◌+◌, ◌-◌, ◌<◌, ◌≤◌, List, [], ◌∷◌, ◌++◌, length, get_or, drop, Bool, true, false, ◌&&◌, ◌||◌, ⊎_elim, refl, sym, ap, ◌∙◌, subst, arith, Some, None}
+use Rattle.std.proofs.Common.{◌≡◌, ◌⊎◌, inl, inr, ℕ, zero, suc, ◌+◌, ◌-◌, ◌*◌, ◌<◌, ◌≤◌, List, [], ◌∷◌, ◌++◌, length, get_or, drop, Bool, true, false, ◌&&◌, ◌||◌, ⊎_elim, refl, sym, ap, ◌∙◌, subst, arith, Some, None}
 use Rattle.std.specs.Prelude.{◌==◌, nat_lt, nat_le, slice_index, flat_map, if◌then◌else◌}
-use Rattle.std.proofs.lemmas.Bool.{and_parts, leb-true, ltb-true, lt-ltb, le-ltb, eqb-true, eq-eqb, ne_eqb, false≢true}
+use Rattle.std.proofs.lemmas.Bool.{cases_lt, and_parts, leb-true, ltb-true, lt-ltb, le-ltb, eqb-true, eq-eqb, ne_eqb, false≢true}
 use Rattle.std.proofs.lemmas.List.{reverse-append}
 use Rattle.ilasm_grammar.specs.declared.rules.TheConstants.{HEADS, STARTS, BODIES}
+use Rattle.ilasm_grammar.specs.declared.cells.TheConstants.{CELL_NUMBERS, PLACE_NUMBERS}
 use Rattle.ilasm_grammar.specs.declared.choices.TheConstants.{ROWS, FALLBACKS, OWNERS, PICKS, INNERS}
 use Rattle.ilasm_grammar.specs.declared.places.TheConstants.{SYMBOLS, NEXTS, BEGINS, ARITIES}
 use Rattle.ilasm_grammar.specs.declared.symbol.Symbol.{Symbol}
@@ -65,6 +66,40 @@ numbers-at (x ∷ numbers) zero e lt = let a = and_parts _ _ e in known x (or_pa
         let low : x - 256 < 410 = omega arith in rw high low
 numbers-at (x ∷ numbers) (suc k) e lt = numbers-at numbers k (and_parts _ _ e).1 (omega arith)
 
+-- the numbers of the places, one behind the other
+abbrev pairs_of : List ℕ → List ℕ → List ℕ
+pairs_of [] nexts = []
+pairs_of (x ∷ numbers) [] = []
+pairs_of (x ∷ numbers) (y ∷ nexts) = x ∷ y ∷ pairs_of numbers nexts
+
+t_pairs : PLACE_NUMBERS ≡ pairs_of SYMBOLS NEXTS
+t_pairs = refl
+
+pairs-at : (numbers nexts : List ℕ) (k : ℕ) → k < length numbers → k < length nexts →
+    (get_or (pairs_of numbers nexts) (2 * k + 0) 0 ≡ get_or numbers k 0) × (get_or (pairs_of numbers nexts) (2 * k + 1) 0 ≡ get_or nexts k 0)
+pairs-at [] nexts k a b = absurd (omega arith)
+pairs-at (x ∷ numbers) [] k a b = absurd (omega arith)
+pairs-at (x ∷ numbers) (y ∷ nexts) zero a b = (refl, refl)
+pairs-at (x ∷ numbers) (y ∷ nexts) (suc k) a b =
+    let h = pairs-at numbers nexts k (omega arith) (omega arith) in
+    let all = x ∷ y ∷ pairs_of numbers nexts in
+    let e0 : 2 * suc k + 0 ≡ suc (suc (2 * k + 0)) = omega arith in
+    let e1 : 2 * suc k + 1 ≡ suc (suc (2 * k + 1)) = omega arith in
+    (ap (λ (n : ℕ). get_or all n 0) e0 ∙ h.0, ap (λ (n : ℕ). get_or all n 0) e1 ∙ h.1)
+
+pub symbol_number : (place : ℕ) → place < 887 → symbol_of (slice_index PLACE_NUMBERS (2 * place + 0)) ≡ symbol_in place
+unfolding symbol_in
+symbol_number place lt =
+    ap symbol_of (ap (λ (x : List ℕ). slice_index x (2 * place + 0)) t_pairs ∙ (pairs-at SYMBOLS NEXTS place lt lt).0)
+
+pub next_number : (place : ℕ) → place < 887 → slice_index PLACE_NUMBERS (2 * place + 1) ≡ behind_in place
+unfolding behind_in
+next_number place lt = ap (λ (x : List ℕ). slice_index x (2 * place + 1)) t_pairs ∙ (pairs-at SYMBOLS NEXTS place lt lt).1
+
+pub symbol_known : (place : ℕ) → place < 887 → IsKnown (symbol_in place)
+unfolding symbol_in
+symbol_known place lt = numbers-at SYMBOLS place refl lt
+
 -- ---- where bodies begin
 
 abbrev same_symbol : Symbol → Symbol → Bool
@@ -121,8 +156,9 @@ pub has_arity : (p : ℕ) → p < 641 → slice_index ARITIES p ≡ arity_of (il
 unfolding ilasm body_at
 has_arity p lt = eqb-true _ _ (all_below-at arity_ok 641 t_arities p lt) ∙ sym (ap arity_of (rule_by-at HEADS STARTS BODIES p lt))
 
-pub has_no_arity : (p : ℕ) → 641 ≤ p → 0 ≡ arity_of (ilasm p)
-has_no_arity p le = sym (ap arity_of (has_no_rule p le))
+-- what isn't without a production is the number of one
+pub is_rule : (p : ℕ) → (ilasm p ≡ None → ⊥) → p < 641
+is_rule p h = ⊎_elim (λ lt. lt) (λ le. absurd (h (has_no_rule p le))) (cases_lt p 641)
 
 -- ---- what the tables pick is a production of the nonterminal
 
@@ -202,13 +238,16 @@ picked-rule n k p body lt le is e =
 
 -- ---- the cells
 
-pub own_cell : (n k cell : ℕ) → n < 165 → slice_index OWNERS cell ≡ n → cell ≡ slice_index ROWS n + k → IsCellOf k (Nonterminal n) cell
-unfolding owner_in row_in
+pub row_low : (n : ℕ) → row_in n ≤ 2445
+unfolding row_in
+row_low n = at_most_at 2445 ROWS n t_rows
+
+pub own_cell : (n k cell : ℕ) → n < 165 → owner_in cell ≡ n → cell ≡ row_in n + k → IsCellOf k (Nonterminal n) cell
 own_cell n k cell lt own is = record { n = n; low = lt; is = refl; at = is; owned = own }
 
 -- where the nonterminal has no cell
-pub no_cell : (n k : ℕ) → (slice_index OWNERS (slice_index ROWS n + k) ≡ n → ⊥) → picked n k ≡ fallback_of n
-unfolding picked picked_by fallback_of
+pub no_cell : (n k : ℕ) → (owner_in (row_in n + k) ≡ n → ⊥) → picked n k ≡ fallback_of n
+unfolding picked picked_by fallback_of owner_in row_in
 no_cell n k apart =
     let e : (slice_index OWNERS (slice_index ROWS n + k) == n) ≡ false = ne_eqb _ _ apart in rw e refl
 
@@ -222,9 +261,52 @@ own_parts n p lt e =
     (λ h. let a = and_parts (nat_lt p 641) (nat_lt (slice_index BEGINS p) 887) h in (ltb-true _ _ a.0, ltb-true _ _ a.1))
     (or_parts (nat_le 165 n) (nat_lt p 641 && nat_lt (slice_index BEGINS p) 887) e)
 
-pub pick_low : (cell : ℕ) → cell < 2856 → owner_in cell < 165 → slice_index PICKS cell < 641
+-- the numbers of the cells, one behind the other
+abbrev rows_of : List ℕ → List ℕ → List ℕ → List ℕ
+rows_of [] picks inners = []
+rows_of (o ∷ owners) [] inners = []
+rows_of (o ∷ owners) (p ∷ picks) [] = []
+rows_of (o ∷ owners) (p ∷ picks) (i ∷ inners) = o ∷ p ∷ slice_index BEGINS p ∷ i ∷ rows_of owners picks inners
+
+t_numbers : CELL_NUMBERS ≡ rows_of OWNERS PICKS INNERS
+t_numbers = refl
+
+rows-at : (owners picks inners : List ℕ) (k : ℕ) → k < length owners → k < length picks → k < length inners →
+    let numbers = rows_of owners picks inners in
+    (get_or numbers (4 * k + 0) 0 ≡ get_or owners k 0) × (get_or numbers (4 * k + 1) 0 ≡ get_or picks k 0) ×
+    (get_or numbers (4 * k + 2) 0 ≡ slice_index BEGINS (get_or picks k 0)) × (get_or numbers (4 * k + 3) 0 ≡ get_or inners k 0)
+rows-at [] picks inners k a b c = absurd (omega arith)
+rows-at (o ∷ owners) [] inners k a b c = absurd (omega arith)
+rows-at (o ∷ owners) (p ∷ picks) [] k a b c = absurd (omega arith)
+rows-at (o ∷ owners) (p ∷ picks) (i ∷ inners) zero a b c = (refl, refl, refl, refl)
+rows-at (o ∷ owners) (p ∷ picks) (i ∷ inners) (suc k) a b c =
+    let h = rows-at owners picks inners k (omega arith) (omega arith) (omega arith) in
+    let all = o ∷ p ∷ slice_index BEGINS p ∷ i ∷ rows_of owners picks inners in
+    let e0 : 4 * suc k + 0 ≡ suc (suc (suc (suc (4 * k + 0)))) = omega arith in
+    let e1 : 4 * suc k + 1 ≡ suc (suc (suc (suc (4 * k + 1)))) = omega arith in
+    let e2 : 4 * suc k + 2 ≡ suc (suc (suc (suc (4 * k + 2)))) = omega arith in
+    let e3 : 4 * suc k + 3 ≡ suc (suc (suc (suc (4 * k + 3)))) = omega arith in (
+      ap (λ (x : ℕ). get_or all x 0) e0 ∙ h.0,
+      ap (λ (x : ℕ). get_or all x 0) e1 ∙ h.1,
+      ap (λ (x : ℕ). get_or all x 0) e2 ∙ h.2,
+      ap (λ (x : ℕ). get_or all x 0) e3 ∙ h.3,
+    )
+
+pub owner_number : (cell : ℕ) → cell < 2856 → slice_index CELL_NUMBERS (4 * cell + 0) ≡ owner_in cell
 unfolding owner_in
-pick_low cell lt owned = (own_parts _ _ owned (cells-at own_ok OWNERS PICKS cell t_owns lt lt)).0
+owner_number cell lt = ap (λ (x : List ℕ). slice_index x (4 * cell + 0)) t_numbers ∙ (rows-at OWNERS PICKS INNERS cell lt lt lt).0
+
+pub pick_number : (cell : ℕ) → cell < 2856 → slice_index CELL_NUMBERS (4 * cell + 1) ≡ pick_in cell
+unfolding pick_in
+pick_number cell lt = ap (λ (x : List ℕ). slice_index x (4 * cell + 1)) t_numbers ∙ (rows-at OWNERS PICKS INNERS cell lt lt lt).1
+
+pub begin_number : (cell : ℕ) → cell < 2856 → slice_index CELL_NUMBERS (4 * cell + 2) ≡ begin_in (pick_in cell)
+unfolding begin_in pick_in
+begin_number cell lt = ap (λ (x : List ℕ). slice_index x (4 * cell + 2)) t_numbers ∙ (rows-at OWNERS PICKS INNERS cell lt lt lt).2
+
+pub inner_number : (cell : ℕ) → cell < 2856 → slice_index CELL_NUMBERS (4 * cell + 3) ≡ inner_in cell
+unfolding inner_in
+inner_number cell lt = ap (λ (x : List ℕ). slice_index x (4 * cell + 3)) t_numbers ∙ (rows-at OWNERS PICKS INNERS cell lt lt lt).3
 
 -- the production in a cell
 pub cell_choice : {k cell : ℕ} {symbol : Symbol} (c : IsCellOf k symbol cell) → k ≤ 410 → IsOwnChoice c.n k (pick_in cell) (begin_in (pick_in cell))

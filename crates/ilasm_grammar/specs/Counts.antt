@@ -1,5 +1,5 @@
 -- The counts of a derivation's branches, from its nodes in preorder: from the last node to the first.
-use Rattle.std.specs.Prelude.{ℕ, zero, suc, ◌+◌, List, [], ◌∷◌, length, take, drop, sum, Option, Some, None}
+use Rattle.std.specs.Prelude.{◌≡◌, ℕ, zero, suc, ◌+◌, List, [], ◌∷◌, length, take, drop, sum, slice_get, Option, Some, None}
 use Rattle.ilasm_grammar.specs.declared.tree.TreeNode.{TreeNode}
 use Rattle.ilasm_grammar.specs.declared.tree.TreeNode.TheVariants.{Branch, Leaf}
 use Rattle.ilasm_grammar.specs.Grammar.{Rule, Grammar}
@@ -8,6 +8,10 @@ use Rattle.ilasm_grammar.specs.Grammar.{Rule, Grammar}
 abbrev pub arity_of : Option Rule → ℕ
 arity_of None = 0
 arity_of (Some rule) = length rule.body
+
+-- each branch has the number of a production
+abbrev pub HaveRules : Grammar → List TreeNode → Type 0
+HaveRules g nodes = (k production count : ℕ) → slice_get nodes k ≡ Some (Branch production count) → g production ≡ None → ⊥
 
 -- the numbers of nodes of the trees that stand in this list one after another, a branch taking as many as its production's body has symbols
 unfoldable pub sizes_of : Grammar → List TreeNode → List ℕ

@@ -1,5 +1,5 @@
 ghost use Rattle.std.specs.Prelude.{◌≡◌, ◌+◌, ◌<◌, ◌^◌, drop, length};
-ghost use Rattle.ilasm_grammar.specs.Counts.{counted, hops};
+ghost use Rattle.ilasm_grammar.specs.Counts.{counted, hops, HaveRules};
 ghost use Rattle.ilasm_grammar.specs.Ilasm.{ilasm};
 
 use crate::table::arity_of;
@@ -7,7 +7,8 @@ use crate::{Tree, TreeNode};
 
 /// Writes the number of nodes below it into each branch, from the last node to the first.
 pub(crate) fn count_nodes(nodes: &mut Tree)
-    requires { length nodes.old < 2 ^ 32 }
+    requires few { length nodes.old < 2 ^ 32 }
+    requires rules { HaveRules ilasm nodes.old }
     ensures { nodes.new ≡ counted ilasm nodes.old }
 {
     // The nodes of the tree that begins behind the node, the first of those below it.
@@ -37,8 +38,8 @@ fn size_of(nodes: &Tree, at: usize, first: u32, trees: usize) -> u32
     requires first { first ≡ hops 1 (drop at nodes.now) }
     ensures { result ≡ hops trees (drop at nodes.now) }
 {
-    if trees == 0 {
-        return 0;
+    if trees <= 1 {
+        return if trees == 0 { 0 } else { first };
     }
     let mut end = at + first as usize;
     for _k in 1..trees {

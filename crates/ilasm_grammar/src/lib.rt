@@ -2,6 +2,7 @@
 //! answers the one derivation of a list of tokens, or the first token that no source goes on with.
 #![tactic(auto)]
 
+mod cells;
 mod choices;
 mod counts;
 mod fault;

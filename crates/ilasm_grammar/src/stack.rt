@@ -1,24 +1,24 @@
 //! The symbols that are still to be derived, as the rests of bodies, none of which is copied: the place where the
 //! next one begins, and the places of those behind it, that of the last one first.
 
-ghost use Rattle.std.specs.Prelude.{◌≡◌, [], ◌++◌, ◌<◌, ◌≤◌, length, slice_index, IsTrue, OnOk};
-ghost use Rattle.ilasm_grammar.specs.Stacked.{symbol_of, symbol_in, behind_in, rest_at, symbols_at, are_numbers, IsKnown};
+ghost use Rattle.std.specs.Prelude.{◌≡◌, [], ◌++◌, ◌+◌, ◌*◌, ◌<◌, ◌≤◌, length, slice_index, OnOk};
+ghost use Rattle.ilasm_grammar.specs.Stacked.{symbol_of, symbol_in, behind_in, rest_at, symbols_at, IsKnown};
 
 use crate::Symbol;
-use crate::places::{NEXTS, SYMBOLS};
+use crate::cells::PLACE_NUMBERS;
 use il_base::NoMemory;
 
 /// The place of no symbols.
 pub(crate) const NOWHERE: usize = 887;
 
 /// The symbol at a place.
-#[tactic(auto, unfolding(crate::specs::Stacked::symbol_in))]
+#[tactic(auto, using(crate::proofs::PlaceLemmas::symbol_number, crate::proofs::PlaceLemmas::symbol_known))]
 pub(crate) fn symbol_at(place: usize) -> Symbol
     requires { place < 887 }
     ensures is { result ≡ symbol_in place }
     ensures known { IsKnown result }
 {
-    symbol_by(&SYMBOLS, place)
+    symbol_of(number_in(&PLACE_NUMBERS, place, 0))
 }
 
 /// Takes the first symbol off. Where none are left, the next place is that of no symbols, and only there.
@@ -55,23 +55,20 @@ pub(crate) fn replace_first(
 }
 
 /// The place behind a place, or that of no symbols at the end of a body.
-#[tactic(auto, unfolding(crate::specs::Stacked::behind_in))]
+#[tactic(auto, using(crate::proofs::PlaceLemmas::next_number))]
 fn place_behind(place: usize) -> usize
     requires { place < 887 }
     ensures { result ≡ behind_in place }
 {
-    NEXTS[place] as usize
+    number_in(&PLACE_NUMBERS, place, 1) as usize
 }
 
-/// The symbol whose number these tables have at a place.
-fn symbol_by(symbols: &[u16], place: usize) -> Symbol
-    requires symbols { length symbols.now ≡ 887 }
-    requires numbers { IsTrue (are_numbers symbols.now) }
-    requires within { place < 887 }
-    ensures is { result ≡ symbol_of (slice_index symbols.now place) }
-    ensures known { IsKnown result }
+/// The number in a column of the row of numbers of a place.
+fn number_in(numbers: &[u16], place: usize, column: usize) -> u16
+    requires { 2 * place + column < length numbers.now }
+    ensures { result ≡ slice_index numbers.now (2 * place + column) }
 {
-    symbol_of(symbols[place])
+    numbers[2 * place + column]
 }
 
 /// The symbol with this number.

@@ -1,10 +1,11 @@
-ghost use Rattle.std.specs.Prelude.{◌≡◌, ◌+◌, ◌<◌, ◌≤◌, None, IsTrue, MatchOption, length, slice_index};
+ghost use Rattle.std.specs.Prelude.{◌≡◌, ◌+◌, ◌*◌, ◌<◌, ◌≤◌, None, MatchOption, length, slice_index};
 ghost use Rattle.ilasm_grammar.specs.Counts.{arity_of};
-ghost use Rattle.ilasm_grammar.specs.Ilasm.{are_at_most, ilasm, picked};
-ghost use Rattle.ilasm_grammar.specs.Stacked.{begin_in, fallback_of, inner_in, owner_in, pick_in, IsCellOf, IsChoice};
+ghost use Rattle.ilasm_grammar.specs.Ilasm.{ilasm, picked};
+ghost use Rattle.ilasm_grammar.specs.Stacked.{begin_in, fallback_of, inner_in, owner_in, pick_in, row_in, IsCellOf, IsChoice};
 ghost use Rattle.ilasm_grammar.specs.declared.symbol.Symbol.TheVariants.{Nonterminal};
 
-use crate::choices::{FALLBACKS, INNERS, OWNERS, PICKS, ROWS};
+use crate::cells::CELL_NUMBERS;
+use crate::choices::{FALLBACKS, ROWS};
 use crate::places::{ARITIES, BEGINS};
 
 /// The number of cells.
@@ -23,38 +24,41 @@ pub(crate) struct Choice {
 }
 
 /// The cell of `nonterminal` before `terminal`, if it has one.
-#[tactic(auto, using(crate::proofs::PlaceLemmas::own_cell, crate::proofs::PlaceLemmas::no_cell))]
+#[tactic(auto, using(crate::proofs::PlaceLemmas::own_cell, crate::proofs::PlaceLemmas::no_cell, crate::proofs::PlaceLemmas::row_low))]
 pub(crate) fn own_cell(nonterminal: u16, terminal: u16) -> Option<usize>
     requires nonterminal { nonterminal < 165 }
     requires terminal { terminal ≤ 410 }
     ensures { MatchOption result (picked nonterminal terminal ≡ fallback_of nonterminal) (IsCellOf terminal (Nonterminal nonterminal)) }
 {
-    own_cell_by(&ROWS, &OWNERS, nonterminal, terminal)
+    let cell = row_of(nonterminal) as usize + terminal as usize;
+    if owner_of(cell) == nonterminal {
+        Some(cell)
+    } else {
+        None
+    }
 }
 
 /// The production in a cell of a nonterminal. Its body has symbols.
-#[tactic(auto, using(crate::proofs::PlaceLemmas::pick_low), unfolding(crate::specs::Stacked::pick_in))]
+#[tactic(auto, using(crate::proofs::PlaceLemmas::pick_number, crate::proofs::PlaceLemmas::begin_number))]
 pub(crate) fn choice_in(cell: usize) -> Choice
-    requires within { cell < 2856 }
-    requires owned { owner_in cell < 165 }
+    requires { cell < 2856 }
     ensures production { result.production ≡ pick_in cell }
     ensures begin { result.begin ≡ begin_in (pick_in cell) }
 {
-    let production = PICKS[cell];
     Choice {
-        production,
-        begin: begin_of(production),
+        production: number_in(&CELL_NUMBERS, cell, 1),
+        begin: number_in(&CELL_NUMBERS, cell, 2),
     }
 }
 
 /// The cell of what the body of a cell's production begins with, before the same terminal, or the number of cells
 /// where it has none.
-#[tactic(auto, unfolding(crate::specs::Stacked::inner_in))]
+#[tactic(auto, using(crate::proofs::PlaceLemmas::inner_number))]
 pub(crate) fn inner_of(cell: usize) -> usize
     requires { cell < 2856 }
     ensures { result ≡ inner_in cell }
 {
-    INNERS[cell] as usize
+    number_in(&CELL_NUMBERS, cell, 3) as usize
 }
 
 /// The production that `nonterminal` goes on with before the terminals for which it has no cell, if there is one.
@@ -73,16 +77,13 @@ pub(crate) fn fallback_choice(nonterminal: u16) -> Option<Choice>
     })
 }
 
-/// The number of symbols in the body of a production, or 0 where there is none of this number.
-#[tactic(auto, using(crate::proofs::PlaceLemmas::has_arity, crate::proofs::PlaceLemmas::has_no_arity))]
+/// The number of symbols in the body of a production.
+#[tactic(auto, using(crate::proofs::PlaceLemmas::has_arity))]
 pub(crate) fn arity_of(production: u16) -> usize
+    requires { production < 641 }
     ensures { result ≡ arity_of (ilasm production) }
 {
-    if production < PRODUCTIONS {
-        ARITIES[production as usize] as usize
-    } else {
-        0
-    }
+    ARITIES[production as usize] as usize
 }
 
 /// The place where the body of a production begins.
@@ -103,21 +104,28 @@ fn fallback_pick(nonterminal: u16) -> u16
     FALLBACKS[nonterminal as usize]
 }
 
-/// The cell of `nonterminal` before `terminal` by these tables.
-#[tactic(auto, using(crate::proofs::PlaceLemmas::at_most_at))]
-fn own_cell_by(rows: &[u16], owners: &[u16], nonterminal: u16, terminal: u16) -> Option<usize>
-    requires rows { length rows.now ≡ 165 }
-    requires owners { length owners.now ≡ 2856 }
-    requires begins { IsTrue (are_at_most 2445 rows.now) }
-    requires nonterminal { nonterminal < 165 }
-    requires terminal { terminal ≤ 410 }
-    ensures { MatchOption result (slice_index owners.now (slice_index rows.now nonterminal + terminal) ≡ nonterminal → ⊥)
-        (λ cell. (slice_index owners.now cell ≡ nonterminal) × (cell ≡ slice_index rows.now nonterminal + terminal)) }
+/// The place of a nonterminal's first cell.
+#[tactic(auto, unfolding(crate::specs::Stacked::row_in))]
+fn row_of(nonterminal: u16) -> u16
+    requires { nonterminal < 165 }
+    ensures { result ≡ row_in nonterminal }
 {
-    let cell = rows[nonterminal as usize] as usize + terminal as usize;
-    if owners[cell] == nonterminal {
-        Some(cell)
-    } else {
-        None
-    }
+    ROWS[nonterminal as usize]
+}
+
+/// The nonterminal whose row has a cell, or none.
+#[tactic(auto, using(crate::proofs::PlaceLemmas::owner_number))]
+fn owner_of(cell: usize) -> u16
+    requires { cell < 2856 }
+    ensures { result ≡ owner_in cell }
+{
+    number_in(&CELL_NUMBERS, cell, 0)
+}
+
+/// The number in a column of the row of numbers of a cell.
+fn number_in(numbers: &[u16], cell: usize, column: usize) -> u16
+    requires { 4 * cell + column < length numbers.now }
+    ensures { result ≡ slice_index numbers.now (4 * cell + column) }
+{
+    numbers[4 * cell + column]
 }

@@ -34,13 +34,16 @@ pub fn terminal_of(kind: TokenKind) -> u16
     ensures is { result ≡ terminal_of kind }
     ensures low { result < END }
 {
-    if let TokenKind::Word(number) = kind {
-        return word_terminal(number);
+    match kind {
+        TokenKind::Word(number) => word_terminal(number),
+        TokenKind::Name => NAME,
+        _ => other_terminal(kind),
     }
-    other_terminal(kind)
 }
 
 /// The terminal of a kind that is no word.
+#[cold]
+#[inline(never)]
 fn other_terminal(kind: TokenKind) -> u16
     ensures is { ((number : ℕ) → kind ≡ Word number → ⊥) → result ≡ terminal_of kind }
     ensures low { result < END }

@@ -11,7 +11,7 @@ ghost use Rattle.source_reading.specs.Pieces.{ArePieces, AreParts};
 ghost use Rattle.source_reading.specs.Places.{IsAt};
 ghost use Rattle.source_reading.specs.Walk.{IsForest};
 
-use crate::whole_methods::method;
+use crate::whole_methods::push_method;
 use assembly_tree::Methods;
 use il_base::{Items, NoMemory};
 use ilasm_grammar::TreeNode;
@@ -55,8 +55,7 @@ fn add_method(
         IfOk result (λ _. all.new ≡ all.old ++ methods s a (p ∷ [])) }
 {
     if is_method(production) {
-        let one = method(alloc, place, the(below, METHOD))?;
-        all.push(one)
+        push_method(all, alloc, place, the(below, METHOD))
     } else {
         Ok(())
     }

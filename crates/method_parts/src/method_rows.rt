@@ -59,6 +59,7 @@ pub fn read_rows(
 }
 
 // The same of a method that has lines of `.param` or attributes.
+#[inline(never)]
 fn rows_with_lines(
     alloc: Global,
     place: &Place,

@@ -1,6 +1,6 @@
 //! A method from its parts (ECMA-335 II.15, II.22.26).
 
-ghost use Rattle.std.specs.Prelude.{◌≡◌, ◌<◌, ◌^◌, IfOk, length};
+ghost use Rattle.std.specs.Prelude.{◌≡◌, ◌++◌, ◌<◌, ◌^◌, ◌∷◌, [], IfOk, length};
 ghost use Rattle.ilasm_grammar.specs.declared.productions.TheConstants.{ITEM_ENTRYPOINT};
 ghost use Rattle.method_parts.specs.MethodParts.{AreRows, IsHead};
 ghost use Rattle.method_parts.specs.SoundMethods.{IsSoundMethod};
@@ -14,7 +14,7 @@ ghost use Rattle.source_reading.specs.Walk.{IsForest};
 
 use crate::method_heads::{Head, read_head};
 use crate::method_rows::{Rows, read_rows};
-use assembly_tree::{Body, Method};
+use assembly_tree::{Body, Method, Methods};
 use body_parts::bodies::body;
 use body_parts::body_lines::lines_in;
 use il_base::NoMemory;
@@ -23,11 +23,17 @@ use member_parts::generics::written_names;
 use source_reading::place::Place;
 use std::alloc::Global;
 
-/// A method, from what stands below its production and a place outside of it.
-pub fn method(alloc: Global, place: &Place, nodes: &[TreeNode]) -> Result<Method, NoMemory>
+/// Adds a method, from what stands below its production and a place outside of it.
+pub fn push_method(
+    all: &mut Methods,
+    alloc: Global,
+    place: &Place,
+    nodes: &[TreeNode],
+) -> Result<(), NoMemory>
     requires forest { IsForest nodes.now }
     requires few { length nodes.now < 2 ^ 32 }
-    ensures { (s : Source) (a : Around) (n : Node) → IsAt place.now s a → preorder n.below ≡ nodes.now → IsSoundMethod s n → IfOk result (λ m. m ≡ method s a n.below) }
+    ensures { (s : Source) (a : Around) (n : Node) → IsAt place.now s a → preorder n.below ≡ nodes.now → IsSoundMethod s n →
+        IfOk result (λ _. all.new ≡ all.old ++ method s a n.below ∷ []) }
 {
     let typars = written_names(alloc, &place.reader, nodes)?;
     let inner = Place {
@@ -36,21 +42,26 @@ pub fn method(alloc: Global, place: &Place, nodes: &[TreeNode]) -> Result<Method
         class: place.class,
         method: &typars,
     };
-    method_at(alloc, &inner, nodes)
+    push_method_at(all, alloc, &inner, nodes)
 }
 
-// The method that a place is in.
-fn method_at(alloc: Global, place: &Place, nodes: &[TreeNode]) -> Result<Method, NoMemory>
+// Adds the method that a place is in, which is made where it is added, since a method is large.
+fn push_method_at(
+    all: &mut Methods,
+    alloc: Global,
+    place: &Place,
+    nodes: &[TreeNode],
+) -> Result<(), NoMemory>
     requires forest { IsForest nodes.now }
     requires few { length nodes.now < 2 ^ 32 }
     ensures { (s : Source) (a : Around) (n : Node) → IsAt place.now s a → a.method ≡ n.below → preorder n.below ≡ nodes.now → IsSoundMethod s n →
-        IfOk result (λ m. m ≡ method_from s a n.below) }
+        IfOk result (λ _. all.new ≡ all.old ++ method_from s a n.below ∷ []) }
 {
     let lines = lines_in(alloc, nodes)?;
     let head = read_head(alloc, place, nodes)?;
     let rows = read_rows(alloc, place, nodes, lines.held)?;
     let code = body(alloc, place, nodes, &lines)?;
-    Ok(put_together(head, rows, lines.held.entry, code))
+    all.push(put_together(head, rows, lines.held.entry, code))
 }
 
 fn put_together(head: Head, rows: Rows, entry: bool, code: Option<Body>) -> Method

@@ -1,7 +1,7 @@
 -- What a rule finds at the productions of a forest, piece by piece.
-use Rattle.std.proofs.Common.{◌≡◌, ℕ, suc, ◌<◌, ◌≤◌, List, [], ◌∷◌, ◌++◌, length, map, take, drop, ap, sym, ◌∙◌, refl, subst, arith, length-drop}
+use Rattle.std.proofs.Common.{◌≡◌, ℕ, zero, suc, ◌<◌, ◌≤◌, List, [], ◌∷◌, ◌++◌, length, map, take, drop, ap, sym, ◌∙◌, refl, subst, arith, length-drop}
 use Rattle.std.specs.Prelude.{Bool, true, false, ◌==◌, ◌||◌, if◌then◌else◌, Option, None, Some}
-use Rattle.std.specs.List.{flat_map}
+use Rattle.std.specs.List.{AllByRecursion, flat_map}
 use Rattle.std.proofs.lemmas.Bool.{eqb-true}
 use Rattle.std.proofs.lemmas.List.{length-map, length-take, take-append-drop}
 use Rattle.ilasm_grammar.specs.declared.productions.TheConstants.{CLASS, METHOD, TYPAR, TYPARS_OPT_SOME}
@@ -15,7 +15,7 @@ use Rattle.source_model.specs.Source.{Source}
 use Rattle.source_model.specs.Values.{name_text}
 use Rattle.source_reading.specs.Derived.{FitsBody, HasBodies}
 use Rattle.source_reading.specs.Least.{least, sooner}
-use Rattle.rule_steps.specs.Surroundings.{found_in, is_scope, HasParameters, IsSurrounding}
+use Rattle.rule_steps.specs.Surroundings.{found_in, is_scope, HasParameters, IsQuiet, IsSurrounding, PassesQuiet}
 use Rattle.source_reading.specs.Readers.{Reads}
 use Rattle.source_reading.specs.Walk.{IsForest}
 use Rattle.rule_steps.specs.declared.asking.Surrounding.{Surrounding}
@@ -23,6 +23,7 @@ use Rattle.source_reading.specs.declared.reader.Reader.{Reader}
 use Rattle.source_reading.proofs.Collecting.{of_joined}
 use Rattle.source_reading.proofs.LeastLemmas.{flat_append, least_append, sooner_assoc}
 use Rattle.source_reading.proofs.SizeLemmas.{child_smaller, few_each}
+use Rattle.source_reading.proofs.Stepping.{Steps, step_into_branch, step_past_leaf}
 
 -- below each production of the forest that has these nodes stands its body
 abbrev pub Bodied : Source → List TreeNode → Type 0
@@ -147,6 +148,42 @@ next_shorter left rest nodes node e within = let whole : length left ≡ suc (le
 pub nothing_more : (found : Option ℕ) → found ≡ sooner found None
 nothing_more None = refl
 nothing_more (Some x) = refl
+
+-- past what a rule doesn't speak of
+module _ (opens : ForestOpens) (joins : ForestsJoin) (one : OneForest) (broken : Source → Node → List ℕ) (r : Reader) (p : Surrounding)
+    (none : List (List ℕ)) (nodes : List TreeNode) (found : Option ℕ) where
+  abbrev now : At r p none nodes → Forest → Option ℕ
+  now = sought broken r p none nodes found
+
+  abbrev whole : At r p none nodes → Forest → Option ℕ
+  whole = sought broken r p none nodes None
+
+  pub quiet_past : (k : ℕ) (left : List TreeNode) → AllByRecursion (IsQuiet broken) (take k left) → Steps now whole nodes left
+      → ((s : Source) → Bodied s nodes → Bodied s left) → Steps now whole nodes (drop k left) × ((s : Source) → Bodied s nodes → Bodied s (drop k left))
+  quiet_past zero left quiet steps bodied = (steps, bodied)
+  quiet_past (suc k) [] quiet steps bodied = (steps, bodied)
+  quiet_past (suc k) (Leaf token ∷ rest) quiet steps bodied =
+      quiet_past k rest quiet.1 (step_past_leaf opens now now whole nodes token (Leaf token ∷ rest) rest (λ i a. refl) refl steps)
+      (λ s h. bodied_past_leaf opens joins one s token (Leaf token ∷ rest) rest refl (steps.forest, steps.is) (bodied s h))
+  quiet_past (suc k) (Branch q count ∷ rest) quiet steps bodied =
+      quiet_past k rest quiet.1
+      (step_into_branch opens now now whole nodes joins q count (Branch q count ∷ rest) rest
+      (λ i b a e.
+      ap (λ o. sooner o (least (found_in broken i.source i.around (joined b a)))) (nothing_more found)
+      ∙ into_parts broken i.source i.around joins q b a found None quiet.0.0 (quiet.0.1 i.source (node_of broken i.source i.around q b) refl))
+      refl steps)
+      (λ s h. bodied_behind opens joins one s q count (Branch q count ∷ rest) rest refl (steps.forest, steps.is) (bodied s h))
+
+  pub quiet_left : (left behind : List TreeNode) → PassesQuiet broken left behind → Steps now whole nodes left
+      → ((s : Source) → Bodied s nodes → Bodied s left) → Steps now whole nodes behind × ((s : Source) → Bodied s nodes → Bodied s behind)
+  quiet_left left behind passes steps bodied =
+      let far = quiet_past passes.many left passes.quiet steps bodied in
+      (subst (Steps now whole nodes) (sym passes.left-is) far.0, λ s h. subst (Bodied s) (sym passes.left-is) (far.1 s h))
+
+pub left_shorter : (k : ℕ) (left nodes rest : List TreeNode) → rest ≡ drop k left → length left ≤ length nodes → length rest ≤ length nodes
+left_shorter k left nodes rest e within =
+    let back : length rest ≡ length (drop k left) = length_is e in
+    omega (arith, back, length-drop k left)
 
 -- ---- generic parameters
 

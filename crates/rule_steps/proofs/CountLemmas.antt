@@ -1,11 +1,12 @@
 -- The part of a production behind so many of them, piece by piece.
-use Rattle.std.proofs.Common.{◌≡◌, ℕ, zero, suc, ◌+◌, ◌-◌, length, List, ◌∷◌, ap, sym, ◌∙◌, refl, arith}
+use Rattle.std.proofs.Common.{◌≡◌, ℕ, zero, suc, ◌+◌, ◌-◌, length, ◌≤◌, List, [], ◌∷◌, ap, sym, ◌∙◌, refl, arith}
 use Rattle.std.specs.Prelude.{true, false, ◌==◌, drop, Option, None, Some}
 use Rattle.source_model.specs.Forest as tree
-use Rattle.source_model.specs.Forest.{Forest, each, first_token, joined}
+use Rattle.source_model.specs.Forest.{Forest, each, first_token, joined, preorder}
 use Rattle.source_model.specs.Laws.{ForestsJoin}
 use Rattle.source_model.specs.TypeRules.{first_of}
 use Rattle.source_reading.specs.Least.{least}
+use Rattle.source_reading.proofs.SizeLemmas.{few_each}
 use Rattle.rule_steps.proofs.RepeatLemmas.{drop_none, each_other, each_own}
 
 abbrev pub behind : ℕ → ℕ → Unit {0} → Forest → Option ℕ
@@ -33,6 +34,16 @@ module _ (p : ℕ) where
 
   pub behind_none : (skip : ℕ) → None ≡ behind p skip tt tree.none
   behind_none skip = ap (λ fs. least (first_of fs)) (sym (drop_none skip (each p tree.none) refl))
+
+drop_past : (n : ℕ) (fs : List Forest) → length fs ≤ n → drop n fs ≡ []
+drop_past zero [] few = refl
+drop_past zero (f ∷ fs) few = absurd (omega (arith, few))
+drop_past (suc n) [] few = refl
+drop_past (suc n) (f ∷ fs) few = drop_past n fs (omega (arith, few))
+
+-- of at most so many nodes none is behind so many parts
+pub none_past : (p skip : ℕ) (f : Forest) → length (preorder f) ≤ skip → None ≡ least (first_of (drop skip (each p f)))
+none_past p skip f few = ap (λ fs. least (first_of fs)) (sym (drop_past skip (each p f) (omega (arith, few, few_each p f))))
 
 -- ---- how many of them there are
 

@@ -1,4 +1,5 @@
 pub mod AskingLemmas
+pub mod ByteTables
 pub mod CountLemmas
 pub mod LeastOfRules
 pub mod RangeLemmas

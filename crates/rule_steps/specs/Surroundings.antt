@@ -1,13 +1,15 @@
 -- What the code knows of what stands around a production, and of the production itself.
-use Rattle.std.specs.Prelude.{◌≡◌, ℕ, ◌<◌, ◌^◌, ◌==◌, ◌||◌, Bool, min, length, List}
-use Rattle.std.specs.List.{flat_map}
+use Rattle.std.specs.Prelude.{◌≡◌, ℕ, ◌<◌, ◌^◌, ◌==◌, ◌||◌, Bool, false, min, length, List, take, drop, None, ⊤}
+use Rattle.std.specs.List.{AllByRecursion, flat_map}
 use Rattle.ilasm_grammar.specs.declared.productions.TheConstants.{CLASS, METHOD}
 use Rattle.ilasm_grammar.specs.declared.tree.TreeNode.{TreeNode}
+use Rattle.ilasm_grammar.specs.declared.tree.TreeNode.TheVariants.{Branch, Leaf}
 use Rattle.source_model.specs.Forest.{Forest, preorder}
 use Rattle.source_model.specs.Nodes.{Around, Node, nodes_in, typar_names}
 use Rattle.source_model.specs.Parameters.{parameters}
 use Rattle.source_model.specs.Source.{Source}
 use Rattle.source_reading.specs.Derived.{FitsBody, HasBodies}
+use Rattle.source_reading.specs.Least.{least}
 use Rattle.rule_steps.specs.declared.asking.Surrounding.{Surrounding}
 
 -- the classes around a place are counted up to 101
@@ -43,3 +45,14 @@ is_scope p = p == CLASS || p == METHOD
 -- what a rule finds at the productions of a forest
 abbrev pub found_in : (Source → Node → List ℕ) → Source → Around → Forest → List ℕ
 found_in broken s a f = flat_map (broken s) (nodes_in s a f)
+
+-- a token, or a production that is no scope and at which a rule finds nothing
+abbrev pub IsQuiet : (Source → Node → List ℕ) → TreeNode → Type 0
+IsQuiet broken (Leaf token) = ⊤
+IsQuiet broken (Branch p count) = (is_scope p ≡ false) × ((s : Source) (n : Node) → n.production ≡ p → None ≡ least (broken s n))
+
+-- these nodes are left behind some at the front that are so
+pub record PassesQuiet (broken : Source → Node → List ℕ) (nodes left : List TreeNode) : Type 0 where
+  pub many : ℕ
+  pub quiet : AllByRecursion (IsQuiet broken) (take many nodes)
+  pub left-is : left ≡ drop many nodes

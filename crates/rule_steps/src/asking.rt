@@ -1,14 +1,14 @@
 //! The productions of a source, each with what stands around its parts, and rules that are asked of each of them.
 
-ghost use Rattle.std.specs.Prelude.{◌≡◌, ◌<◌, ◌^◌, ℕ, ◌+◌, [], List, length, min, true, IfOk, MatchOption};
-ghost use Rattle.std.specs.List.{flat_map};
+ghost use Rattle.std.specs.Prelude.{◌≡◌, ◌<◌, ◌≤◌, ◌^◌, ℕ, ◌+◌, [], List, length, min, take, true, IfOk, MatchOption};
+ghost use Rattle.std.specs.List.{AllByRecursion, flat_map};
 ghost use Rattle.source_model.specs.Forest.{Forest, preorder};
 ghost use Rattle.source_model.specs.Nodes.{Around, Node, entered, nodes, typar_names};
 ghost use Rattle.source_model.specs.Parameters.{parameters};
 ghost use Rattle.source_model.specs.Source.{Source};
 ghost use Rattle.source_reading.specs.Least.{least};
 ghost use Rattle.source_reading.specs.Derived.{HasBodies};
-ghost use Rattle.rule_steps.specs.Surroundings.{found_in, is_scope, HasParameters, IsDerived, IsNode, IsSurrounding};
+ghost use Rattle.rule_steps.specs.Surroundings.{found_in, is_scope, HasParameters, IsDerived, IsNode, IsQuiet, IsSurrounding, PassesQuiet};
 ghost use Rattle.source_reading.specs.Readers.{Reads};
 ghost use Rattle.source_reading.specs.Walk.{IsForest};
 
@@ -54,13 +54,15 @@ pub trait Rule {
     ghost use Rattle.source_model.specs.Nodes.{Node};
     ghost use Rattle.source_model.specs.Source.{Source};
     ghost use Rattle.source_reading.specs.Least.{least};
+    ghost use Rattle.rule_steps.specs.Surroundings.{is_scope};
 
     /// The tokens at which a production breaks it.
     ghost broken: { Self → Source → Node → List ℕ };
 
-    /// Whether a node with this production may break it: of others it isn't asked.
+    /// Whether a node with this production may break it, or is a class or a method: of others it isn't asked.
     fn speaks_of(&self, _production: u16) -> bool
-        ensures { (s : Source) (n : Node) → n.production ≡ _production → result ≡ false → None ≡ least (broken self.now s n) }
+        ensures asked { (s : Source) (n : Node) → n.production ≡ _production → result ≡ false → None ≡ least (broken self.now s n) }
+        ensures scopes { result ≡ false → is_scope _production ≡ false }
     {
         true
     }
@@ -114,7 +116,7 @@ fn first_among<'n, R: Rule>(
     forests_join();
     let mut left = nodes;
     let mut found = None;
-    while let Some((node, rest)) = next(left) {
+    while let Some((node, rest)) = next(past_quiet(rule, left)) {
         match node {
             TreeNode::Branch {
                 production,
@@ -135,11 +137,9 @@ fn first_among<'n, R: Rule>(
                     let within = first_among(rule, alloc, reader, &inner, none, below)?;
                     found = sooner(found, sooner(here, within));
                     left = after;
-                } else if rule.speaks_of(production) {
+                } else {
                     let here = rule.first(alloc, reader, place, production, below)?;
                     found = sooner(found, here);
-                    left = rest;
-                } else {
                     left = rest;
                 }
             }
@@ -147,6 +147,39 @@ fn first_among<'n, R: Rule>(
         }
     }
     Ok(found)
+}
+
+// What stands behind the tokens and the productions at the front of which the rule doesn't speak.
+#[inline(never)]
+fn past_quiet<'n, R: Rule>(rule: &R, nodes: &'n [TreeNode]) -> &'n [TreeNode]
+    ensures { PassesQuiet (R.broken rule.now) nodes.now result.now }
+{
+    let (_, left) = nodes.split_at(quiet_front(rule, nodes));
+    left
+}
+
+// How many of them there are.
+fn quiet_front<R: Rule>(rule: &R, nodes: &[TreeNode]) -> usize
+    ensures within { result ≤ length nodes.now }
+    ensures quiet { AllByRecursion (IsQuiet (R.broken rule.now)) (take result nodes.now) }
+{
+    let mut at = 0;
+    while let Some(node) = nodes.get(at) {
+        if !is_quiet(rule, *node) {
+            return at;
+        }
+        at += 1;
+    }
+    at
+}
+
+fn is_quiet<R: Rule>(rule: &R, node: TreeNode) -> bool
+    ensures { result ≡ true → IsQuiet (R.broken rule.now) node }
+{
+    match node {
+        TreeNode::Branch { production, .. } => !rule.speaks_of(production),
+        TreeNode::Leaf { .. } => true,
+    }
 }
 
 // The names of the generic parameters of a class or a method that may have some.

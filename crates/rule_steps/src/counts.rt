@@ -101,6 +101,9 @@ fn first_past(nodes: &[TreeNode], production: u16, skip: usize) -> Option<u32>
     requires { IsForest nodes.now }
     ensures { (f : Forest) → preorder f ≡ nodes.now → result ≡ least (first_of (drop skip (each production f))) }
 {
+    if nodes.len() <= skip {
+        return None;
+    }
     derivations_are_forests();
     forests_open();
     forests_join();

@@ -72,6 +72,17 @@ cctor_word = refl
 
 -- ---- the first name in a forest
 
+-- a node that is none of the three is not one of them
+pub apart_names : (node : TreeNode) → (is_of METHOD_NAME_NAME node || (is_of METHOD_NAME_CTOR node || is_of METHOD_NAME_CCTOR node)) ≡ false
+    → (is_of METHOD_NAME_NAME node ≡ false) × ((is_of METHOD_NAME_CTOR node ≡ false) × (is_of METHOD_NAME_CCTOR node ≡ false))
+apart_names node e = go (is_of METHOD_NAME_NAME node) (is_of METHOD_NAME_CTOR node) (is_of METHOD_NAME_CCTOR node) e
+  where
+    go : (x y z : Bool) → (x || (y || z)) ≡ false → (x ≡ false) × ((y ≡ false) × (z ≡ false))
+    go false false false e = (refl, (refl, refl))
+    go false false true e = absurd cc
+    go false true z e = absurd cc
+    go true y z e = absurd cc
+
 abbrev sought : List ℕ
 sought = METHOD_NAME_NAME ∷ METHOD_NAME_CTOR ∷ METHOD_NAME_CCTOR ∷ []
 

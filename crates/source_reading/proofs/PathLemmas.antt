@@ -6,7 +6,7 @@ use Rattle.type_terms.specs.declared.name.TypeId.{TypeId}
 use Rattle.ilasm_grammar.specs.declared.productions.TheConstants.{PATH, SLASH_NAME}
 use Rattle.ilasm_grammar.specs.declared.tree.TreeNode.{TreeNode}
 use Rattle.ilasm_grammar.specs.declared.tree.TreeNode.TheVariants.{Branch}
-use Rattle.source_model.specs.Forest.{Forest, branch, preorder, leaf_at}
+use Rattle.source_model.specs.Forest.{Forest, Part, below_each, branch, has, is_any_part, leaf_at, parts, preorder}
 use Rattle.source_model.specs.Laws.{ForestsJoin}
 use Rattle.source_model.specs.Names.{path_tokens}
 use Rattle.source_model.specs.Nodes.{type_id}
@@ -25,6 +25,14 @@ pub whole_path : (s : Source) (f : Forest) (path : List TypeId) (first : TypeId)
 whole_path s f path first token fits is id at =
     let named : IsOf s kind.Name token = subst (IsOf s kind.Name) (sym at) (path_begins s f fits) in
     ap (λ p. p ++ later_ids s f) is ∙ ap (λ i. i ∷ later_ids s f) (id named ∙ ap (type_id s) at)
+
+-- a path of one name
+pub no_later : (s : Source) (f : Forest) → has SLASH_NAME f ≡ false → later_ids s f ≡ []
+no_later s f apart = ap (λ fs. map (type_id s) (map (λ g. leaf_at 1 g) fs)) (no_below (parts (SLASH_NAME ∷ []) f) apart)
+  where
+    no_below : (ps : List Part) → is_any_part ps ≡ false → below_each ps ≡ []
+    no_below [] e = refl
+    no_below (p ∷ ps) e = absurd cc
 
 module _ (s : Source) (whole : List TypeId) where
   abbrev pub Names : List TreeNode → List TypeId → Type 0

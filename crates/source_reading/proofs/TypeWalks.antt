@@ -142,6 +142,21 @@ module _ (s : Source) (a : Around) where
             ∙ sym (type.type_branch s a p b.inner b.rest) ∙ ap (type_of s a) (sym b.is);
       }
 
+  -- a base that is one word, whatever stands below its production
+  pub word_split : (f : Forest) (nodes : List TreeNode) (x : Opened) (p count : ℕ) (base : SigType) → Opens nodes x
+      → x.node ≡ Branch p count → preorder f ≡ nodes → IsReadable s f
+      → ((b : Forest) (args : List SigType) → base_type s a p b args ≡ base) → TypeSplit f x.after.now base
+  word_split f nodes x p count base o is e h based =
+      let b = o.branch f p count e is in
+      let each : IsReadable s (branch p b.inner b.rest) = subst (IsReadable s) b.is h in
+      record {
+        rest = b.rest;
+        rest-is = b.rest-is;
+        each = each.2;
+        is = ap (suffixed s a b.rest) (sym (based b.inner (types_in s a b.inner)))
+            ∙ sym (type.type_branch s a p b.inner b.rest) ∙ ap (type_of s a) (sym b.is);
+      }
+
   pub empty_type : (f : Forest) → preorder f ≡ [] → Prim prim.Void ≡ type_of s a f
   empty_type f e = sym (ap (type_of s a) (no_forest f e) ∙ type.type_none s a)
 

@@ -53,6 +53,7 @@ impl<'a> Place<'a> {
     }
 
     /// The type of a base that isn't one word.
+    #[inline(never)]
     fn made_type(
         &self,
         alloc: Global,
@@ -126,7 +127,7 @@ fn native_type(nodes: &[TreeNode]) -> Prim
 }
 
 /// The type of a base that is one word.
-fn word_type(production: u16) -> Option<Prim>
+pub fn word_type(production: u16) -> Option<Prim>
     ensures { (s : Source) (a : Around) (f : Forest) (args : List SigType) →
         MatchOption result ((base_type s a production f args ≡ made_type s a production f args) × (TYPE_BASE_VOID ≤ production → TYPE_BASE_INT_TYPE ≤ production))
         (λ prim. base_type s a production f args ≡ term.Prim prim) }

@@ -16,7 +16,7 @@ ghost use Rattle.source_reading.specs.Walk.{IsForest};
 use crate::declared::Declared;
 use crate::narrowing::word_of;
 use crate::reader::Reader;
-use crate::walk::{child, is_of, leaf_at, open};
+use crate::walk::{child, has, is_of, leaf_at, open};
 use il_base::{NoMemory, Text};
 use ilasm_grammar::TreeNode;
 use ilasm_grammar::productions::{PATH, SLASH_NAME, TYPE_NAME_PATH, TYPE_NAME_SCOPE};
@@ -61,10 +61,14 @@ impl<'a> Place<'a> {
     {
         let first = self.reader.type_id(alloc, leaf_at(nodes, 0))?;
         let path = Path::new(alloc, first)?;
-        self.with_names(alloc, path, nodes)
+        if has(nodes, SLASH_NAME) {
+            return self.with_names(alloc, path, nodes);
+        }
+        Ok(path)
     }
 
     /// A path with the names behind it that stand in a forest, each after a `/`.
+    #[inline(never)]
     pub fn with_names(
         &self,
         alloc: Global,

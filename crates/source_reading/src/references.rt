@@ -1,8 +1,8 @@
 //! References to methods (ECMA-335 II.10.5, II.15.3, II.23.2.1, II.23.2.2).
 
-ghost use Rattle.std.specs.Prelude.{◌≡◌, ◌<◌, ◌^◌, [], ◌∷◌, IfOk, length, true, None, Some, if◌then◌else◌};
+ghost use Rattle.std.specs.Prelude.{◌≡◌, ◌||◌, ◌<◌, ◌^◌, [], ◌∷◌, IfOk, length, true, None, Some, if◌then◌else◌};
 ghost use Rattle.il_lexer.specs.declared.types.TokenKind.TheVariants as kind;
-ghost use Rattle.ilasm_grammar.specs.declared.productions.TheConstants.{METHOD_GENERICS, METHOD_REF, PATH, TARGET_NAME, TARGET_SCOPE, TARGET_TYPE};
+ghost use Rattle.ilasm_grammar.specs.declared.productions.TheConstants.{METHOD_GENERICS, METHOD_NAME_CCTOR, METHOD_NAME_CTOR, METHOD_NAME_NAME, METHOD_REF, PATH, TARGET_NAME, TARGET_SCOPE, TARGET_TYPE};
 ghost use Rattle.source_model.specs.Forest.{Forest, child, has, leaf_at, preorder, the};
 ghost use Rattle.source_model.specs.Names.{name_and_tail, or_module, path_tokens, type_named};
 ghost use Rattle.source_model.specs.Nodes.{Around};
@@ -12,7 +12,7 @@ ghost use Rattle.source_reading.specs.Derived.{FitsBody, HasBodies};
 ghost use Rattle.source_reading.specs.Places.{IsAt, IsReadable, IsSound};
 ghost use Rattle.source_reading.specs.Readers.{IsOf, Reads};
 ghost use Rattle.source_reading.specs.Sound.{HasPath};
-ghost use Rattle.source_reading.specs.Walk.{IsForest};
+ghost use Rattle.source_reading.specs.Walk.{IsForest, is_of};
 
 use crate::narrowing::word_of;
 use crate::place::{Place, module_name};
@@ -181,18 +181,35 @@ pub fn method_name(alloc: Global, reader: &Reader, nodes: &[TreeNode]) -> Result
     forests_join();
     let mut left = nodes;
     while let Some(x) = open(left) {
-        if is_of(x.node, METHOD_NAME_NAME) {
-            return reader.name_text(alloc, leaf_at(x.below, 0));
+        if is_name(x.node) {
+            if is_of(x.node, METHOD_NAME_NAME) {
+                return reader.name_text(alloc, leaf_at(x.below, 0));
+            }
+            if is_of(x.node, METHOD_NAME_CTOR) {
+                return Text::new(alloc, ".ctor");
+            }
+            if is_of(x.node, METHOD_NAME_CCTOR) {
+                return Text::new(alloc, ".cctor");
+            }
+            left = x.behind;
+        } else {
+            left = x.behind;
         }
-        if is_of(x.node, METHOD_NAME_CTOR) {
-            return Text::new(alloc, ".ctor");
-        }
-        if is_of(x.node, METHOD_NAME_CCTOR) {
-            return Text::new(alloc, ".cctor");
-        }
-        left = x.behind;
     }
     Text::new(alloc, "")
+}
+
+// Whether a node is the name of a method.
+fn is_name(node: TreeNode) -> bool
+    ensures { result ≡ (is_of METHOD_NAME_NAME node || (is_of METHOD_NAME_CTOR node || is_of METHOD_NAME_CCTOR node)) }
+{
+    match node {
+        TreeNode::Branch { production, .. } => matches!(
+            production,
+            METHOD_NAME_NAME | METHOD_NAME_CTOR | METHOD_NAME_CCTOR
+        ),
+        TreeNode::Leaf { .. } => false,
+    }
 }
 
 // The arguments, where some are written.

@@ -159,7 +159,11 @@ pub fn typar_count(alloc: Global, nodes: &[TreeNode]) -> Result<u32, NoMemory>
     requires few { length nodes.now < 2 ^ 32 }
     ensures { (f : Forest) → preorder f ≡ nodes.now → IfOk result (λ count. count ≡ length (typars f)) }
 {
-    let typars = each(alloc, child(nodes, TYPARS_OPT_SOME), TYPAR)?;
+    let below = child(nodes, TYPARS_OPT_SOME);
+    if below.is_empty() {
+        return Ok(0);
+    }
+    let typars = each(alloc, below, TYPAR)?;
     Ok(word_of(typars.len()))
 }
 

@@ -11,6 +11,7 @@ ghost use Rattle.source_reading.specs.Sound.{IsTypeOrNothing};
 ghost use Rattle.source_reading.specs.Suffixes.{IsSoundAt, is_suffix, suffix_at};
 ghost use Rattle.source_reading.specs.Walk.{IsForest};
 
+use crate::bases::word_type;
 use crate::place::{Place, module_name};
 use crate::walk::{is_of, open};
 use il_base::{Boxed, Items, NoMemory};
@@ -59,6 +60,9 @@ impl<'a> Place<'a> {
         let TreeNode::Branch { production, .. } = x.node else {
             return Ok(SigType::Prim(Prim::Void));
         };
+        if let Some(prim) = word_type(production) {
+            return self.suffixed(alloc, x.after, SigType::Prim(prim));
+        }
         let args = self.types_in(alloc, x.below)?;
         let base = self.base_type(alloc, production, x.below, args)?;
         self.suffixed(alloc, x.after, base)
@@ -92,6 +96,7 @@ impl<'a> Place<'a> {
 
     /// A type with a suffix around it.
     #[cycle(types)]
+    #[inline(never)]
     fn with_suffix(
         &self,
         alloc: Global,

@@ -3,7 +3,7 @@ use Rattle.std.proofs.Common.{◌≡◌, ℕ, List, [], ◌∷◌, ◌++◌, ap,
 use Rattle.std.specs.List.{AllByRecursion}
 use Rattle.std.specs.Prelude.{Bool, true, false, ◌==◌, ◌||◌, ◌&&◌, None, if◌then◌else◌}
 use Rattle.std.proofs.lemmas.Bool.Decides.{Decides-eqb}
-use Rattle.ilasm_grammar.specs.declared.productions.TheConstants.{ASSEMBLY_ATTR_FLAGS, ASSEMBLY_ITEM_HASH, AT_NAME, CLASS, CLASS_ATTR_FLAGS, CONST_CHAR, CONST_FLOAT32, CONST_FLOAT64, CONST_INT_TYPE, DATA, DATA_ITEM_DATA_NUM, DECL_CORFLAGS, DECL_FILE, DECL_IMAGEBASE, DECL_STACKRESERVE, DECL_SUBSYSTEM, DEF_ARGS, FIELD, FIELD_TARGET_NAME, FIELD_TARGET_SCOPE, GEN_ARGS_BRACKET, GEN_ARGS_TYPE, IMPL_ATTR_FLAGS, KEY_VER, MEMBER_PACK, MEMBER_PARAM, MEMBER_SIZE, PARAM_ATTR_FLAGS, PARAM_OF_BRACKET, PARAM_OF_TYPE, PROPERTY, SIGNATURE, TARGET_NAME, TARGET_SCOPE, TYPARS, TYPE_BASE_BANG, TYPE_BASE_DOUBLE_BANG, TYPE_NAME_PATH, TYPE_NAME_SCOPE, TYPE_SUFFIX_BRACKET}
+use Rattle.ilasm_grammar.specs.declared.productions.TheConstants.{ASSEMBLY_ATTR_FLAGS, ASSEMBLY_ITEM_HASH, AT_NAME, CLASS, CLASS_ATTR_FLAGS, CONST_CHAR, CONST_FLOAT32, CONST_FLOAT64, CONST_INT_TYPE, DATA, DATA_ITEM_DATA_NUM, DECL_CORFLAGS, DECL_FILE, DECL_IMAGEBASE, DECL_STACKRESERVE, DECL_SUBSYSTEM, DEF_ARGS, FIELD, FIELD_TARGET_NAME, FIELD_TARGET_SCOPE, GEN_ARGS_BRACKET, GEN_ARGS_TYPE, IMPL_ATTR_FLAGS, KEY_VER, MEMBER_PACK, MEMBER_PARAM, MEMBER_SIZE, METHOD, PARAM_ATTR_FLAGS, PARAM_OF_BRACKET, PARAM_OF_TYPE, PROPERTY, SIGNATURE, TARGET_NAME, TARGET_SCOPE, TYPARS, TYPE_BASE_BANG, TYPE_BASE_DOUBLE_BANG, TYPE_NAME_PATH, TYPE_NAME_SCOPE, TYPE_SUFFIX_BRACKET}
 use Rattle.source_model.specs.Forest.{Forest, is_among}
 use Rattle.source_model.specs.Names.{written_name}
 use Rattle.source_model.specs.Nodes.{Node}
@@ -12,6 +12,7 @@ use Rattle.source_model.specs.Source.{Source}
 use Rattle.source_model.specs.TypeRules.{arguments_out_of_range, generic_number_out_of_range, index_out_of_range, parameter_flags_out_of_range, path_too_long, path_too_long_in, second_ellipsis, typar_undeclared, typars_out_of_range}
 use Rattle.source_model.specs.Undeclared.{param_type_undeclared}
 use Rattle.source_reading.specs.Least.{least}
+use Rattle.rule_steps.specs.Surroundings.{is_scope}
 use Rattle.source_reading.specs.declared.class_paths.ClassName.{ClassName}
 use Rattle.source_rules.specs.AllOfParts.{broken_at, name_broken}
 use Rattle.source_rules.specs.ArrayNumbers.{array_number, number_at}
@@ -338,3 +339,35 @@ names_asked s n keys own cs labels e =
     ∙ ap (λ xs. (name ++ xs) ++ nesting) (no_number s n quiet)
     ∙ ap (λ xs. xs ++ nesting) (append-nil name)
     ∙ ap (λ xs. name ++ (xs ++ path_too_long n)) (no_class s n quiet)
+
+-- ---- a method, a class and the parameters of a method
+
+-- neither a class nor a method
+pub no_scope : (p : ℕ) → is_asked p ≡ false → is_scope p ≡ false
+no_scope p e =
+    let e0 = (is_quiet p e).0.laid-out in
+    let e1 = aren't CLASS p _ e0 in
+    let e2 = aren't MEMBER_PACK p _ e1 in
+    let e3 = aren't MEMBER_SIZE p _ e2 in
+    let e4 = aren't FIELD p _ e3 in
+    let e5 = aren't DATA p _ e4 in
+    let e6 = aren't DATA_ITEM_DATA_NUM p _ e5 in
+    let e7 = aren't AT_NAME p _ e6 in
+    or_not (p == CLASS) (p == METHOD) (isn't CLASS p _ e0) (isn't METHOD p _ e7)
+
+module _ (s : Source) (n : Node) (keys own : List (List ℕ)) (cs : List ClassName) (labels : List (List ℕ)) where
+  -- what is found, were this its production
+  abbrev found_as : ℕ → List ℕ
+  found_as p = broken_at keys own cs labels s (record { production = p; below = n.below; around = n.around })
+
+  -- no rule speaks of a method itself
+  pub method_asked : n.production ≡ METHOD → None ≡ least (broken_at keys own cs labels s n)
+  method_asked e = sym (ap (λ p. least (found_as p)) e)
+
+  pub class_asked : n.production ≡ CLASS → least (class_too_deep n) ≡ least (broken_at keys own cs labels s n)
+  class_asked e = sym (ap least (ap found_as e ∙ append-nil _ ∙ ap (λ p. class_too_deep (record { production = p; below = n.below; around = n.around })) (sym e)))
+
+  pub parameters_asked : n.production ≡ DEF_ARGS → least (arguments_out_of_range n) ≡ least (broken_at keys own cs labels s n)
+  parameters_asked e =
+      sym (ap least (ap found_as e ∙ append-nil _ ∙ append-nil _ ∙ append-nil _ ∙ append-nil _
+      ∙ ap (λ p. arguments_out_of_range (record { production = p; below = n.below; around = n.around })) (sym e)))

@@ -1,10 +1,10 @@
 -- What rules find at a type's name whose path is one name of this assembly: that name, where no class has it.
 use Rattle.std.proofs.Common.{◌≡◌, ℕ, List, [], ◌∷◌, ◌++◌, Option, None, Some, map, refl, ap, sym, ◌∙◌, append-nil}
-use Rattle.std.specs.Prelude.{Bool, true, false, if◌then◌else◌, is_some}
+use Rattle.std.specs.Prelude.{false, if◌then◌else◌, is_some}
 use Rattle.il_lexer.specs.declared.types.TokenKind.TheVariants as kind
 use Rattle.type_terms.specs.declared.name.Scope.TheVariants.{Here}
 use Rattle.ilasm_grammar.specs.declared.productions.TheConstants.{PATH, SLASH_NAME, TYPE_NAME_PATH}
-use Rattle.source_model.specs.Forest.{Forest, Part, below_each, child, each, has, is_among, is_any_part, leaf_at, parts}
+use Rattle.source_model.specs.Forest.{Forest, Part, below_each, child, has, is_among, is_any_part, leaf_at, parts}
 use Rattle.source_model.specs.Names.{Written, written_name}
 use Rattle.source_model.specs.Nodes.{Node, type_id}
 use Rattle.source_model.specs.Source.{Source}

@@ -49,8 +49,8 @@ impl Rule for Nestings {
     }
 }
 
-// The name of a class that nests too deep.
-fn deep_class(place: &Surrounding, production: u16, below: &[TreeNode]) -> Option<u32>
+/// The name of a class that nests too deep.
+pub fn deep_class(place: &Surrounding, production: u16, below: &[TreeNode]) -> Option<u32>
     requires { IsForest below.now }
     ensures { (n : Node) → IsNode place.now production below.now n → result ≡ least (class_too_deep n) }
 {

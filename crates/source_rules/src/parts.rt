@@ -19,13 +19,14 @@ ghost use Rattle.rule_steps.specs.Surroundings.{IsDerived, IsNode};
 use crate::asked::{is_asked, is_named};
 use crate::class_rules::Classes;
 use crate::named_types::{Scopes, Types, lone_missing, missing, unless_known};
-use crate::nestings::{Nestings, long_path};
+use crate::nestings::{Nestings, deep_class, long_path};
 use crate::out_of_range::Numbers;
 use crate::undeclared::{Labels, Typars};
 use crate::written::written_name;
 use il_base::NoMemory;
 use ilasm_grammar::{TreeNode, productions};
 use rule_steps::asking::{Rule, Surrounding, first_at_all};
+use rule_steps::counts::argument_past_most;
 use source_model::tokens_stand_in_order;
 use source_reading::derived::derivations_have_bodies;
 use source_reading::least::sooner;
@@ -89,6 +90,15 @@ impl<'a> Rule for AllOfParts<'a> {
     ) -> Result<Option<u32>, NoMemory> {
         if is_named(production) {
             return self.first_named(alloc, reader, production, below);
+        }
+        if production == productions::METHOD {
+            return Ok(None);
+        }
+        if production == productions::CLASS {
+            return Ok(deep_class(place, production, below));
+        }
+        if production == productions::DEF_ARGS {
+            return Ok(argument_past_most(production, below));
         }
         if !is_asked(production) {
             return Ok(None);

@@ -1,5 +1,6 @@
 use Rattle.std.proofs.Common.{◌≡◌, ◌+◌, ◌≤◌, ◌∷◌, [], slice_get, ap, sym, ◌∙◌, subst, length, refl, arith}
 use Rattle.std.specs.Prelude.{Some, false, ◌==◌}
+use Rattle.std.proofs.lemmas.Bool.{ne_eqb}
 use Rattle.std.proofs.lemmas.Option.{slice_get_read}
 use Rattle.ilasm_grammar.specs.declared.productions.TheConstants.{ITEM_NAME}
 use Rattle.source_model.specs.Forest.{leaf_at, parts, parts_outside}
@@ -12,6 +13,10 @@ use Rattle.body_parts.proofs.HeldLemmas as held
 use Rattle.body_parts.proofs.LineWalks as named
 use Rattle.body_parts.proofs.LineWalks.{forms_apart, name_among, no_name_among}
 use Rattle.body_parts.proofs.PastLemmas.{
+  going_no_instruction,
+  going_unnamed,
+  going_unpassed,
+  going_untold,
   head_passed,
   head_untold,
   instruction_passed,
@@ -40,6 +45,25 @@ loop-node-init c = record {
   held = subst (held.Walked c.args.nodes.now 0) (sym c.nothing-held.ensures)
       (held.begins c.derivations_are_forests.ensures c.forests_open.ensures c.forests_join.ensures c.args.nodes.now c.requires);
 }
+
+pub loop-node-preserved-then-goes_on : goal.loop-node-preserved-then-goes_on
+loop-node-preserved-then-goes_on c =
+    let one = c.derivations_are_forests.ensures in
+    let opens = c.forests_open.ensures in
+    let joins = c.forests_join.ensures in
+    let nodes = c.args.nodes.now in
+    let at = c.loop-node.at in
+    let q = c.in-Branch.production in
+    let n = c.in-Branch.count in
+    let h = c.loop-node.invariant in
+    let is = node_is ((goal.at.loop-node-preserved-then-goes_on c).In-Some) ∙ ap Some c.in-Branch.is in
+    let among = sym c.goes_on.ensures ∙ c.if-goes_on.true in
+    let outside = going_unpassed q among in
+    record {
+      pieces = pieces.into_branch one opens joins nodes passed_forms instruction_forms at q n c.loop-node.instructions is (going_no_instruction q among) outside h.pieces;
+      named = named.into_branch one opens joins nodes passed_forms (ITEM_NAME ∷ []) at q n c.loop-node.labels is (going_unnamed q among) outside h.named;
+      held = held.into_branch one opens joins nodes at q n c.loop-node.held c.loop-node.held is outside (held.untold c.loop-node.held q (going_untold q among)) h.held;
+    }
 
 pub loop-node-preserved-then-is_instruction : goal.loop-node-preserved-then-is_instruction
 loop-node-preserved-then-is_instruction c =
@@ -104,7 +128,7 @@ loop-node-preserved-then-is_of_head c =
     let h = c.loop-node.invariant in
     let is = node_is ((goal.at.loop-node-preserved-then-is_of_head c).In-Some) ∙ ap Some c.in-Branch.is in
     let other = sym c.is_instruction.ensures ∙ c.if-is_instruction.false in
-    let apart : (q == ITEM_NAME) ≡ false = grind arith in
+    let apart : (q == ITEM_NAME) ≡ false = ne_eqb q ITEM_NAME c.if-production-eq-ITEM_NAME.false in
     let unnamed = no_name_among q apart in
     let among = sym c.is_of_head.ensures ∙ c.if-is_of_head.true in
     let passed = head_passed q among in
@@ -126,7 +150,7 @@ loop-node-preserved-then-is_told c =
     let h = c.loop-node.invariant in
     let is = node_is ((goal.at.loop-node-preserved-then-is_told c).In-Some) ∙ ap Some c.in-Branch.is in
     let other = sym c.is_instruction.ensures ∙ c.if-is_instruction.false in
-    let apart : (q == ITEM_NAME) ≡ false = grind arith in
+    let apart : (q == ITEM_NAME) ≡ false = ne_eqb q ITEM_NAME c.if-production-eq-ITEM_NAME.false in
     let unnamed = no_name_among q apart in
     let outside = not_passed q (sym c.is_of_head.ensures ∙ c.if-is_of_head.false) unnamed other in
     record {
@@ -147,7 +171,7 @@ loop-node-preserved-else-is_told c =
     let h = c.loop-node.invariant in
     let is = node_is ((goal.at.loop-node-preserved-else-is_told c).In-Some) ∙ ap Some c.in-Branch.is in
     let other = sym c.is_instruction.ensures ∙ c.if-is_instruction.false in
-    let apart : (q == ITEM_NAME) ≡ false = grind arith in
+    let apart : (q == ITEM_NAME) ≡ false = ne_eqb q ITEM_NAME c.if-production-eq-ITEM_NAME.false in
     let unnamed = no_name_among q apart in
     let outside = not_passed q (sym c.is_of_head.ensures ∙ c.if-is_of_head.false) unnamed other in
     record {

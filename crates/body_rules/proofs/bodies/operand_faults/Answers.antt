@@ -1,11 +1,8 @@
-use Rattle.std.proofs.Common.{◌≡◌, ap, sym, refl, ◌∙◌}
-use Rattle.std.specs.Prelude.{false, ◌==◌}
-use Rattle.std.specs.List.{list_any}
+use Rattle.std.proofs.Common.{ap, sym, ◌∙◌}
 use Rattle.ilasm_grammar.specs.declared.productions.TheConstants.{INSTRUCTION_OP_VAR}
 use Rattle.source_model.specs.BodyFaults.{variable_undeclared}
 use Rattle.source_model.specs.Instructions.{instructions_of}
 use Rattle.source_reading.specs.Least.{least}
-use Rattle.source_reading.specs.declared.pieces.Piece.{Piece}
 use Rattle.body_rules.proofs.WantedLemmas.{none_asked, none_of_variables, none_ranged}
 use Rattle.body_rules.proofs.bodies.operand_faults.Goals as goal
 

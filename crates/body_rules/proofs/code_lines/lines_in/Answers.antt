@@ -1,16 +1,17 @@
-use Rattle.std.proofs.Common.{◌≡◌, ◌+◌, ◌≤◌, ◌∷◌, [], slice_get, ap, sym, ◌∙◌, subst, length, refl, take, drop, arith}
-use Rattle.std.specs.Prelude.{Some, true, false, not, ◌==◌, ◌||◌, ◌&&◌}
+use Rattle.std.proofs.Common.{◌≡◌, ◌+◌, ◌≤◌, ◌∷◌, [], slice_get, ap, sym, ◌∙◌, subst, length, refl, arith}
+use Rattle.std.specs.Prelude.{Some, false, ◌==◌}
 use Rattle.std.proofs.lemmas.Bool.{false≢true}
 use Rattle.std.proofs.lemmas.Option.{slice_get_read}
 use Rattle.ilasm_grammar.specs.declared.productions.TheConstants.{ITEM_NAME}
-use Rattle.source_model.specs.Forest.{Forest, is_among, leaf_at, parts, parts_outside, preorder}
-use Rattle.source_model.specs.Instructions.{instruction_forms, instructions_of}
+use Rattle.source_model.specs.Forest.{leaf_at, parts, parts_outside}
+use Rattle.source_model.specs.Instructions.{instruction_forms}
 use Rattle.source_reading.specs.Pieces.{ArePieces}
 use Rattle.source_reading.proofs.PieceLemmas.{mapped_below}
 use Rattle.source_flags.proofs.PastShut as pieces
 use Rattle.body_rules.specs.CodeLines.{others}
-use Rattle.body_rules.proofs.CodeLineLemmas.{shut, forms_no_others, forms_shut, forms_unnamed, instructions_past, labels_past, name_among, name_no_other, name_shut, no_name_among, not_true, plain_lines, unshut}
+use Rattle.body_rules.proofs.CodeLineLemmas.{shut, forms_no_others, forms_shut, forms_unnamed, instructions_past, labels_past, name_among, name_no_other, name_shut, no_line_shut, no_name_among, not_true, plain_lines, unshut}
 use Rattle.body_rules.proofs.LabelWalks as named
+use Rattle.body_rules.proofs.LineTable.{no_line}
 use Rattle.body_rules.proofs.code_lines.lines_in.Goals as goal
 use Rattle.body_rules.proofs.code_lines.lines_in.Goals.{In-Some, then-plain, else-plain}
 
@@ -31,6 +32,24 @@ loop-node-init c =
       named = subst (λ found. named.Named nodes instruction_forms (ITEM_NAME ∷ []) 0 found) (sym c.new-labels.ensures)
           (named.begin one opens joins nodes instruction_forms (ITEM_NAME ∷ []) c.requires);
       plain-is = λ _. pieces.begin one opens joins nodes shut others c.requires;
+    }
+
+pub loop-node-preserved-then-not-is_line : goal.loop-node-preserved-then-not-is_line
+loop-node-preserved-then-not-is_line c =
+    let one = c.derivations_are_forests.ensures in
+    let opens = c.forests_open.ensures in
+    let joins = c.forests_join.ensures in
+    let nodes = c.args.nodes.now in
+    let at = c.loop-node.at in
+    let q = c.in-Branch.production in
+    let is = node_is ((goal.at.loop-node-preserved-then-not-is_line c).In-Some) ∙ ap Some c.in-Branch.is in
+    let none = no_line q (sym c.is_line.ensures ∙ c.if-not-is_line.true) in
+    record {
+      pieces = pieces.into_branch one opens joins nodes (ITEM_NAME ∷ []) instruction_forms at q c.in-Branch.count c.loop-node.instructions is none.form none.name c.loop-node.invariant.pieces;
+      named = named.into_branch one opens joins nodes instruction_forms (ITEM_NAME ∷ []) at q c.in-Branch.count c.loop-node.labels is none.name none.form c.loop-node.invariant.named;
+      plain-is = λ e.
+          pieces.into_branch one opens joins nodes shut others at q c.in-Branch.count [] is none.other (no_line_shut q none.name none.form)
+          (c.loop-node.invariant.plain-is e);
     }
 
 pub loop-node-preserved-then-is_instruction : goal.loop-node-preserved-then-is_instruction

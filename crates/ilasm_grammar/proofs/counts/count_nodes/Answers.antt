@@ -5,7 +5,8 @@ use Rattle.std.proofs.lemmas.List.Sums.{sum_by-take-le}
 use Rattle.ilasm_grammar.specs.declared.tree.TreeNode.{TreeNode}
 use Rattle.ilasm_grammar.specs.Counts.{counted, sizes_of, hops}
 use Rattle.ilasm_grammar.specs.Ilasm.{ilasm}
-use Rattle.ilasm_grammar.proofs.CountsLemmas.{sum-sizes_of, leaf_counted, branch_counted, hops_here}
+use Rattle.ilasm_grammar.proofs.CountsLemmas.{has_rule, sum-sizes_of, leaf_counted, branch_counted, hops_here}
+use Rattle.ilasm_grammar.proofs.PlaceLemmas.{is_rule}
 use Rattle.ilasm_grammar.proofs.counts.count_nodes.Goals as goal
 
 at_end : (raw : List TreeNode) (n : ℕ) → n ≡ length raw → raw ≡ take n raw ++ counted ilasm (drop n raw)
@@ -42,9 +43,18 @@ loop-k-preserved-in-Leaf c =
     (c.at.ensures ∙ ap (λ (x : TreeNode). Some x) c.in-Leaf.is) in
     record { nodes = h.0; first = first_is 1 _ _ h.1 }
 
+pub arity_of-requires : goal.arity_of-requires
+arity_of-requires c =
+    let raw = c.args.nodes.now in
+    let j = c.loop-k.k - 1 in
+    let k : c.loop-k.k ≡ suc j = omega arith in
+    let n = c.loop-k.invariant.nodes ∙ ap (λ (x : ℕ). take x raw ++ counted ilasm (drop x raw)) k in
+    is_rule c.in-Branch.production
+    (has_rule ilasm raw c.loop-k.nodes j c.in-Branch.production c.in-Branch.nodes (omega arith) n (c.at.ensures ∙ ap (λ (x : TreeNode). Some x) c.in-Branch.is) c.requires.rules)
+
 pub size_of-below-requires-clause-fits : goal.size_of-below-requires-clause-fits
 size_of-below-requires-clause-fits c =
-    fit c.args.nodes.now c.loop-k.nodes c.loop-k.k (c.loop-k.k - 1 + 1) c.arity_of.result c.requires (omega arith) (omega arith) c.loop-k.invariant.nodes
+    fit c.args.nodes.now c.loop-k.nodes c.loop-k.k (c.loop-k.k - 1 + 1) c.arity_of.result c.requires.few (omega arith) (omega arith) c.loop-k.invariant.nodes
 
 pub size_of-below-requires-clause-first : goal.size_of-below-requires-clause-first
 size_of-below-requires-clause-first c =
@@ -58,7 +68,7 @@ below_is raw nodes k x m below lt pos le same e is =
 
 pub overflow_add-first : goal.overflow_add-first
 overflow_add-first c = record {
-  fits = below_is c.args.nodes.now c.loop-k.nodes c.loop-k.k (c.loop-k.k - 1 + 1) c.arity_of.result c.size_of-below.result c.requires (omega arith) (omega arith)
+  fits = below_is c.args.nodes.now c.loop-k.nodes c.loop-k.k (c.loop-k.k - 1 + 1) c.arity_of.result c.size_of-below.result c.requires.few (omega arith) (omega arith)
       (omega arith) c.loop-k.invariant.nodes c.size_of-below.ensures;
 }
 

@@ -27,8 +27,8 @@ low c = subst (λ (x : ℕ). x < 887) (sym (place c)) (cell_choice c.loop-next.i
 pub loop-next-init : goal.loop-next-init
 loop-next-init c = record { some = c.requires.some; here = c.requires.cell; extended = unextended c.args.terminal _ _ }
 
-pub choice_in-choice-requires-clause-within : goal.choice_in-choice-requires-clause-within
-choice_in-choice-requires-clause-within c = cell_within c.loop-next.invariant.here c.requires.terminal
+pub choice_in-choice-requires : goal.choice_in-choice-requires
+choice_in-choice-requires c = cell_within c.loop-next.invariant.here c.requires.terminal
 
 pub inner_of-inner-requires : goal.inner_of-inner-requires
 inner_of-inner-requires c = cell_within c.loop-next.invariant.here c.requires.terminal

@@ -14,6 +14,7 @@ use Rattle.ilasm_grammar.specs.Terminals.{terminal_of}
 use Rattle.ilasm_grammar.specs.Parsing.{terminals_of, IsOutcome, IsTreeOf, IsSyntaxFaultAt, position_of, rule_at}
 use Rattle.ilasm_grammar.proofs.CourseLemmas.{no_sentence, one_fault}
 use Rattle.ilasm_grammar.proofs.IlasmFacts.{ilasm_tree, ilasm_one_tree, ilasm_raw_nodes}
+use Rattle.ilasm_grammar.proofs.LeftmostLemmas.{have_rules}
 use Rattle.ilasm_grammar.proofs.parser.parse.Goals as goal
 
 -- what the first pass answered, of the tokens
@@ -30,8 +31,12 @@ few : (tokens : List Token) (nodes : List TreeNode) → length tokens ≤ 2 ^ 24
 few tokens nodes le r =
     omega (arith, ilasm_raw_nodes (terminals_of tokens) nodes r, length-map tokens (λ (token : Token). terminal_of token.kind))
 
-pub count_nodes-requires : goal.count_nodes-requires
-count_nodes-requires c =
+pub count_nodes-requires-clause-rules : goal.count_nodes-requires-clause-rules
+count_nodes-requires-clause-rules c =
+    have_rules ilasm (whole c.args.tokens.now _ _ c.in-Whole.nodes c.as_slice.ensures c.in_ok-at.ensures c.in-Whole.is)
+
+pub count_nodes-requires-clause-few : goal.count_nodes-requires-clause-few
+count_nodes-requires-clause-few c =
     few c.args.tokens.now c.in-Whole.nodes c.requires
     (whole c.args.tokens.now _ _ c.in-Whole.nodes c.as_slice.ensures c.in_ok-at.ensures c.in-Whole.is)
 

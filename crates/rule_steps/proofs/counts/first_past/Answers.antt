@@ -1,6 +1,6 @@
-use Rattle.std.proofs.Common.{◌≡◌, ◌-◌, ◌∷◌, ap, sym, ◌∙◌, refl, subst, arith}
+use Rattle.std.proofs.Common.{◌≡◌, ◌-◌, ◌∷◌, length, ap, sym, ◌∙◌, refl, subst, arith}
 use Rattle.std.specs.Prelude.{true, false, ◌==◌, Some}
-use Rattle.rule_steps.proofs.CountLemmas.{behind, behind_first, behind_none, behind_other, behind_own}
+use Rattle.rule_steps.proofs.CountLemmas.{behind, behind_first, behind_none, behind_other, behind_own, none_past}
 use Rattle.source_reading.proofs.Stepping.{Steps, below_fits, below_is_forest, first_step, step_at_branch, step_at_end, step_into_branch, step_past_branch, step_past_leaf}
 use Rattle.rule_steps.proofs.counts.first_past.Goals as goal
 
@@ -72,3 +72,6 @@ returns c f e =
     behind_none c.args.production c.loop-node.more
     ∙ step_at_end c.forests_open.ensures now now (behind c.args.production c.args.skip) c.args.nodes.now
     c.loop-node.left.now c.in_default.ensures c.loop-node.invariant tt f e
+
+pub returns-then-nodes-skip : goal.returns-then-nodes-skip
+returns-then-nodes-skip c f e = none_past c.args.production c.args.skip f (omega (arith, ap length e))

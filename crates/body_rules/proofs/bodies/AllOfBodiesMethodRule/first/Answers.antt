@@ -6,7 +6,6 @@ use Rattle.source_reading.specs.Pieces.{ArePieces}
 use Rattle.source_reading.proofs.LeastLemmas.{least_append}
 use Rattle.body_rules.specs.AllOfBodies.{backwards_in, ends_in, far_in, twice_in, undeclared_in, variables_in}
 use Rattle.body_rules.specs.MethodFaults.{naming_in}
-use Rattle.rule_steps.proofs.LeastOfRules.{then_rule}
 use Rattle.body_rules.proofs.BodyLemmas.{in_turn}
 use Rattle.body_rules.proofs.bodies.AllOfBodiesMethodRule.first.Goals as goal
 

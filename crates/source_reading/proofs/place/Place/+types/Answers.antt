@@ -1,9 +1,11 @@
-use Rattle.std.proofs.Common.{◌≡◌, [], sym, subst, ◌∙◌, arith}
-use Rattle.std.specs.Prelude.{IfOk}
-use Rattle.ilasm_grammar.specs.declared.productions.TheConstants.{TYPE, SPEC_TYPE_NAME, SPEC_TYPE}
-use Rattle.source_model.specs.Types.{the_owner}
+use Rattle.std.proofs.Common.{◌≡◌, ◌≤◌, [], sym, subst, ◌∙◌, arith}
+use Rattle.std.specs.Prelude.{IfOk, MatchOption}
+use Rattle.type_terms.specs.declared.term.SigType.TheVariants.{Prim}
+use Rattle.ilasm_grammar.specs.declared.productions.TheConstants.{TYPE, SPEC_TYPE_NAME, SPEC_TYPE, TYPE_BASE_INT_TYPE, TYPE_BASE_VOID}
+use Rattle.source_model.specs.Types.{base_type, the_owner}
+use Rattle.source_reading.specs.BaseTypes.{made_type}
 use Rattle.source_reading.proofs.Collecting.{below_is, after_is, behind_is, is_branch}
-use Rattle.source_reading.proofs.TypeWalks.{types_start, types_take, types_go_in, types_end, type_found, no_type, type_split, wraps_start, suffix_branch, wraps_take, wraps_go_in, wraps_end, modreq_is, modopt_is, mod_is, Types, owners_start, owners_go_in, no_owner, name_is_owner, type_is_owner, empty_type, other_type}
+use Rattle.source_reading.proofs.TypeWalks.{types_start, types_take, types_go_in, types_end, type_found, word_split, no_type, type_split, wraps_start, suffix_branch, wraps_take, wraps_go_in, wraps_end, modreq_is, modopt_is, mod_is, Types, owners_start, owners_go_in, no_owner, name_is_owner, type_is_owner, empty_type, other_type}
 use Rattle.source_reading.proofs.place.Place.+types.Goals as goal
 
 -- ---- all types
@@ -55,6 +57,13 @@ pub type_of-returns : goal.type_of-returns
 type_of-returns t c s a x f e fits h =
     let r = type_split s a f c.args.nodes.now c.in-Some.x c.in-Branch.production _ c.in_ok-args.args c.in_ok-base.base c.in-Some.ensures c.in-Branch.is e fits h
     (λ g i each. c.in_ok-args.ensures s a x g i each) (λ g i head sound each. c.in_ok-base.ensures s a x g i head sound each) in
+    subst (λ w. IfOk c.suffixed-2.result (λ of. of ≡ w)) r.is (c.suffixed-2.ensures s a x r.rest r.rest-is r.each)
+
+pub type_of-returns-in-Some-word_type : goal.type_of-returns-in-Some-word_type
+type_of-returns-in-Some-word_type t c s a x f e fits h =
+    let p = c.in-Branch.production in
+    let r = word_split s a f c.args.nodes.now c.in-Some.x p _ (Prim c.in-Some-word_type.prim) c.in-Some.ensures c.in-Branch.is e h
+    (λ b args. subst (λ o. MatchOption o ((base_type s a p b args ≡ made_type s a p b args) × (TYPE_BASE_VOID ≤ p → TYPE_BASE_INT_TYPE ≤ p)) (λ prim. base_type s a p b args ≡ Prim prim)) c.in-Some-word_type.is (c.word_type.ensures s a b args)) in
     subst (λ w. IfOk c.suffixed.result (λ of. of ≡ w)) r.is (c.suffixed.ensures s a x r.rest r.rest-is r.each)
 
 pub type_of-types_in-requires : goal.type_of-types_in-requires
@@ -66,6 +75,10 @@ type_of-base_type-requires t c = below_is c.args.nodes.now c.in-Some.x c.in-Bran
 
 pub type_of-suffixed-requires : goal.type_of-suffixed-requires
 type_of-suffixed-requires t c =
+    (omega (arith, c.in-Some.ensures.later), after_is c.args.nodes.now c.in-Some.x c.in-Branch.production _ c.in-Some.ensures c.in-Branch.is c.requires)
+
+pub type_of-suffixed-requires-2 : goal.type_of-suffixed-requires-2
+type_of-suffixed-requires-2 t c =
     (omega (arith, c.in-Some.ensures.later), after_is c.args.nodes.now c.in-Some.x c.in-Branch.production _ c.in-Some.ensures c.in-Branch.is c.requires)
 
 -- ---- suffixes
