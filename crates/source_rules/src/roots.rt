@@ -10,6 +10,7 @@ ghost use Rattle.source_model.specs.Names.{externs};
 ghost use Rattle.source_model.specs.Nodes.{Node, class_token};
 ghost use Rattle.source_model.specs.Source.{Source};
 ghost use Rattle.source_model.specs.Undeclared.{objects_undeclared};
+ghost use Rattle.source_model.specs.Values.{name_text};
 ghost use Rattle.source_reading.specs.Least.{least};
 ghost use Rattle.source_reading.specs.Readers.{IsOf, Reads};
 ghost use Rattle.source_reading.specs.Walk.{IsForest};
@@ -68,8 +69,8 @@ fn has_core(alloc: Global, reader: &Reader) -> Result<bool, NoMemory>
     let mut left = reader.nodes;
     while let Some(x) = open(left) {
         if is_of(x.node, ASSEMBLY_EXTERN) {
-            let name = reader.name_text(alloc, leaf_at(x.below, 1))?;
-            if is_core_name(name.as_bytes()) {
+            let core = has_core_name(alloc, reader, leaf_at(x.below, 1))?;
+            if core {
                 return Ok(true);
             }
             left = x.after;
@@ -78,6 +79,14 @@ fn has_core(alloc: Global, reader: &Reader) -> Result<bool, NoMemory>
         }
     }
     Ok(false)
+}
+
+// Whether a token is a core name.
+fn has_core_name(alloc: Global, reader: &Reader, token: u32) -> Result<bool, NoMemory>
+    ensures { (s : Source) → Reads reader.now s → IsOf s kind.Name token → IfOk result (λ b. b ≡ list_any (bytes_eq (name_text s token)) core_names) }
+{
+    let name = reader.name_text(alloc, token)?;
+    Ok(is_core_name(name.as_bytes()))
 }
 
 fn is_core_name(name: &[u8]) -> bool

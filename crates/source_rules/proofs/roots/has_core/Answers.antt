@@ -21,13 +21,13 @@ leaf_at-requires c =
     let b = is_branch ASSEMBLY_EXTERN c.in-Some.x.node (sym c.is_of.ensures ∙ c.if-is_of.true) in
     below_is c.loop-x.left.now c.in-Some.x ASSEMBLY_EXTERN b.0 c.in-Some.ensures b.1 c.loop-x.invariant.forest
 
-pub returns-then-is_core_name : goal.returns-then-is_core_name
-returns-then-is_core_name c s r =
+pub returns-then-core : goal.returns-then-core
+returns-then-core c s r =
     let b = is_branch ASSEMBLY_EXTERN c.in-Some.x.node (sym c.is_of.ensures ∙ c.if-is_of.true) in
     let m = core_first s c.loop-x.left.now c.in-Some.x c.in-Some.ensures (c.loop-x.invariant.so_far s r) b.0 b.1 in
     let at = c.leaf_at.ensures m.inner m.inner-is in
-    let text = c.in_ok-name.ensures s r (subst (IsOf s kind.Name) (sym at) (extern_is_name s m.inner m.fits)) in
-    m.found (ap (λ x. list_any (bytes_eq x) core_names) (sym (c.as_bytes.ensures ∙ text ∙ ap (name_text s) at)) ∙ sym c.is_core_name.ensures ∙ c.if-is_core_name.true)
+    let core = c.in_ok-core.ensures s r (subst (IsOf s kind.Name) (sym at) (extern_is_name s m.inner m.fits)) in
+    m.found (ap (λ t. list_any (bytes_eq (name_text s t)) core_names) (sym at) ∙ sym core ∙ c.if-core.true)
 
 pub loop-x-preserved-then-is_of : goal.loop-x-preserved-then-is_of
 loop-x-preserved-then-is_of c =
@@ -37,8 +37,8 @@ loop-x-preserved-then-is_of c =
       so_far = λ s r.
           let m = core_first s c.loop-x.left.now c.in-Some.x c.in-Some.ensures (c.loop-x.invariant.so_far s r) b.0 b.1 in
           let at = c.leaf_at.ensures m.inner m.inner-is in
-          let text = c.in_ok-name.ensures s r (subst (IsOf s kind.Name) (sym at) (extern_is_name s m.inner m.fits)) in
-          m.next (ap (λ x. list_any (bytes_eq x) core_names) (sym (c.as_bytes.ensures ∙ text ∙ ap (name_text s) at)) ∙ sym c.is_core_name.ensures ∙ c.if-is_core_name.false);
+          let core = c.in_ok-core.ensures s r (subst (IsOf s kind.Name) (sym at) (extern_is_name s m.inner m.fits)) in
+          m.next (ap (λ t. list_any (bytes_eq (name_text s t)) core_names) (sym at) ∙ sym core ∙ c.if-core.false);
     }
 
 pub loop-x-preserved : goal.loop-x-preserved
