@@ -17,7 +17,7 @@ pub mod NotedLemmas
 pub mod OperandLemmas
 pub mod PathLemmas
 pub mod RowLemmas
-pub mod RowListLemmas
+pub mod RowLinkLemmas
 pub mod RowSetLemmas
 pub mod SignatureLemmas
 pub mod SizeLemmas

@@ -12,6 +12,7 @@ pub mod NameTokens
 pub mod NamesWeight
 pub mod Noted
 pub mod References
+pub mod RowLinks
 pub mod Rows
 pub mod Texts
 pub mod TypePaths

@@ -17,6 +17,7 @@ pub mod name_tokens;
 pub mod naming;
 pub mod noting;
 pub mod references;
+mod row_links;
 pub mod row_list;
 pub mod row_set;
 pub mod signatures;
