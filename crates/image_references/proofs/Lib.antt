@@ -12,6 +12,7 @@ pub mod LeavesLemmas
 pub mod LoadedLemmas
 pub mod LoadsLemmas
 pub mod MemberLemmas
+pub mod NameHashLemmas
 pub mod NameLemmas
 pub mod NotedLemmas
 pub mod OperandLemmas

@@ -8,6 +8,7 @@ pub mod Indexes
 pub mod KnownTokens
 pub mod Loaded
 pub mod Members
+pub mod NameHashes
 pub mod NameTokens
 pub mod NamesWeight
 pub mod Noted

@@ -13,6 +13,7 @@ pub mod known;
 pub mod locals;
 pub mod members;
 pub mod methods;
+pub mod name_hashes;
 pub mod name_tokens;
 pub mod naming;
 pub mod noting;
