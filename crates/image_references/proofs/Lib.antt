@@ -12,12 +12,13 @@ pub mod LeavesLemmas
 pub mod LoadedLemmas
 pub mod LoadsLemmas
 pub mod MemberLemmas
+pub mod NameHashLemmas
 pub mod NameLemmas
 pub mod NotedLemmas
 pub mod OperandLemmas
 pub mod PathLemmas
 pub mod RowLemmas
-pub mod RowListLemmas
+pub mod RowLinkLemmas
 pub mod RowSetLemmas
 pub mod SignatureLemmas
 pub mod SizeLemmas

@@ -8,10 +8,12 @@ pub mod Indexes
 pub mod KnownTokens
 pub mod Loaded
 pub mod Members
+pub mod NameHashes
 pub mod NameTokens
 pub mod NamesWeight
 pub mod Noted
 pub mod References
+pub mod RowLinks
 pub mod Rows
 pub mod Texts
 pub mod TypePaths

@@ -22,8 +22,10 @@ pub trait Term {
     fn hashed(&self) -> u64
         ensures { result ≡ hash self.now };
 
-    /// Whether it equals another.
-    fn is_same(&self, other: &Self) -> bool
+    /// Whether it equals another one with the same hash.
+    fn is_same(&self, other: &Self, hashed: u64) -> bool
+        requires this { hashed ≡ hash self.now }
+        requires that { hashed ≡ hash other.now }
         ensures { IsTrue result ↔ (self.now ≡ other.now) };
 }
 
@@ -94,7 +96,7 @@ impl<'a, T: Term> Found<'a, T> {
         let mut at = self.newest.get(hash);
         while let Some(place) = at {
             let entry = self.entries.at(place);
-            if entry.term.is_same(term) {
+            if entry.term.is_same(term, hash) {
                 return Some(entry.token);
             }
             at = entry.next;

@@ -1,9 +1,10 @@
 //! The tokens of what a tree names.
 ghost use Rattle.std.specs.Prelude.{◌≡◌, []};
 
-use crate::equality::{are_types, is_field, is_method, is_name, is_text, is_type};
+use crate::equality::{are_types, is_field, is_method, is_text, is_type};
 use crate::found::{Found, Term};
-use crate::hashing::{START, mix_field, mix_method, mix_name, mix_type, mix_types, mix_units};
+use crate::hashing::{START, mix_field, mix_method, mix_type, mix_types, mix_units};
+use crate::name_hashes::{are_same, hash_name};
 use il_base::{NoMemory, Units};
 use sig_codec::Numberer;
 use std::alloc::Global;
@@ -80,19 +81,19 @@ impl<'a> Numberer for Known<'a> {
 }
 
 impl Term for TypeName {
-    ghost use Rattle.image_references.specs.Hashing.{start, mix_name};
     ghost use Rattle.image_references.specs.KnownTokens.{names_apart};
+    ghost use Rattle.image_references.specs.NameHashes.{name_hash};
 
-    ghost hash = { mix_name start };
+    ghost hash = { name_hash };
 
     ghost stored = { names_apart };
 
     fn hashed(&self) -> u64 {
-        mix_name(START, self)
+        hash_name(self)
     }
 
-    fn is_same(&self, other: &TypeName) -> bool {
-        is_name(self, other)
+    fn is_same(&self, other: &TypeName, hashed: u64) -> bool {
+        are_same(self, other, hashed)
     }
 }
 
@@ -108,7 +109,7 @@ impl Term for SigType {
         mix_type(START, self)
     }
 
-    fn is_same(&self, other: &SigType) -> bool {
+    fn is_same(&self, other: &SigType, _hashed: u64) -> bool {
         is_type(self, other)
     }
 }
@@ -125,7 +126,7 @@ impl Term for MethodRef {
         mix_method(START, self)
     }
 
-    fn is_same(&self, other: &MethodRef) -> bool {
+    fn is_same(&self, other: &MethodRef, _hashed: u64) -> bool {
         is_method(self, other)
     }
 }
@@ -142,7 +143,7 @@ impl Term for FieldRef {
         mix_field(START, self)
     }
 
-    fn is_same(&self, other: &FieldRef) -> bool {
+    fn is_same(&self, other: &FieldRef, _hashed: u64) -> bool {
         is_field(self, other)
     }
 }
@@ -159,7 +160,7 @@ impl Term for Types {
         mix_types(START, self.as_slice())
     }
 
-    fn is_same(&self, other: &Types) -> bool {
+    fn is_same(&self, other: &Types, _hashed: u64) -> bool {
         are_types(self.as_slice(), other.as_slice())
     }
 }
@@ -176,7 +177,7 @@ impl Term for Units {
         mix_units(START, self)
     }
 
-    fn is_same(&self, other: &Units) -> bool {
+    fn is_same(&self, other: &Units, _hashed: u64) -> bool {
         is_text(self, other)
     }
 }

@@ -34,12 +34,18 @@ pub fn refer_text<'a>(refs: &mut References<'a>, text: &Text) -> Result<u32, NoM
 }
 
 /// The row that a declared type has for a member.
-fn declared_row_of(declared: &RowList, owner: u32, name: u32, signature: u32) -> Option<u32>
-    ensures found { IfSome result (IsDeclaredRow declared.now owner name signature) }
-    ensures few { IfSome result (λ row. row < 2 ^ 24) }
+fn declared_row_of(
+    declared: &mut RowList,
+    owner: u32,
+    name: u32,
+    signature: u32,
+) -> Result<Option<u32>, NoMemory>
+    ensures same { declared.new ≡ declared.old }
+    ensures found { IfOk result (λ row. IfSome row (IsDeclaredRow declared.old owner name signature)) }
+    ensures few { IfOk result (λ row. IfSome row (λ n. n < 2 ^ 24)) }
 {
     if owner / 0x0100_0000 != u32::from(TYPE_DEF) {
-        return None;
+        return Ok(None);
     }
     declared.find(Cells {
         first: owner % 0x0100_0000,
@@ -71,7 +77,7 @@ fn referred_row_of(
 
 /// The token of a member by the rows; a row of MemberRef that is lacking is added.
 pub fn member_token(
-    declared: &RowList,
+    declared: &mut RowList,
     members: &mut RowSet,
     table: u8,
     owner: u32,
@@ -79,12 +85,14 @@ pub fn member_token(
     signature: u32,
 ) -> Result<u32, NoMemory>
     requires { length members.old < 2 ^ 24 - 1 }
-    ensures token { IfOk result (IsRowToken table declared.now members.new owner name signature) }
+    ensures same { declared.new ≡ declared.old }
+    ensures token { IfOk result (IsRowToken table declared.old members.new owner name signature) }
     ensures adds { AddsOneAtMost (member_cells owner name signature) members.old members.new }
     ensures goes_on { GoesOn members.old members.new }
     ensures more { length members.new ≤ length members.old + 1 }
 {
-    if let Some(row) = declared_row_of(declared, owner, name, signature) {
+    let known = declared_row_of(declared, owner, name, signature)?;
+    if let Some(row) = known {
         return Ok(token_of(table, row));
     }
     let row = referred_row_of(members, owner, name, signature)?;
@@ -146,7 +154,7 @@ fn give_field<'a>(
     ensures { IfOk result (Leaves (HasField field.now) refs.old refs.new 12) }
 {
     let token = member_token(
-        &refs.declared.fields,
+        &mut refs.declared.fields,
         &mut refs.referred.members,
         FIELD,
         owner,

@@ -71,7 +71,7 @@ fn row_token<'a>(
     ensures { IfOk result (Leaves (λ r. HasGenericToken r _method.now) refs.old refs.new 12) }
 {
     member_token(
-        &refs.declared.methods,
+        &mut refs.declared.methods,
         &mut refs.referred.members,
         METHOD_DEF,
         owner,

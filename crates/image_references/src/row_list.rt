@@ -1,32 +1,30 @@
 //! Rows in the order in which they came, found again by their cells.
 ghost use Rattle.std.specs.Prelude.{◌≡◌, ◌-◌, ◌^◌, ◌<◌, ◌++◌, ◌∷◌, [], length, slice_get, Some, IfSome, IfNone, IfOk, OnOk, OnErr};
 
-use crate::row_set::{Cells, Linked, hash_of};
-use hash_places::HashPlaces;
+use crate::row_links::Links;
+use crate::row_set::Cells;
 use il_base::{Items, NoMemory};
 use std::alloc::Global;
 use std::marker::Model;
 
-/// The rows of one table, numbered from 1; some may have the same cells. Contracts see the list of them.
+/// The rows of one table, numbered from 1; some may have the same cells. They are linked by their hashes where a row is sought, and
+/// not before. Contracts see the list of them.
 #[derive(Drop)]
 pub struct RowList {
-    // From a hash to the place of the newest row with it.
-    newest: HashPlaces,
-    rows: Items<Linked>,
+    rows: Items<Cells>,
+    links: Links,
 }
 
 impl Model for RowList {
-    ghost use Rattle.std.specs.Prelude.{List, ◌<◌, ◌^◌, length, map};
-    ghost use Rattle.hash_places.specs.Slots.{place_of};
-    ghost use Rattle.image_references.specs.Chains.{IsLinked};
+    ghost use Rattle.std.specs.Prelude.{List, ◌<◌, ◌^◌, length};
+    ghost use Rattle.image_references.specs.RowLinks.{AreLinked};
     ghost use Rattle.image_references.specs.declared.row_set.Cells.{Cells};
-    ghost use Rattle.image_references.specs.Rows.{cells_hash};
 
     ghost Value = { List Cells };
 
-    ghost view = { λ r. map (λ e. e.cells) r.rows };
+    ghost view = { λ r. r.rows };
 
-    ghost invariant = { λ r. (length r.rows < 2 ^ 24) × IsLinked cells_hash (place_of r.newest) (map (λ e. e.cells) r.rows) (map (λ e. e.next) r.rows) };
+    ghost invariant = { λ r. (length r.rows < 2 ^ 24) × AreLinked r.rows r.links };
 }
 
 impl RowList {
@@ -37,8 +35,8 @@ impl RowList {
         ensures { result ≡ [] }
     {
         RowList {
-            newest: HashPlaces::new(alloc),
             rows: Items::new(alloc),
+            links: Links::new(alloc),
         }
     }
 
@@ -46,9 +44,11 @@ impl RowList {
     pub fn with_room(alloc: Global, count: usize) -> Result<RowList, NoMemory>
         ensures { IfOk result (λ rows. rows ≡ []) }
     {
-        let newest = HashPlaces::with_room(alloc, count)?;
         let rows = Items::with_capacity(alloc, count)?;
-        Ok(RowList { newest, rows })
+        Ok(RowList {
+            rows,
+            links: Links::new(alloc),
+        })
     }
 
     /// The number of rows.
@@ -64,24 +64,18 @@ impl RowList {
         requires { k < length self.now }
         ensures { slice_get self.now k ≡ Some result }
     {
-        self.rows.at(k).cells
+        *self.rows.at(k)
     }
 
-    /// The number of a row with these cells. Takes no memory.
-    pub fn find(&self, cells: Cells) -> Option<u32>
-        ensures found { IfSome result (IsRowAt self.now cells) }
-        ensures none { IfNone result (Lacks self.now cells) }
-        ensures few { IfSome result (λ row. row < 2 ^ 24) }
+    /// The number of a row with these cells. Takes memory only where rows have been added since one was sought.
+    pub fn find(&mut self, cells: Cells) -> Result<Option<u32>, NoMemory>
+        ensures same { self.new ≡ self.old }
+        ensures found { IfOk result (λ row. IfSome row (IsRowAt self.old cells)) }
+        ensures none { IfOk result (λ row. IfNone row (Lacks self.old cells)) }
+        ensures few { IfOk result (λ row. IfSome row (λ n. n < 2 ^ 24)) }
     {
-        let mut at = self.newest.get(hash_of(cells));
-        while let Some(place) = at {
-            let row = self.rows.at(place);
-            if row.cells == cells {
-                return Some(place as u32 + 1);
-            }
-            at = row.next;
-        }
-        None
+        self.links.link_all(self.rows.as_slice())?;
+        Ok(self.links.find(self.rows.as_slice(), cells))
     }
 
     /// Adds a row at the end, and answers its number.
@@ -91,16 +85,7 @@ impl RowList {
         ensures number { IfOk result (λ row. row ≡ length self.new) }
         ensures err { OnErr result (self.new ≡ self.old) }
     {
-        let hash = hash_of(cells);
-        let next = self.newest.get(hash);
-        let place = self.rows.as_slice().len();
-        self.rows.push(Linked { cells, next })?;
-        match self.newest.insert(hash, place) {
-            Ok(_) => Ok(place as u32 + 1),
-            Err(_) => {
-                self.rows.truncate(place);
-                Err(NoMemory)
-            }
-        }
+        self.rows.push(cells)?;
+        Ok(self.rows.len() as u32)
     }
 }

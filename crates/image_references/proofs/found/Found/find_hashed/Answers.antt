@@ -6,6 +6,12 @@ use Rattle.image_references.proofs.ChainLemmas.{ahead_of-smaller, smaller_next, 
 use Rattle.image_references.proofs.FoundLemmas.{at_map, found_in, missing_in}
 use Rattle.image_references.proofs.found.Found.find_hashed.Goals as goal
 
+pub is_same-requires-clause-this : goal.is_same-requires-clause-this
+is_same-requires-clause-this g c =
+    let at = at_map (λ (x : Entry g.row.T.Denot). x.term.now) c.self.inside.entries c.in-Some.place c.at-entry.result.now c.at-entry.ensures in
+    let h = c.loop-at.invariant.hashed c.in-Some.place c.in-Some.is in
+    c.requires ∙ sym (ap g.T.Term.hash (same_Some c.at-entry.result.now.term.now h.0 (sym at ∙ h.1)) ∙ h.2)
+
 pub returns-then-is_same : goal.returns-then-is_same
 returns-then-is_same g c =
     rw (← c.self.view_is) (sym (found_in (λ (e : Entry g.row.T.Denot). e.term.now) (λ e. e.token) g.T.Term.stored
