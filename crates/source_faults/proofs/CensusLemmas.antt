@@ -152,24 +152,44 @@ counting_end nodes c end = (
   or_nothing c.long_types ∙ end.long,
 )
 
-front_four : (left : List TreeNode) (d : TreeNode) → 4 ≤ length left
-    → left ≡ get_or left 0 d ∷ get_or left 1 d ∷ get_or left 2 d ∷ get_or left 3 d ∷ take (length left - 4) (drop 4 left)
-front_four [] d long = absurd (omega (arith, long))
-front_four (a ∷ []) d long = absurd (omega (arith, long))
-front_four (a ∷ b ∷ []) d long = absurd (omega (arith, long))
-front_four (a ∷ b ∷ c ∷ []) d long = absurd (omega (arith, long))
-front_four (a ∷ b ∷ c ∷ e ∷ rest) d long =
-    let all : length rest ≤ length (a ∷ b ∷ c ∷ e ∷ rest) - 4 = omega arith in
-    ap (λ ns. a ∷ b ∷ c ∷ e ∷ ns) (sym (take_all (length (a ∷ b ∷ c ∷ e ∷ rest) - 4) rest all))
+front_eight : (left : List TreeNode) (z : TreeNode) → 8 ≤ length left
+    → left ≡ get_or left 0 z ∷ get_or left 1 z ∷ get_or left 2 z ∷ get_or left 3 z
+    ∷ get_or left 4 z ∷ get_or left 5 z ∷ get_or left 6 z ∷ get_or left 7 z ∷ take (length left - 8) (drop 8 left)
+front_eight [] z long = absurd (omega (arith, long))
+front_eight (a ∷ []) z long = absurd (omega (arith, long))
+front_eight (a ∷ b ∷ []) z long = absurd (omega (arith, long))
+front_eight (a ∷ b ∷ c ∷ []) z long = absurd (omega (arith, long))
+front_eight (a ∷ b ∷ c ∷ d ∷ []) z long = absurd (omega (arith, long))
+front_eight (a ∷ b ∷ c ∷ d ∷ e ∷ []) z long = absurd (omega (arith, long))
+front_eight (a ∷ b ∷ c ∷ d ∷ e ∷ f ∷ []) z long = absurd (omega (arith, long))
+front_eight (a ∷ b ∷ c ∷ d ∷ e ∷ f ∷ g ∷ []) z long = absurd (omega (arith, long))
+front_eight (a ∷ b ∷ c ∷ d ∷ e ∷ f ∷ g ∷ h ∷ rest) z long =
+    let all : length rest ≤ length (a ∷ b ∷ c ∷ d ∷ e ∷ f ∷ g ∷ h ∷ rest) - 8 = omega arith in
+    ap (λ ns. a ∷ b ∷ c ∷ d ∷ e ∷ f ∷ g ∷ h ∷ ns) (sym (take_all (length (a ∷ b ∷ c ∷ d ∷ e ∷ f ∷ g ∷ h ∷ rest) - 8) rest all))
 
--- four nodes more are counted
-pub counting_four : (nodes left : List TreeNode) (d : TreeNode) (k l m n o : Census) → 4 ≤ length left → Counting nodes left k → Notes (get_or left 0 d) k l
-    → Notes (get_or left 1 d) l m → Notes (get_or left 2 d) m n → Notes (get_or left 3 d) n o → Counting nodes (take (length left - 4) (drop 4 left)) o
-counting_four nodes left d k l m n o long c first second third fourth =
-    let rest = take (length left - 4) (drop 4 left) in
-    let begun : Counting nodes (get_or left 0 d ∷ get_or left 1 d ∷ get_or left 2 d ∷ get_or left 3 d ∷ rest) k =
-    subst (λ ns. Counting nodes ns k) (front_four left d long) c in
-    counting_more nodes rest _ n o
-    (counting_more nodes (get_or left 3 d ∷ rest) _ m n
-    (counting_more nodes (get_or left 2 d ∷ get_or left 3 d ∷ rest) _ l m
-    (counting_more nodes (get_or left 1 d ∷ get_or left 2 d ∷ get_or left 3 d ∷ rest) _ k l begun first) second) third) fourth
+-- eight nodes more are counted
+module _ (nodes left : List TreeNode) (z : TreeNode) where
+  abbrev nth : ℕ → TreeNode
+  nth k = get_or left k z
+
+  -- those that are left behind so many of them
+  abbrev last : List TreeNode
+  last = take (length left - 8) (drop 8 left)
+
+  pub counting_four : (s0 s1 s2 s3 s4 : Census) → 8 ≤ length left → Counting nodes left s0
+      → Notes (nth 0) s0 s1 → Notes (nth 1) s1 s2 → Notes (nth 2) s2 s3 → Notes (nth 3) s3 s4
+      → Counting nodes (nth 4 ∷ nth 5 ∷ nth 6 ∷ nth 7 ∷ last) s4
+  counting_four s0 s1 s2 s3 s4 long c n0 n1 n2 n3 =
+      counting_more nodes (nth 4 ∷ nth 5 ∷ nth 6 ∷ nth 7 ∷ last) (nth 3) s3 s4
+      (counting_more nodes (nth 3 ∷ nth 4 ∷ nth 5 ∷ nth 6 ∷ nth 7 ∷ last) (nth 2) s2 s3
+      (counting_more nodes (nth 2 ∷ nth 3 ∷ nth 4 ∷ nth 5 ∷ nth 6 ∷ nth 7 ∷ last) (nth 1) s1 s2
+      (counting_more nodes (nth 1 ∷ nth 2 ∷ nth 3 ∷ nth 4 ∷ nth 5 ∷ nth 6 ∷ nth 7 ∷ last) (nth 0) s0 s1
+      (subst (λ ns. Counting nodes ns s0) (front_eight left z long) c) n0) n1) n2) n3
+
+  pub counting_others : (s4 s5 s6 s7 s8 : Census) → Counting nodes (nth 4 ∷ nth 5 ∷ nth 6 ∷ nth 7 ∷ last) s4
+      → Notes (nth 4) s4 s5 → Notes (nth 5) s5 s6 → Notes (nth 6) s6 s7 → Notes (nth 7) s7 s8 → Counting nodes last s8
+  counting_others s4 s5 s6 s7 s8 c n4 n5 n6 n7 =
+      counting_more nodes last (nth 7) s7 s8
+      (counting_more nodes (nth 7 ∷ last) (nth 6) s6 s7
+      (counting_more nodes (nth 6 ∷ nth 7 ∷ last) (nth 5) s5 s6
+      (counting_more nodes (nth 5 ∷ nth 6 ∷ nth 7 ∷ last) (nth 4) s4 s5 c n4) n5) n6) n7

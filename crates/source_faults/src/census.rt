@@ -40,11 +40,15 @@ pub fn census_of(nodes: &[TreeNode]) -> Census
         long_types: false,
     };
     let mut left = nodes;
-    while let [first, second, third, fourth, rest @ ..] = left {
-        census.note(*first);
-        census.note(*second);
-        census.note(*third);
-        census.note(*fourth);
+    while let [a, b, c, d, e, f, g, h, rest @ ..] = left {
+        census.note(*a);
+        census.note(*b);
+        census.note(*c);
+        census.note(*d);
+        census.note(*e);
+        census.note(*f);
+        census.note(*g);
+        census.note(*h);
         left = rest;
     }
     while let [node, rest @ ..] = left {
