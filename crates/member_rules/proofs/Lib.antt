@@ -4,6 +4,7 @@ pub mod AccessorWalks
 pub mod BrokenLemmas
 pub mod KeepLemmas
 pub mod LoneLemmas
+pub mod MemberClassless
 pub mod MemberLemmas
 pub mod MemberParts
 pub mod MemberWalks

@@ -1,20 +1,23 @@
 -- Members of which no two are of one kind.
-use Rattle.std.proofs.Common.{◌≡◌, ℕ, suc, ◌+◌, ◌≤◌, List, [], ◌∷◌, ◌++◌, Option, None, Some, length, refl, ap, sym, ◌∙◌, arith}
+use Rattle.std.proofs.Common.{◌≡◌, ℕ, suc, ◌+◌, ◌≤◌, List, [], ◌∷◌, ◌++◌, Option, None, Some, length, take, drop, refl, ap, sym, ◌∙◌, arith}
+use Rattle.std.proofs.lemmas.List.{take-append-drop}
+use Rattle.std.specs.Cmp.{IsTotalOrder}
 use Rattle.std.specs.Prelude.{Bool, true, false, ◌&&◌, ◌||◌, if◌then◌else◌}
+use Rattle.type_terms.specs.Order.{term_order}
 use Rattle.ilasm_grammar.specs.declared.tree.TreeNode.{TreeNode}
 use Rattle.ilasm_grammar.specs.declared.tree.TreeNode.TheVariants.{Branch, Leaf}
+use Rattle.source_model.specs.DeclaredTwice.{members_twice_in}
 use Rattle.source_model.specs.Forest as tree
 use Rattle.source_model.specs.Forest.{Forest, Part, part, is_among, joined, parts, preorder}
-use Rattle.source_model.specs.Laws.{ForestsJoin}
+use Rattle.source_model.specs.Laws.{ForestOpens, ForestsJoin}
 use Rattle.source_model.specs.Nodes.{Around}
 use Rattle.source_model.specs.Source.{Source}
 use Rattle.source_reading.specs.Least.{least}
-use Rattle.source_reading.specs.Walk.{Opens}
-use Rattle.source_reading.specs.declared.walk.Opened.{Opened}
 use Rattle.source_reading.proofs.Collecting.{no_forest}
 use Rattle.member_rules.proofs.MemberWalks.{forests_other, forests_own}
+use Rattle.member_rules.proofs.TwiceLemmas.{twice_is}
 use Rattle.member_rules.specs.LoneMembers.{is_met}
-use Rattle.member_rules.specs.MemberKinds.{again_after, again_in, again_with, declarers, forests_of, is_chosen, parts_at, places, token_of, unbroken_member, with_member}
+use Rattle.member_rules.specs.MemberKinds.{again_after, again_in, again_with, declarers, forests_of, parts_at, places, token_of, unbroken_member, with_member}
 use Rattle.member_rules.specs.declared.lone_members.Kinds.{Kinds}
 use Rattle.member_rules.specs.declared.member_kinds.Kind.{Kind}
 use Rattle.member_rules.specs.declared.member_kinds.Kind.TheVariants.{Field, Method, Property, Event}
@@ -66,55 +69,48 @@ module _ (level : Level) where
         go true n e = omega (arith, e)
         go false n e = omega (arith, e)
 
-    module _ (left : List TreeNode) (met : Kinds) (x : Opened) (o : Opens left x) (l : LeftLone f left met) where
-      pub lone_in : ForestsJoin → is_chosen (places level) x.node ≡ false → LeftLone f x.behind.now met
-      lone_in joins other = go x.node refl
-        where
-          go : (node : TreeNode) → x.node ≡ node → LeftLone f x.behind.now met
-          go (Leaf token) is =
-              let b = o.leaf l.rest token l.is is in
-              record {
-                rest = b.after;
-                is = b.rest;
-                counts = λ kind. l.counts kind ∙ ap (λ (g : Forest). one_if (is_met met kind) + length (forests_of kind (parts_at level g))) b.is;
-              }
-          go (Branch p count) is =
-              let b = o.branch l.rest p count l.is is in
-              let plain : is_among (places level) p ≡ false = ap (is_chosen (places level)) (sym is) ∙ other in
-              let same : parts_at level (joined b.inner b.rest) ≡ parts_at level (tree.branch p b.inner b.rest) =
-              joins.parts [] (places level) b.inner b.rest
-              ∙ sym (ap (λ (c : Bool). (if c then part p b.inner ∷ [] else parts (places level) b.inner) ++ parts (places level) b.rest) plain) in
-              record {
-                rest = joined b.inner b.rest;
-                is = b.behind-is;
-                counts = λ kind.
-                    l.counts kind ∙ ap (λ (g : Forest). one_if (is_met met kind) + length (forests_of kind (parts_at level g))) b.is
-                    ∙ ap (λ ps. one_if (is_met met kind) + length (forests_of kind ps)) (sym same);
-              }
+    module _ (opens : ForestOpens) (left rest : List TreeNode) (met : Kinds) (l : LeftLone f left met) where
+      pub lone_leaf : (token : ℕ) → left ≡ Leaf token ∷ rest → LeftLone f rest met
+      lone_leaf token e =
+          let b = opens.leaf l.rest token rest (l.is ∙ e) in
+          record {
+            rest = b.after;
+            is = b.rest;
+            counts = λ kind. l.counts kind ∙ ap (λ (g : Forest). one_if (is_met met kind) + length (forests_of kind (parts_at level g))) b.is;
+          }
 
-      pub lone_past : (here more : Kinds) → is_chosen (places level) x.node ≡ true → ((kind : Kind) → is_met here kind ≡ is_chosen (declarers kind) x.node)
-          → ((kind : Kind) → (is_met met kind && is_met here kind) ≡ false) → ((kind : Kind) → is_met more kind ≡ (is_met met kind || is_met here kind))
-          → LeftLone f x.after.now more
-      lone_past here more place own apart all = go x.node refl
-        where
-          go : (node : TreeNode) → x.node ≡ node → LeftLone f x.after.now more
-          go (Leaf token) is = let no : false ≡ true = ap (is_chosen (places level)) (sym is) ∙ place in absurd cc
-          go (Branch p count) is =
-              let b = o.branch l.rest p count l.is is in
-              let known : is_among (places level) p ≡ true = ap (is_chosen (places level)) (sym is) ∙ place in
-              let first : parts_at level (tree.branch p b.inner b.rest) ≡ part p b.inner ∷ parts_at level b.rest =
-              ap (λ (c : Bool). (if c then part p b.inner ∷ [] else parts (places level) b.inner) ++ parts (places level) b.rest) known in
-              record {
-                rest = b.rest;
-                is = b.rest-is;
-                counts = λ kind.
-                    let declared : is_among (declarers kind) p ≡ is_met here kind = ap (is_chosen (declarers kind)) (sym is) ∙ sym (own kind) in
-                    l.counts kind ∙ ap (λ (g : Forest). one_if (is_met met kind) + length (forests_of kind (parts_at level g))) b.is
-                    ∙ ap (λ ps. one_if (is_met met kind) + length (forests_of kind ps)) first
-                    ∙ ap (λ n. one_if (is_met met kind) + n) (first_counts kind p b.inner (parts_at level b.rest) (is_met here kind) declared)
-                    ∙ joined_counts (is_met met kind) (is_met here kind) (length (forests_of kind (parts_at level b.rest))) (apart kind)
-                    ∙ ap (λ c. one_if c + length (forests_of kind (parts_at level b.rest))) (sym (all kind));
-              }
+      module _ (p count : ℕ) (e : left ≡ Branch p count ∷ rest) where
+        pub lone_in : ForestsJoin → is_among (places level) p ≡ false → LeftLone f rest met
+        lone_in joins other =
+            let b = opens.branch l.rest p count rest (l.is ∙ e) in
+            let same : parts_at level (joined b.below b.after) ≡ parts_at level (tree.branch p b.below b.after) =
+            joins.parts [] (places level) b.below b.after
+            ∙ sym (ap (λ (c : Bool). (if c then part p b.below ∷ [] else parts (places level) b.below) ++ parts (places level) b.after) other) in
+            record {
+              rest = joined b.below b.after;
+              is = joins.nodes b.below b.after ∙ ap (λ ns. ns ++ preorder b.after) b.inner ∙ ap (λ ns. take count rest ++ ns) b.rest ∙ take-append-drop count rest;
+              counts = λ kind.
+                  l.counts kind ∙ ap (λ (g : Forest). one_if (is_met met kind) + length (forests_of kind (parts_at level g))) b.is
+                  ∙ ap (λ ps. one_if (is_met met kind) + length (forests_of kind ps)) (sym same);
+            }
+
+        pub lone_past : (here more : Kinds) → is_among (places level) p ≡ true → ((kind : Kind) → is_met here kind ≡ is_among (declarers kind) p)
+            → ((kind : Kind) → (is_met met kind && is_met here kind) ≡ false) → ((kind : Kind) → is_met more kind ≡ (is_met met kind || is_met here kind))
+            → LeftLone f (drop count rest) more
+        lone_past here more place own apart all =
+            let b = opens.branch l.rest p count rest (l.is ∙ e) in
+            let first : parts_at level (tree.branch p b.below b.after) ≡ part p b.below ∷ parts_at level b.after =
+            ap (λ (c : Bool). (if c then part p b.below ∷ [] else parts (places level) b.below) ++ parts (places level) b.after) place in
+            record {
+              rest = b.after;
+              is = b.rest;
+              counts = λ kind.
+                  l.counts kind ∙ ap (λ (g : Forest). one_if (is_met met kind) + length (forests_of kind (parts_at level g))) b.is
+                  ∙ ap (λ ps. one_if (is_met met kind) + length (forests_of kind ps)) first
+                  ∙ ap (λ n. one_if (is_met met kind) + n) (first_counts kind p b.below (parts_at level b.after) (is_met here kind) (sym (own kind)))
+                  ∙ joined_counts (is_met met kind) (is_met here kind) (length (forests_of kind (parts_at level b.after))) (apart kind)
+                  ∙ ap (λ c. one_if c + length (forests_of kind (parts_at level b.after))) (sym (all kind));
+            }
 
 -- ---- one alone is the same as none before it
 
@@ -130,3 +126,10 @@ module _ (s : Source) (a : Around) (kind : Kind) where
 
   pub none_again : (ps : List Part) → length (forests_of kind ps) ≤ 1 → None ≡ least (again_in s a kind ps)
   none_again ps few = ap least (sym (lone_again (forests_of kind ps) few))
+
+-- nor is one of several kinds
+module _ (s : Source) (a : Around) (ps : List Part) where
+  pub none_twice : IsTotalOrder term_order → ((kind : Kind) → length (forests_of kind ps) ≤ 1) → None ≡ least (members_twice_in s a ps)
+  none_twice total few =
+      twice_is s a ps total None None None None (none_again s a Field ps (few Field)) (none_again s a Method ps (few Method))
+      (none_again s a Property ps (few Property)) (none_again s a Event ps (few Event))

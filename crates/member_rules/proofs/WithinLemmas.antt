@@ -1,14 +1,15 @@
 -- What is declared twice in the classes of a forest, class by class.
 use Rattle.std.proofs.Common.{◌≡◌, ℕ, ◌+◌, List, [], ◌∷◌, ◌++◌, Option, None, Some, length, take, drop, refl, ap, sym, subst, ◌∙◌, append_assoc, length-append}
 use Rattle.std.specs.Prelude.{Bool, true, false, ◌==◌, if◌then◌else◌, min}
+use Rattle.std.proofs.lemmas.Bool.Decides.{Decides-eqb}
 use Rattle.std.proofs.lemmas.List.{take-append-drop}
 use Rattle.type_terms.specs.declared.name.TypeId.{TypeId}
-use Rattle.ilasm_grammar.specs.declared.productions.TheConstants.{CLASS, METHOD}
+use Rattle.ilasm_grammar.specs.declared.productions.TheConstants.{CLASS, MEMBER_CLASS, METHOD}
 use Rattle.ilasm_grammar.specs.declared.tree.TreeNode.{TreeNode}
 use Rattle.ilasm_grammar.specs.declared.tree.TreeNode.TheVariants.{Branch, Leaf}
 use Rattle.source_model.specs.DeclaredTwice.{members_twice_in}
 use Rattle.source_model.specs.Forest as tree
-use Rattle.source_model.specs.Forest.{Forest, joined, preorder}
+use Rattle.source_model.specs.Forest.{Forest, is_among, joined, preorder}
 use Rattle.source_model.specs.Items.{members}
 use Rattle.source_model.specs.Laws.{ForestOpens, ForestsJoin}
 use Rattle.source_model.specs.Source.{Source}
@@ -18,11 +19,23 @@ use Rattle.source_reading.proofs.Collecting.{no_forest, of_joined}
 use Rattle.source_reading.proofs.LeastLemmas.{least_append, sooner_assoc}
 use Rattle.source_rules.specs.DeclaredClasses.{inner_path}
 use Rattle.source_rules.proofs.Classless.{Classless, method_classless}
-use Rattle.member_rules.specs.MemberKinds.{class_around, twice_within}
+use Rattle.member_rules.specs.MemberKinds.{class_around, places, twice_within}
+use Rattle.member_rules.specs.declared.member_kinds.Level.TheVariants as level
+use Rattle.member_rules.proofs.MemberClassless.{member_classless}
 
 pub inner_deeper : (s : Source) (path : List TypeId) (b : Forest) (depth inner : ℕ) → ((n : ℕ) → depth ≡ min n 101 → inner ≡ min (n + 1) 101) → depth ≡ min (length path) 101
     → inner ≡ min (length (inner_path s path b)) 101
 inner_deeper s path b depth inner one_more e = one_more (length path) e ∙ ap (λ n. min n 101) (sym (length-append path _))
+
+not_class : (p : ℕ) → is_among (places level.Class) p ≡ true → (p == CLASS) ≡ false
+not_class p place = go (p == CLASS) refl
+  where
+    go : (c : Bool) → (p == CLASS) ≡ c → c ≡ false
+    go false e = refl
+    go true e =
+        let same : p ≡ CLASS = (Decides-eqb p CLASS).0 e in
+        let bad : is_among (places level.Class) CLASS ≡ true = ap (is_among (places level.Class)) (sym same) ∙ place in
+        absurd cc
 
 module _ (s : Source) (path : List TypeId) where
   within_joined : (f g : Forest) → twice_within s path (joined f g) ≡ twice_within s path f ++ twice_within s path g
@@ -92,16 +105,22 @@ module _ (s : Source) (path : List TypeId) where
                 ∙ ap (λ (g : Forest). sooner found (least (twice_within s path g))) (sym b.is) ∙ w.same;
           }
 
-      pub walked_method : p ≡ METHOD → Walked f (drop count rest) found
-      walked_method method =
+      -- past what has no class below it
+      pub walked_past : (p == CLASS) ≡ false → ((b : Forest) → FitsBody s p b → HasBodies s b → Classless b) → Walked f (drop count rest) found
+      walked_past other classless =
           let b = opens.branch w.rest p count rest (w.is ∙ e) in
           let h = subst (HasBodies s) b.is w.bodies in
-          let other : (p == CLASS) ≡ false = ap (λ q. q == CLASS) method in
-          let nothing : twice_within s path b.below ≡ [] = within_none b.below (method_classless s p b.below method h.0 h.1) in
+          let nothing : twice_within s path b.below ≡ [] = within_none b.below (classless b.below h.0 h.1) in
           let same : twice_within s path b.after ≡ twice_within s path w.rest =
           ap (λ ks. ks ++ twice_within s path b.after) (sym nothing) ∙ sym (within_joined b.below b.after) ∙ sym (within_other p b.below b.after other)
           ∙ ap (twice_within s path) (sym b.is) in
           record { rest = b.after; is = b.rest; bodies = h.2; same = ap (λ ks. sooner found (least ks)) same ∙ w.same }
+
+      pub walked_method : p ≡ METHOD → Walked f (drop count rest) found
+      walked_method method = walked_past (ap (λ q. q == CLASS) method) (λ b fits h. method_classless s p b method fits h)
+
+      pub walked_member : is_among (places level.Class) p ≡ true → (p == MEMBER_CLASS) ≡ false → Walked f (drop count rest) found
+      walked_member place other = walked_past (not_class p place) (λ b fits h. member_classless s p b place other fits h)
 
       pub walked_class : (here within more : Option ℕ) → (p == CLASS) ≡ true → more ≡ sooner found (sooner here within)
           → ((b : Forest) → preorder b ≡ take count rest → HasBodies s b → (here ≡ least (members_twice_in s (class_around s path b) (members b))) × (within ≡ least (twice_within s (inner_path s path b) b)))

@@ -95,7 +95,8 @@ impl Level {
         }
     }
 
-    fn has_place(self, production: u16) -> bool
+    /// Whether a production is that of one of what stands there side by side.
+    pub fn has_place(self, production: u16) -> bool
         ensures { result ≡ is_among (places self) production }
     {
         match self {

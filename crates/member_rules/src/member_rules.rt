@@ -18,7 +18,7 @@ ghost use Rattle.member_rules.specs.MemberKinds.{again_in, class_around, parts_a
 ghost use Rattle.member_rules.specs.MemberReading.{Serves};
 ghost use Rattle.rule_steps.specs.Surroundings.{HasParameters, IsSurrounding};
 
-use crate::lone_members::has_two;
+use crate::lone_members::{are_lone, has_two};
 use crate::member_kinds::{Kind, Level};
 use crate::member_reading::Signatures;
 use crate::member_sets::{Member, Members};
@@ -83,6 +83,7 @@ impl<'a, R: Rule> Signatures<'a, R> {
         derivations_are_forests();
         forests_open();
         forests_join();
+        orders_are_total();
         let inner = deeper(depth);
         let mut left = nodes;
         let mut found = None;
@@ -94,10 +95,12 @@ impl<'a, R: Rule> Signatures<'a, R> {
                 } => {
                     let (below, after) = rest.split_at(count as usize);
                     if production == productions::CLASS {
-                        let here = self.again_in_class(alloc, reader, inner, below)?;
-                        let within = self.again_within(alloc, reader, inner, below)?;
-                        found = sooner(found, sooner(here, within));
                         left = after;
+                        if !are_lone(below) {
+                            let here = self.again_in_class(alloc, reader, inner, below)?;
+                            let within = self.again_within(alloc, reader, inner, below)?;
+                            found = sooner(found, sooner(here, within));
+                        }
                     } else if production == productions::METHOD {
                         left = after;
                     } else {

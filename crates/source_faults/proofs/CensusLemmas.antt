@@ -1,8 +1,6 @@
 -- What a source has of a production, by how many of its nodes have it.
-use Rattle.std.proofs.Common.{◌≡◌, ℕ, suc, ◌+◌, ◌<◌, ◌≤◌, List, [], ◌∷◌, ◌++◌, length, get_or, set, take, drop, cond, count_by, refl, ap, sym, subst, ◌∙◌, arith, length-append, get_or-set_same, get_or-set_other}
-use Rattle.std.proofs.lemmas.Bool.Decides.{Decides-eqb}
-use Rattle.std.proofs.lemmas.List.Folds.{list_any_more}
-use Rattle.std.proofs.lemmas.List.Sums.{count_by_more_no, count_by_more_yes, sum_by-append, sum_by-cons}
+use Rattle.std.proofs.Common.{◌≡◌, ℕ, zero, suc, ◌+◌, ◌-◌, ◌≤◌, List, [], ◌∷◌, ◌++◌, length, get_or, take, drop, replicate, cond, count_by, refl, ap, sym, subst, ◌∙◌, arith, length-append, take_all}
+use Rattle.std.proofs.lemmas.List.Sums.{sum_by-append, sum_by-cons}
 use Rattle.std.specs.Prelude.{Bool, true, false, ◌==◌, ◌||◌, if◌then◌else◌}
 use Rattle.std.specs.List.{list_any}
 use Rattle.ilasm_grammar.specs.declared.productions.TheConstants.{EVENT, PROPERTY}
@@ -11,7 +9,8 @@ use Rattle.ilasm_grammar.specs.declared.tree.TreeNode.TheVariants.{Branch, Leaf}
 use Rattle.source_model.specs.Forest as tree
 use Rattle.source_model.specs.Forest.{Forest, Part, below_each, each, has, is_any_part, part, parts, preorder}
 use Rattle.source_reading.specs.Walk.{is_of}
-use Rattle.source_faults.specs.Census.{is_long}
+use Rattle.source_faults.specs.Census.{is_asked, is_long, one_of}
+use Rattle.source_faults.specs.declared.census.Census.{Census}
 use Rattle.member_rules.specs.OwnMethods.{is_owner}
 
 abbrev pub count_of : ℕ → List TreeNode → ℕ
@@ -20,8 +19,8 @@ count_of p nodes = count_by (is_of p) nodes
 abbrev pub one_if : Bool → ℕ
 one_if b = cond b 1 0
 
-pub count_first : (p : ℕ) (node : TreeNode) (nodes : List TreeNode) → count_of p (node ∷ nodes) ≡ one_if (is_of p node) + count_of p nodes
-count_first p node nodes = sum_by-cons (λ (x : TreeNode). one_if (is_of p x)) node nodes
+pub count_first : (p : ℕ) (node : TreeNode) (nodes : List TreeNode) → count_of p (node ∷ nodes) ≡ one_of p node + count_of p nodes
+count_first p node nodes = sum_by-cons (one_of p) node nodes
 
 pub count_branch : (p q : ℕ) (b a : Forest) → count_of p (preorder (tree.branch q b a)) ≡ one_if (p == q) + (count_of p (preorder b) + count_of p (preorder a))
 count_branch p q b a =
@@ -102,55 +101,95 @@ no_owners (Branch q n ∷ nodes) e h = go (PROPERTY == q) refl (EVENT == q) refl
 
 -- ---- counting
 
-abbrev pub CountedTo : List TreeNode → ℕ → List ℕ → Type 0
-CountedTo nodes i counts = (p : ℕ) → p < 704 → get_or counts p 0 ≡ count_of p (take i nodes)
+-- with what is left there are as many as there are in all
+pub record Counting (nodes left : List TreeNode) (c : Census) : Type 0 where
+  pub few : (p : ℕ) → get_or c.counts p 0 + length left ≤ length nodes
+  pub counts : (p : ℕ) → is_asked p ≡ true → get_or c.counts p 0 + count_of p left ≡ count_of p nodes
+  pub long : (c.long_types || list_any is_long left) ≡ list_any is_long nodes
 
--- whether there is one among some nodes and one more
-pub any_more : (nodes : List TreeNode) (i : ℕ) (d : TreeNode) (before here after : Bool) → i < length nodes → before ≡ list_any is_long (take i nodes)
-    → here ≡ is_long (get_or nodes i d) → after ≡ (before || here) → after ≡ list_any is_long (take (i + 1) nodes)
-any_more nodes i d before here after less so_far this both =
-    both ∙ ap (λ b. before || b) this ∙ ap (λ b. b || is_long (get_or nodes i d)) so_far ∙ sym (list_any_more is_long nodes i d less)
+-- one node more is counted
+pub record Notes (node : TreeNode) (before after : Census) : Type 0 where
+  pub few : (p : ℕ) → get_or after.counts p 0 ≤ get_or before.counts p 0 + 1
+  pub counts : (p : ℕ) → is_asked p ≡ true → get_or after.counts p 0 ≡ get_or before.counts p 0 + one_of p node
+  pub long : after.long_types ≡ (before.long_types || is_long node)
 
-module _ (nodes : List TreeNode) (i : ℕ) (d : TreeNode) (place : ℕ) (counts : List ℕ)
-    (less : i < length nodes) (is : (p : ℕ) → p < 704 → is_of p (get_or nodes i d) ≡ (p == place)) where
-  -- a node of another production
-  stays : (p : ℕ) → p < 704 → (p == place) ≡ false → count_of p (take (i + 1) nodes) ≡ count_of p (take i nodes)
-  stays p small other = count_by_more_no (is_of p) nodes i d less (is p small ∙ other)
+or_assoc : (a b c : Bool) → ((a || b) || c) ≡ (a || (b || c))
+or_assoc true b c = refl
+or_assoc false b c = refl
 
-  pub counted : length counts ≡ 704 → place < 704 → CountedTo nodes i counts → CountedTo nodes (i + 1) (set counts place (get_or counts place 0 + 1))
-  counted long within so_far p small = go (p == place) refl
-    where
-      go : (c : Bool) → (p == place) ≡ c → get_or (set counts place (get_or counts place 0 + 1)) p 0 ≡ count_of p (take (i + 1) nodes)
-      go true own =
-          let same : p ≡ place = (Decides-eqb p place).0 own in
-          let inside : place < length counts = omega (arith, within, long) in
-          ap (λ k. get_or (set counts place (get_or counts place 0 + 1)) k 0) same
-          ∙ get_or-set_same counts place (get_or counts place 0 + 1) 0 inside
-          ∙ ap (λ k. get_or counts k 0 + 1) (sym same)
-          ∙ ap (λ n. n + 1) (so_far p small)
-          ∙ sym (count_by_more_yes (is_of p) nodes i d less (is p small ∙ own))
-      go false other =
-          let apart : p ≡ place → ⊥ = λ e. let bad : true ≡ false = sym ((Decides-eqb p place).1 e) ∙ other in absurd cc in
-          get_or-set_other counts place p (get_or counts place 0 + 1) 0 apart ∙ so_far p small ∙ sym (stays p small other)
-
-  pub passed : 704 ≤ place → CountedTo nodes i counts → CountedTo nodes (i + 1) counts
-  passed far so_far p small = so_far p small ∙ sym (stays p small (go (p == place) refl))
-    where
-      go : (c : Bool) → (p == place) ≡ c → c ≡ false
-      go false e = refl
-      go true e = let same : p ≡ place = (Decides-eqb p place).0 e in absurd (omega (arith, same, small, far))
-
--- a leaf is of no production
-pub no_leaf : (token p : ℕ) → p < 704 → is_of p (Leaf token) ≡ (p == 704)
-no_leaf token p small = go (p == 704) refl
-  where
-    go : (c : Bool) → (p == 704) ≡ c → false ≡ c
-    go false e = refl
-    go true e = let same : p ≡ 704 = (Decides-eqb p 704).0 e in absurd (omega (arith, same, small))
-
-pub nothing_here : (n : ℕ) → n ≤ n
-nothing_here n = omega arith
-
-pub or_nothing : (b : Bool) → b ≡ (b || false)
+or_nothing : (b : Bool) → b ≡ (b || false)
 or_nothing true = refl
 or_nothing false = refl
+
+pub counting_start : (nodes : List TreeNode) (c : Census) → ((p : ℕ) → get_or c.counts p 0 ≡ 0) → c.long_types ≡ false → Counting nodes nodes c
+counting_start nodes c none short = record {
+  few = λ p. let zero = none p in omega (arith, zero);
+  counts = λ p is. ap (λ n. n + count_of p nodes) (none p) ∙ omega arith;
+  long = ap (λ b. b || list_any is_long nodes) short;
+}
+
+pub no_counts : (n p : ℕ) → get_or (replicate {A = ℕ} n 0) p 0 ≡ 0
+no_counts zero p = refl
+no_counts (suc n) zero = refl
+no_counts (suc n) (suc p) = no_counts n p
+
+pub counting_more : (nodes rest : List TreeNode) (node : TreeNode) (before after : Census) → Counting nodes (node ∷ rest) before → Notes node before after
+    → Counting nodes rest after
+counting_more nodes rest node before after c n = record {
+  few = λ p. let so_far = c.few p in let one = n.few p in omega (arith, so_far, one);
+  counts = λ p is.
+      let so_far = c.counts p is in
+      let one = n.counts p is in
+      let first = count_first p node rest in
+      omega (arith, so_far, one, first);
+  long = ap (λ b. b || list_any is_long rest) n.long ∙ or_assoc before.long_types (is_long node) (list_any is_long rest) ∙ c.long;
+}
+
+pub counting_end : (nodes : List TreeNode) (c : Census) → Counting nodes [] c
+    → ((p : ℕ) → is_asked p ≡ true → get_or c.counts p 0 ≡ count_of p nodes) × (c.long_types ≡ list_any is_long nodes)
+counting_end nodes c end = (
+  λ p is. let whole = end.counts p is in let none : get_or c.counts p 0 ≡ get_or c.counts p 0 + 0 = omega arith in none ∙ whole,
+  or_nothing c.long_types ∙ end.long,
+)
+
+front_eight : (left : List TreeNode) (z : TreeNode) → 8 ≤ length left
+    → left ≡ get_or left 0 z ∷ get_or left 1 z ∷ get_or left 2 z ∷ get_or left 3 z
+    ∷ get_or left 4 z ∷ get_or left 5 z ∷ get_or left 6 z ∷ get_or left 7 z ∷ take (length left - 8) (drop 8 left)
+front_eight [] z long = absurd (omega (arith, long))
+front_eight (a ∷ []) z long = absurd (omega (arith, long))
+front_eight (a ∷ b ∷ []) z long = absurd (omega (arith, long))
+front_eight (a ∷ b ∷ c ∷ []) z long = absurd (omega (arith, long))
+front_eight (a ∷ b ∷ c ∷ d ∷ []) z long = absurd (omega (arith, long))
+front_eight (a ∷ b ∷ c ∷ d ∷ e ∷ []) z long = absurd (omega (arith, long))
+front_eight (a ∷ b ∷ c ∷ d ∷ e ∷ f ∷ []) z long = absurd (omega (arith, long))
+front_eight (a ∷ b ∷ c ∷ d ∷ e ∷ f ∷ g ∷ []) z long = absurd (omega (arith, long))
+front_eight (a ∷ b ∷ c ∷ d ∷ e ∷ f ∷ g ∷ h ∷ rest) z long =
+    let all : length rest ≤ length (a ∷ b ∷ c ∷ d ∷ e ∷ f ∷ g ∷ h ∷ rest) - 8 = omega arith in
+    ap (λ ns. a ∷ b ∷ c ∷ d ∷ e ∷ f ∷ g ∷ h ∷ ns) (sym (take_all (length (a ∷ b ∷ c ∷ d ∷ e ∷ f ∷ g ∷ h ∷ rest) - 8) rest all))
+
+-- eight nodes more are counted
+module _ (nodes left : List TreeNode) (z : TreeNode) where
+  abbrev nth : ℕ → TreeNode
+  nth k = get_or left k z
+
+  -- those that are left behind so many of them
+  abbrev last : List TreeNode
+  last = take (length left - 8) (drop 8 left)
+
+  pub counting_four : (s0 s1 s2 s3 s4 : Census) → 8 ≤ length left → Counting nodes left s0
+      → Notes (nth 0) s0 s1 → Notes (nth 1) s1 s2 → Notes (nth 2) s2 s3 → Notes (nth 3) s3 s4
+      → Counting nodes (nth 4 ∷ nth 5 ∷ nth 6 ∷ nth 7 ∷ last) s4
+  counting_four s0 s1 s2 s3 s4 long c n0 n1 n2 n3 =
+      counting_more nodes (nth 4 ∷ nth 5 ∷ nth 6 ∷ nth 7 ∷ last) (nth 3) s3 s4
+      (counting_more nodes (nth 3 ∷ nth 4 ∷ nth 5 ∷ nth 6 ∷ nth 7 ∷ last) (nth 2) s2 s3
+      (counting_more nodes (nth 2 ∷ nth 3 ∷ nth 4 ∷ nth 5 ∷ nth 6 ∷ nth 7 ∷ last) (nth 1) s1 s2
+      (counting_more nodes (nth 1 ∷ nth 2 ∷ nth 3 ∷ nth 4 ∷ nth 5 ∷ nth 6 ∷ nth 7 ∷ last) (nth 0) s0 s1
+      (subst (λ ns. Counting nodes ns s0) (front_eight left z long) c) n0) n1) n2) n3
+
+  pub counting_others : (s4 s5 s6 s7 s8 : Census) → Counting nodes (nth 4 ∷ nth 5 ∷ nth 6 ∷ nth 7 ∷ last) s4
+      → Notes (nth 4) s4 s5 → Notes (nth 5) s5 s6 → Notes (nth 6) s6 s7 → Notes (nth 7) s7 s8 → Counting nodes last s8
+  counting_others s4 s5 s6 s7 s8 c n4 n5 n6 n7 =
+      counting_more nodes last (nth 7) s7 s8
+      (counting_more nodes (nth 7 ∷ last) (nth 6) s6 s7
+      (counting_more nodes (nth 6 ∷ nth 7 ∷ last) (nth 5) s5 s6
+      (counting_more nodes (nth 5 ∷ nth 6 ∷ nth 7 ∷ last) (nth 4) s4 s5 c n4) n5) n6) n7

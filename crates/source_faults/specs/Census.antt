@@ -1,13 +1,25 @@
--- How many nodes each production has, and which of them are types that may be deep.
-use Rattle.std.specs.Prelude.{◌≡◌, ◌<◌, ◌==◌, ◌&&◌, ℕ, Bool, false, List, count_by, nat_lt, slice_index_or}
-use Rattle.ilasm_grammar.specs.declared.productions.TheConstants.{TYPE}
+-- How many nodes have each production that is asked for, and which nodes are types that may be deep.
+use Rattle.std.specs.Prelude.{◌≡◌, ℕ, ◌==◌, ◌&&◌, Bool, true, false, List, [], ◌∷◌, cond, count_by, nat_lt, slice_index_or}
+use Rattle.ilasm_grammar.specs.declared.productions.TheConstants.{ASSEMBLY_ASSEMBLY_ATTR_STAR, ASSEMBLY_EXTERN, AT_NAME, DATA, DECL_MODULE, EVENT, ITEM_ENTRYPOINT, PROPERTY, TYPE}
 use Rattle.ilasm_grammar.specs.declared.tree.TreeNode.{TreeNode}
 use Rattle.ilasm_grammar.specs.declared.tree.TreeNode.TheVariants.{Branch, Leaf}
+use Rattle.source_model.specs.Forest.{is_among}
 use Rattle.source_reading.specs.Walk.{is_of}
 use Rattle.source_faults.specs.declared.census.Census.{Census}
 
+-- the productions that rules ask for: what names an assembly or this module, data and what stands at it, an entry, and what has accessors
+abbrev pub asked : List ℕ
+asked = DECL_MODULE ∷ ASSEMBLY_EXTERN ∷ ASSEMBLY_ASSEMBLY_ATTR_STAR ∷ AT_NAME ∷ ITEM_ENTRYPOINT ∷ PROPERTY ∷ EVENT ∷ DATA ∷ []
+
+abbrev pub is_asked : ℕ → Bool
+is_asked p = is_among asked p
+
+-- 1 for a node with this production
+abbrev pub one_of : ℕ → TreeNode → ℕ
+one_of p node = cond (is_of p node) 1 0
+
 abbrev pub IsCensus : List TreeNode → Census → Type 0
-IsCensus nodes c = (p : ℕ) → p < 704 → slice_index_or c.counts p 0 ≡ count_by (is_of p) nodes
+IsCensus nodes c = (p : ℕ) → is_asked p ≡ true → slice_index_or c.counts p 0 ≡ count_by (is_of p) nodes
 
 -- a type below which more than 98 nodes stand; another is at most 99 deep
 abbrev pub is_long : TreeNode → Bool

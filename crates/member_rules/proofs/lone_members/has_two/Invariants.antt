@@ -4,11 +4,11 @@ use Rattle.source_reading.specs.Walk.{IsForest}
 use Rattle.member_rules.proofs.LoneLemmas.{LeftLone}
 use Rattle.member_rules.proofs.lone_members.has_two.Given as goal
 
-abbrev pub invariant-loop-x : goal.invariant-loop-x
-invariant-loop-x l = record {
+abbrev pub invariant-loop-node : goal.invariant-loop-node
+invariant-loop-node l = record {
   forest : IsForest l.left;
   so_far : (f : Forest) → preorder f ≡ l.nodes → LeftLone l.level f l.left l.met;
 }
 
-abbrev pub decreases-loop-x : goal.decreases-loop-x
-decreases-loop-x l = length l.left
+abbrev pub decreases-loop-node : goal.decreases-loop-node
+decreases-loop-node l = length l.left

@@ -1,4 +1,4 @@
-use Rattle.std.proofs.Common.{◌∙◌, ap, arith, refl, sym}
+use Rattle.std.proofs.Common.{◌∙◌, ap, refl, sym}
 use Rattle.std.specs.List.{list_any}
 use Rattle.ilasm_grammar.specs.declared.productions.TheConstants.{ASSEMBLY_ASSEMBLY_ATTR_STAR, ASSEMBLY_EXTERN, DATA}
 use Rattle.source_faults.specs.Census.{is_long}
@@ -9,10 +9,10 @@ pub returns : goal.returns
 returns c s r =
     let census = c.census_of-census.ensures.counts in
     record {
-      labels = c.in_ok-labels.ensures s r refl (c.count-data.ensures ∙ census DATA (omega arith));
-      externs = c.in_ok-externs.ensures s r refl (c.count-others.ensures ∙ census ASSEMBLY_EXTERN (omega arith));
-      own = c.in_ok-own.ensures s r refl (c.count-owns.ensures ∙ census ASSEMBLY_ASSEMBLY_ATTR_STAR (omega arith));
+      labels = c.in_ok-labels.ensures s r refl (c.count-data.ensures ∙ census DATA refl);
+      externs = c.in_ok-externs.ensures s r refl (c.count-others.ensures ∙ census ASSEMBLY_EXTERN refl);
+      own = c.in_ok-own.ensures s r refl (c.count-owns.ensures ∙ census ASSEMBLY_ASSEMBLY_ATTR_STAR refl);
       classes = c.in_ok-classes.ensures s r;
-      census = λ p less. census p less ∙ ap (count_of p) (sym r.nodes);
+      census = λ p is. census p is ∙ ap (count_of p) (sym r.nodes);
       long-types = c.census_of-census.ensures.long ∙ ap (list_any is_long) (sym r.nodes);
     }

@@ -1,39 +1,23 @@
-use Rattle.std.proofs.Common.{ℕ, ◌+◌, ◌∙◌, ap, length, refl, get_or, length-set, subst, sym}
-use Rattle.std.specs.Prelude.{false, ◌||◌}
-use Rattle.std.proofs.lemmas.List.{get_or-replicate, length-replicate}
-use Rattle.source_reading.specs.Walk.{is_of}
-use Rattle.source_faults.specs.Census.{is_long}
-use Rattle.source_faults.proofs.CensusLemmas.{CountedTo, any_more, counted, no_leaf, nothing_here, or_nothing, passed}
+use Rattle.std.proofs.Common.{refl}
+use Rattle.source_faults.proofs.CensusLemmas.{counting_four, counting_others, counting_start, no_counts}
 use Rattle.source_faults.proofs.census.census_of.Goals as goal
-use Rattle.source_faults.proofs.census.census_of.Goals.{in-Branch+then-place-lt-MOST, in-Branch+else-place-lt-MOST, in-Leaf}
 
-pub loop-node-init : goal.loop-node-init
-loop-node-init c = record { all = length-replicate {A = ℕ} 704 0; counts = λ p less. get_or-replicate 704 p 0 0 less; long = refl }
+pub loop-left-init : goal.loop-left-init
+loop-left-init c = counting_start c.args.nodes.now _ (no_counts 704) refl
 
-pub loop-node-preserved : goal.loop-node-preserved
-loop-node-preserved c =
-    let nodes = c.args.nodes.now in
-    let i = c.loop-node.node-index in
-    let before = c.loop-node.counts in
-    let less = c.loop-node-test.true in
-    let so_far = c.loop-node.invariant in
-    elim c.match-node.branch [
-      | in-Branch+then-place-lt-MOST w ↦ record {
-        all = ap length w.counts-is ∙ length-set before w.in-Branch.production (get_or before w.in-Branch.production 0 + 1) ∙ so_far.all;
-        counts = subst (CountedTo nodes (i + 1)) (sym w.counts-is)
-            (counted nodes i _ w.in-Branch.production before less (λ p small. ap (is_of p) w.in-Branch.is) so_far.all w.if-place-lt-MOST.true so_far.counts);
-        long = any_more nodes i _ _ _ _ less so_far.long (sym (ap is_long w.in-Branch.is)) (w.long_types-is ∙ w.either-long_types.ensures);
-      }
-      | in-Branch+else-place-lt-MOST w ↦ record {
-        all = ap length w.counts-is ∙ so_far.all;
-        counts = subst (CountedTo nodes (i + 1)) (sym w.counts-is)
-            (passed nodes i _ w.in-Branch.production before less (λ p small. ap (is_of p) w.in-Branch.is) w.if-place-lt-MOST.false so_far.counts);
-        long = any_more nodes i _ _ _ _ less so_far.long (sym (ap is_long w.in-Branch.is)) (w.long_types-is ∙ w.either-long_types.ensures);
-      }
-      | in-Leaf w ↦ record {
-        all = ap length w.counts-is ∙ so_far.all;
-        counts = subst (CountedTo nodes (i + 1)) (sym w.counts-is)
-            (passed nodes i _ 704 before less (λ p small. ap (is_of p) w.in-Leaf.is ∙ no_leaf w.in-Leaf.token p small) (nothing_here 704) so_far.counts);
-        long = any_more nodes i _ _ false _ less so_far.long (sym (ap is_long w.in-Leaf.is)) (w.long_types-is ∙ or_nothing c.loop-node.long_types);
-      }
-    ]
+pub loop-left-preserved : goal.loop-left-preserved
+loop-left-preserved c =
+    let n0 = c.note.ensures in
+    let n1 = c.note-in-len8-up.ensures in
+    let n2 = c.note-in-len8-up-2.ensures in
+    let n3 = c.note-in-len8-up-3.ensures in
+    let n4 = c.note-in-len8-up-4.ensures in
+    let n5 = c.note-in-len8-up-5.ensures in
+    let n6 = c.note-in-len8-up-6.ensures in
+    let n7 = c.note-in-len8-up-7.ensures in
+    let half = counting_four c.args.nodes.now c.loop-left.left.now _ c.loop-left.census _ _ _ _ c.in-len8-up.len_at_least c.loop-left.invariant
+    (record { few = n0.few; counts = n0.counts; long = n0.long }) (record { few = n1.few; counts = n1.counts; long = n1.long })
+    (record { few = n2.few; counts = n2.counts; long = n2.long }) (record { few = n3.few; counts = n3.counts; long = n3.long }) in
+    counting_others c.args.nodes.now c.loop-left.left.now _ _ _ _ _ _ half
+    (record { few = n4.few; counts = n4.counts; long = n4.long }) (record { few = n5.few; counts = n5.counts; long = n5.long })
+    (record { few = n6.few; counts = n6.counts; long = n6.long }) (record { few = n7.few; counts = n7.counts; long = n7.long })

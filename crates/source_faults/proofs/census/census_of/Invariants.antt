@@ -1,12 +1,15 @@
-use Rattle.std.proofs.Common.{◌≡◌, length, take}
-use Rattle.std.specs.List.{list_any}
-use Rattle.source_faults.specs.Census.{is_long}
-use Rattle.source_faults.proofs.CensusLemmas.{CountedTo}
+use Rattle.std.proofs.Common.{length}
+use Rattle.source_faults.proofs.CensusLemmas.{Counting}
 use Rattle.source_faults.proofs.census.census_of.Given as goal
 
-abbrev pub invariant-loop-node : goal.invariant-loop-node
-invariant-loop-node l = record {
-  all : length l.counts ≡ 704;
-  counts : CountedTo l.nodes l.node-index l.counts;
-  long : l.long_types ≡ list_any is_long (take l.node-index l.nodes);
-}
+abbrev pub invariant-loop-left : goal.invariant-loop-left
+invariant-loop-left l = Counting l.nodes l.left l.census
+
+abbrev pub decreases-loop-left : goal.decreases-loop-left
+decreases-loop-left l = length l.left
+
+abbrev pub invariant-loop-left-2 : goal.invariant-loop-left-2
+invariant-loop-left-2 l = Counting l.nodes l.left l.census
+
+abbrev pub decreases-loop-left-2 : goal.decreases-loop-left-2
+decreases-loop-left-2 l = length l.left

@@ -1,4 +1,4 @@
-use Rattle.std.proofs.Common.{◌∙◌, ap, arith, map, sym}
+use Rattle.std.proofs.Common.{◌∙◌, ap, arith, map, sym, refl}
 use Rattle.ilasm_grammar.specs.declared.productions.TheConstants.{ITEM_ENTRYPOINT}
 use Rattle.source_model.specs.Forest.{first_token}
 use Rattle.source_reading.specs.Least.{least}
@@ -7,5 +7,5 @@ use Rattle.source_faults.proofs.declared_twice.entry_again.Goals as goal
 
 pub returns : goal.returns
 returns c s r census =
-    let one = none_behind ITEM_ENTRYPOINT s.tree c.count-entries.result (c.count-entries.ensures ∙ census ITEM_ENTRYPOINT (omega arith)) (omega (arith, c.if-entries-gt1.false)) in
+    let one = none_behind ITEM_ENTRYPOINT s.tree c.count-entries.result (c.count-entries.ensures ∙ census ITEM_ENTRYPOINT refl) (omega (arith, c.if-entries-gt1.false)) in
     ap (λ fs. least (map first_token fs)) (sym one)

@@ -1,11 +1,14 @@
-use Rattle.std.proofs.Common.{◌≡◌, ◌<◌, ◌∷◌, ◌∙◌, length, ap, sym, subst, arith, rules}
+use Rattle.std.proofs.Common.{◌≡◌, ◌<◌, ◌∷◌, ◌∙◌, None, length, ap, sym, subst, arith, rules}
 use Rattle.std.specs.Prelude.{true, false, ◌==◌}
 use Rattle.ilasm_grammar.specs.declared.productions.TheConstants.{CLASS}
+use Rattle.source_model.specs.Items.{members}
 use Rattle.source_reading.specs.Least.{sooner}
 use Rattle.source_reading.specs.Walk.{IsForest}
 use Rattle.source_rules.specs.DeclaredClasses.{inner_path}
-use Rattle.rule_steps.proofs.AskingLemmas.{below_shorter, next_shorter, rest_shorter}
+use Rattle.rule_steps.proofs.AskingLemmas.{below_shorter, next_shorter, nothing_more, rest_shorter}
 use Rattle.source_rules.proofs.ClassWalks.{forest_behind}
+use Rattle.member_rules.specs.MemberKinds.{class_around}
+use Rattle.member_rules.proofs.LoneLemmas.{none_twice}
 use Rattle.member_rules.proofs.WithinLemmas.{Walked, inner_deeper, walked_class, walked_end, walked_leaf, walked_method, walked_other, walked_start}
 use Rattle.member_rules.proofs.member_reading.Signatures.+again_within.Goals as goal
 
@@ -21,6 +24,13 @@ split_at-requires g t c =
     let f = c.loop-node.invariant.forest in
     (c.forests_open.ensures.branch f.0 c.in-Branch.production c.in-Branch.count c.in-Some.rest.now
     (f.1 ∙ c.in-Some.ensures ∙ ap (λ n. n ∷ c.in-Some.rest.now) c.in-Branch.is)).within
+
+pub are_lone-requires : goal.are_lone-requires
+are_lone-requires g t c =
+    let f = c.loop-node.invariant.forest in
+    let b = c.forests_open.ensures.branch f.0 c.in-Branch.production c.in-Branch.count c.in-Some.rest.now
+    (f.1 ∙ c.in-Some.ensures ∙ ap (λ n. n ∷ c.in-Some.rest.now) c.in-Branch.is) in
+    (b.below, b.inner ∙ sym c.split_at.ensures.front)
 
 pub again_in_class-requires-clause-forest : goal.again_in_class-requires-clause-forest
 again_in_class-requires-clause-forest g t c =
@@ -84,8 +94,8 @@ loop-node-preserved-then-production-eq-METHOD g t c =
           c.if-production-eq-METHOD.true);
     }
 
-pub loop-node-preserved-then-production-eq-CLASS : goal.loop-node-preserved-then-production-eq-CLASS
-loop-node-preserved-then-production-eq-CLASS g t c =
+pub loop-node-preserved-then-not-are_lone : goal.loop-node-preserved-then-not-are_lone
+loop-node-preserved-then-not-are_lone g t c =
     let p = c.in-Branch.production in
     let count = c.in-Branch.count in
     let left = c.loop-node.left.now in
@@ -106,6 +116,31 @@ loop-node-preserved-then-production-eq-CLASS g t c =
           let below = i ∙ sym c.split_at.ensures.front in
           let deeper = inner_deeper s path x c.args.depth c.deeper-inner.result c.deeper-inner.ensures d in
           (c.in_ok-here-in-Branch.ensures s path x v r deeper below bodies, c.in_ok-within-in-Branch.ensures s (inner_path s path x) x v r deeper below bodies)));
+    }
+
+pub loop-node-preserved-else-not-are_lone : goal.loop-node-preserved-else-not-are_lone
+loop-node-preserved-else-not-are_lone g t c =
+    let p = c.in-Branch.production in
+    let count = c.in-Branch.count in
+    let left = c.loop-node.left.now in
+    let rest = c.in-Some.rest.now in
+    let is = c.in-Some.ensures ∙ ap (λ n. n ∷ rest) c.in-Branch.is in
+    let own : (p == CLASS) ≡ true = grind arith in
+    let f = c.loop-node.invariant.forest in
+    let b = c.forests_open.ensures.branch f.0 p count rest (f.1 ∙ is) in
+    record {
+      forest = (b.after, b.rest ∙ sym c.split_at.ensures.back);
+      shorter = rest_shorter p count left rest c.args.nodes.now c.split_at.result.1.now is c.split_at.ensures.back c.loop-node.invariant.shorter;
+      so_far = λ s path f' v r d e h.
+          subst (λ ns. Walked s path f' ns c.loop-node.found) (sym c.split_at.ensures.back)
+          (walked_class s path c.forests_open.ensures f' left rest c.loop-node.found (c.loop-node.invariant.so_far s path f' v r d e h) p count is
+          None None c.loop-node.found own (nothing_more c.loop-node.found)
+          (λ x i bodies.
+          let below = i ∙ sym c.split_at.ensures.front in
+          let few = c.are_lone.ensures.members x below c.if-not-are_lone.false in (
+            none_twice s (class_around s path x) (members x) c.orders_are_total.ensures.terms few,
+            c.are_lone.ensures.classes s (inner_path s path x) x below bodies c.if-not-are_lone.false,
+          )));
     }
 
 pub returns : goal.returns
