@@ -139,11 +139,10 @@ fn body_named(
     if takes_variables(found) {
         return body_with_variables(alloc, place, &code, nodes, found, locals.as_slice(), held);
     }
-    let variables = Variables::none(alloc);
     let at = BodyPlace {
         place: *place,
         code,
-        variables: &variables,
+        variables: None,
     };
     body_at(alloc, &at, nodes, found, locals.as_slice(), held)
 }
@@ -171,7 +170,7 @@ fn body_with_variables(
     let at = BodyPlace {
         place: *place,
         code: *code,
-        variables: &variables,
+        variables: Some(&variables),
     };
     body_at(alloc, &at, nodes, found, locals, held)
 }
