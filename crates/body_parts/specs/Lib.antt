@@ -4,6 +4,7 @@ pub mod ClauseNodes
 pub mod CodePlaces
 pub mod HeldItems
 pub mod LabelLists
+pub mod LabelSlots
 pub mod MethodsInRange
 pub mod NamedVariables
 pub mod Operands
