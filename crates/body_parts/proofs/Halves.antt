@@ -1,5 +1,5 @@
 -- A search by halves among numbers that never fall.
-use Rattle.std.proofs.Common.{◌≡◌, ℕ, suc, zero, ◌<◌, ◌≤◌, ◌+◌, List, [], ◌∷◌, length, map, get_or, slice_get, ap, ◌∙◌, sym, arith}
+use Rattle.std.proofs.Common.{◌≡◌, ℕ, suc, zero, ◌<◌, ◌≤◌, ◌+◌, List, [], ◌∷◌, length, map, get_or, slice_get, ap, arith}
 use Rattle.std.specs.Prelude.{true, false, nat_lt, Some}
 use Rattle.std.specs.List.Sorted.{IsNonDecreasing}
 use Rattle.std.proofs.lemmas.Bool.{le-ltb, lt-ltb}

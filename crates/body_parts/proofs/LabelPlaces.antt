@@ -1,11 +1,11 @@
 -- The first label with a name, by the place of the name among the names of all.
-use Rattle.std.proofs.Common.{◌≡◌, ◌⊎◌, inl, inr, ℕ, suc, List, [], ◌∷◌, length, map, cond, ap, sym, ◌∙◌, refl, slice_get}
-use Rattle.std.specs.Prelude.{Bool, true, false, ◌==◌, Option, None, Some, option_map, bytes_eq, position}
+use Rattle.std.proofs.Common.{◌≡◌, ℕ, suc, List, [], ◌∷◌, map, cond, ap, sym, ◌∙◌, refl, slice_get}
+use Rattle.std.specs.Prelude.{Bool, true, false, Option, None, Some, option_map, bytes_eq, position}
 use Rattle.std.proofs.lemmas.Slice.Eq.{bytes_eq-Decides}
 use Rattle.source_model.specs.Source.{Source}
 use Rattle.source_model.specs.Values.{name_text}
 use Rattle.source_reading.proofs.LabelLemmas.{position_first}
-use Rattle.body_parts.specs.CodePlaces.{first_named}
+use Rattle.body_parts.specs.LabelSlots.{first_named}
 
 eq_swap : (a b : List ℕ) → bytes_eq a b ≡ bytes_eq b a
 eq_swap a b = go (bytes_eq a b) (bytes_eq b a) refl refl
@@ -36,8 +36,3 @@ named_at s name (l ∷ ls) =
         → cond c (Some l) (first_named s name ls) ≡ at_place (l ∷ ls) (cond c (Some 0) (option_map suc (position (bytes_eq name) (map (name_text s) ls))))
     go true rest = refl
     go false rest = rest ∙ next (position (bytes_eq name) (map (name_text s) ls))
-
--- names that are there are those of all labels
-pub all_names : (names all : List (List ℕ)) → (length names == 0) ≡ false → (names ≡ []) ⊎ (names ≡ all) → names ≡ all
-all_names names all some (inl none) = let no : true ≡ false = sym (ap (λ xs. length xs == 0) none) ∙ some in absurd cc
-all_names names all some (inr is) = is

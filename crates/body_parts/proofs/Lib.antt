@@ -14,5 +14,6 @@ pub mod PastLemmas
 pub mod RangeNames
 pub mod RealParts
 pub mod References
+pub mod SlotLemmas
 pub mod VariableParts
 pub mod WholeCode

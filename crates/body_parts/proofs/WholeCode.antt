@@ -1,10 +1,9 @@
 -- What is known of the code of a method whose instructions and labels were found.
-use Rattle.std.proofs.Common.{◌≡◌, ◌⊎◌, ◌<◌, ◌^◌, List, [], length, map, ap, sym, subst, arith}
+use Rattle.std.proofs.Common.{◌≡◌, ◌<◌, ◌^◌, List, length, ap, sym, subst, arith}
 use Rattle.ilasm_grammar.specs.declared.tree.TreeNode.{TreeNode}
 use Rattle.source_model.specs.Forest.{Forest, preorder}
 use Rattle.source_model.specs.Instructions.{instruction_forms, instructions_of, labels}
 use Rattle.source_model.specs.Source.{Source}
-use Rattle.source_model.specs.Values.{name_text}
 use Rattle.source_reading.specs.Methods.{AreNames}
 use Rattle.source_reading.specs.Pieces.{ArePieces}
 use Rattle.source_reading.specs.Readers.{Reads}
@@ -12,13 +11,13 @@ use Rattle.source_reading.proofs.LabelTokens.{labels_are_names}
 use Rattle.source_reading.proofs.OpTokens.{instructions_have_tokens}
 use Rattle.source_reading.proofs.OrderLemmas.{starts_never_fall}
 use Rattle.source_reading.proofs.PieceLemmas.{as_many}
-use Rattle.body_parts.specs.CodePlaces.{IsCode}
+use Rattle.body_parts.specs.CodePlaces.{HaveNames, IsCode}
 use Rattle.body_parts.specs.MethodsInRange.{IsMethodInRange}
 use Rattle.body_parts.specs.declared.code_places.Code.{Code}
 use Rattle.body_parts.proofs.BodyLemmas.{few_parts}
 
 pub whole_code : (x : Code) (s : Source) (f : Forest) (nodes : List TreeNode) → Reads x.reader s → ArePieces x.nodes.now x.instructions.now (instructions_of f)
-    → x.labels.now ≡ labels f → (x.names.now ≡ []) ⊎ (x.names.now ≡ map (name_text s) x.labels.now) → IsMethodInRange s f → preorder f ≡ nodes
+    → x.labels.now ≡ labels f → HaveNames x.names s x.labels.now → IsMethodInRange s f → preorder f ≡ nodes
     → length nodes < 2 ^ 32 → IsCode x s f
 whole_code x s f nodes r are names all h e few =
     let m = h.derived in

@@ -1,5 +1,5 @@
 -- Where the parts of a body are written (ECMA-335 II.15.4.1).
-use Rattle.std.specs.Prelude.{◌≡◌, true}
+use Rattle.std.specs.Prelude.{◌≡◌, MatchOption, true}
 use Rattle.source_model.specs.Forest.{Forest}
 use Rattle.source_model.specs.Nodes.{Around}
 use Rattle.source_model.specs.Source.{Source}
@@ -13,4 +13,4 @@ use Rattle.body_parts.specs.declared.body_places.BodyPlace.{BodyPlace}
 pub record IsWithin (x : BodyPlace) (s : Source) (a : Around) (f : Forest) : Type 0 where
   pub at : IsAt x.place s a
   pub code : IsCode x.code s f
-  pub variables : takes_variables f ≡ true → AreVariables x.variables.now s f
+  pub variables : takes_variables f ≡ true → MatchOption x.variables ⊥ (λ v. AreVariables v.now s f)

@@ -1,5 +1,5 @@
 -- What is known of the code of a method (ECMA-335 II.5.4).
-use Rattle.std.specs.Prelude.{◌≡◌, ◌⊎◌, ℕ, ◌<◌, ◌^◌, List, [], Option, bytes_eq, find, length, map}
+use Rattle.std.specs.Prelude.{◌≡◌, ℕ, ◌<◌, ◌^◌, List, length, map, ⊤}
 use Rattle.std.specs.List.Sorted.{IsNonDecreasing}
 use Rattle.source_model.specs.Forest.{Forest}
 use Rattle.source_model.specs.Instructions.{instructions_of, labels, mnemonic_token}
@@ -8,18 +8,23 @@ use Rattle.source_model.specs.Values.{name_text}
 use Rattle.source_reading.specs.Methods.{AreNames}
 use Rattle.source_reading.specs.Pieces.{ArePieces}
 use Rattle.source_reading.specs.Readers.{Reads}
+use Rattle.body_parts.specs.LabelSlots.{HaveSlots}
 use Rattle.body_parts.specs.declared.code_places.Code.{Code}
+use Rattle.body_parts.specs.declared.code_places.Names.{Names}
+use Rattle.body_parts.specs.declared.code_places.Names.TheVariants.{All, Each, Slots}
 
--- the first of some tokens that is this name
-abbrev pub first_named : Source → List ℕ → List ℕ → Option ℕ
-first_named s name tokens = find (λ token. bytes_eq (name_text s token) name) tokens
+-- a label with any name is found among these
+abbrev pub HaveNames : Names → Source → List ℕ → Type 0
+HaveNames Each s labels = ⊤
+HaveNames (Slots slots) s labels = HaveSlots slots.now s labels
+HaveNames (All names) s labels = names.now ≡ map (name_text s) labels
 
 -- these are the labels and the instructions of a method, which is given by what stands below its production
 pub record IsCode (x : Code) (s : Source) (f : Forest) : Type 0 where
   pub reads : Reads x.reader s
   pub labels-are : x.labels.now ≡ labels f
   pub labelled : AreNames s x.labels.now
-  pub names-are : (x.names.now ≡ []) ⊎ (x.names.now ≡ map (name_text s) x.labels.now)
+  pub names-are : HaveNames x.names s x.labels.now
   pub instructions-are : ArePieces x.nodes.now x.instructions.now (instructions_of f)
   pub rising : IsNonDecreasing (map mnemonic_token (instructions_of f))
   pub few : length x.instructions.now < 2 ^ 32

@@ -3,6 +3,8 @@ pub mod BodyPlaces
 pub mod ClauseNodes
 pub mod CodePlaces
 pub mod HeldItems
+pub mod LabelLists
+pub mod LabelSlots
 pub mod MethodsInRange
 pub mod NamedVariables
 pub mod Operands

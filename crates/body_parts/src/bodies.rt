@@ -1,6 +1,6 @@
 //! The bodies of methods (ECMA-335 II.15.4.1, II.25.4).
 
-ghost use Rattle.std.specs.Prelude.{◌≡◌, ◌⊎◌, ◌==◌, ◌<◌, ◌^◌, ◌∷◌, [], IfOk, length, map};
+ghost use Rattle.std.specs.Prelude.{◌≡◌, ◌==◌, ◌<◌, ◌^◌, ◌∷◌, [], IfOk, length};
 ghost use Rattle.std.specs.List.{list_any};
 ghost use Rattle.ilasm_grammar.specs.declared.productions.TheConstants.{INSTRUCTION_OP_VAR, LOCAL};
 ghost use Rattle.source_model.specs.Bodies.{body};
@@ -9,7 +9,6 @@ ghost use Rattle.source_model.specs.Forest.{Forest, parts, preorder};
 ghost use Rattle.source_model.specs.Instructions.{instructions_of, labels};
 ghost use Rattle.source_model.specs.Nodes.{Around, Node};
 ghost use Rattle.source_model.specs.Source.{Source};
-ghost use Rattle.source_model.specs.Values.{name_text};
 ghost use Rattle.source_flags.specs.InRange.{AllInRange};
 ghost use Rattle.source_reading.specs.Methods.{IsMethod};
 ghost use Rattle.source_reading.specs.Pieces.{ArePieces, AreParts};
@@ -17,24 +16,24 @@ ghost use Rattle.source_reading.specs.Places.{IsAt};
 ghost use Rattle.source_reading.specs.Walk.{IsForest};
 ghost use Rattle.body_parts.specs.BodyLines.{AreLines};
 ghost use Rattle.body_parts.specs.BodyPlaces.{IsWithin};
-ghost use Rattle.body_parts.specs.CodePlaces.{IsCode};
+ghost use Rattle.body_parts.specs.CodePlaces.{HaveNames, IsCode};
 ghost use Rattle.body_parts.specs.HeldItems.{IsHeld};
 ghost use Rattle.body_parts.specs.MethodsInRange.{IsMethodInRange};
 ghost use Rattle.body_parts.specs.WholeBodies.{IsBodyOf};
 
 use crate::body_lines::Lines;
 use crate::body_places::BodyPlace;
-use crate::code_places::Code;
+use crate::code_places::{Code, Names};
 use crate::held::Held;
 use crate::held_parts::{bound_of, clauses_of, locals_in};
 use crate::instructions::code;
+use crate::label_slots::{SLOTS, give_slots};
 use crate::locals::local_types;
 use crate::variables::Variables;
 use assembly_tree::Body;
 use il_base::NoMemory;
 use ilasm_grammar::TreeNode;
 use ilasm_grammar::productions::INSTRUCTION_OP_VAR;
-use source_reading::declared::Declared;
 use source_reading::labels::names_at;
 use source_reading::pieces::Piece;
 use source_reading::place::Place;
@@ -69,7 +68,8 @@ pub fn body(
     Ok(Some(one))
 }
 
-// The body of a method that has these instructions, and labels with these names. One label is compared by itself.
+// The body of a method that has these instructions, and labels with these names. One label is compared by itself, few are found by
+// their slots.
 fn body_with(
     alloc: Global,
     place: &Place,
@@ -84,14 +84,18 @@ fn body_with(
     ensures { (s : Source) (a : Around) (f : Forest) → IsAt place.now s a → preorder f ≡ nodes.now → IsMethodInRange s f →
         ArePieces nodes.now found.now (instructions_of f) → named.now ≡ labels f → IsHeld held f → IfOk result (λ b. IsBodyOf s a f b) }
 {
-    if named.len() > 1 {
-        return body_of_many_labels(alloc, place, nodes, found, named, held);
+    if named.len() < 2 {
+        return body_named(alloc, place, nodes, found, named, &Names::Each, held);
     }
-    let names = Declared::new(alloc);
-    body_named(alloc, place, nodes, found, named, &names, held)
+    let mut slots = [0; SLOTS];
+    if give_slots(&place.reader, named, &mut slots) {
+        let names = Names::Slots(&slots);
+        return body_named(alloc, place, nodes, found, named, &names, held);
+    }
+    body_of_many_labels(alloc, place, nodes, found, named, held)
 }
 
-// The same of a method with several labels, which are found by their names.
+// The same of a method with labels that are found by their names.
 #[inline(never)]
 fn body_of_many_labels(
     alloc: Global,
@@ -108,24 +112,24 @@ fn body_of_many_labels(
         ArePieces nodes.now found.now (instructions_of f) → named.now ≡ labels f → IsHeld held f → IfOk result (λ b. IsBodyOf s a f b) }
 {
     let names = names_at(alloc, &place.reader, named)?;
-    body_named(alloc, place, nodes, found, named, &names, held)
+    body_named(alloc, place, nodes, found, named, &Names::All(&names), held)
 }
 
-// The same with the names of the labels, or none.
+// The same where it is known how a label is found.
 fn body_named(
     alloc: Global,
     place: &Place,
     nodes: &[TreeNode],
     found: &[Piece],
     named: &[u32],
-    names: &Declared,
+    names: &Names,
     held: Held,
 ) -> Result<Body, NoMemory>
     requires forest { IsForest nodes.now }
     requires parts { AreParts nodes.now found.now }
     requires few { length nodes.now < 2 ^ 32 }
     ensures { (s : Source) (a : Around) (f : Forest) → IsAt place.now s a → preorder f ≡ nodes.now → IsMethodInRange s f →
-        ArePieces nodes.now found.now (instructions_of f) → named.now ≡ labels f → (names.now ≡ []) ⊎ (names.now ≡ map (name_text s) named.now) →
+        ArePieces nodes.now found.now (instructions_of f) → named.now ≡ labels f → HaveNames names.now s named.now →
         IsHeld held f → IfOk result (λ b. IsBodyOf s a f b) }
 {
     let locals = locals_in(alloc, nodes, held)?;
@@ -134,16 +138,15 @@ fn body_named(
         nodes,
         instructions: found,
         labels: named,
-        names,
+        names: *names,
     };
     if takes_variables(found) {
         return body_with_variables(alloc, place, &code, nodes, found, locals.as_slice(), held);
     }
-    let variables = Variables::none(alloc);
     let at = BodyPlace {
         place: *place,
         code,
-        variables: &variables,
+        variables: None,
     };
     body_at(alloc, &at, nodes, found, locals.as_slice(), held)
 }
@@ -171,7 +174,7 @@ fn body_with_variables(
     let at = BodyPlace {
         place: *place,
         code: *code,
-        variables: &variables,
+        variables: Some(&variables),
     };
     body_at(alloc, &at, nodes, found, locals, held)
 }

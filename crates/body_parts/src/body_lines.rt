@@ -1,6 +1,6 @@
 //! The instructions of a method, its labels and what else it holds, found in one walk (ECMA-335 II.5.4, II.15.4.1).
 
-ghost use Rattle.std.specs.Prelude.{◌≡◌, ◌++◌, ◌∷◌, [], IfOk, OnOk};
+ghost use Rattle.std.specs.Prelude.{◌≡◌, IfOk};
 ghost use Rattle.body_parts.specs.BodyLines.{AreLines};
 ghost use Rattle.body_parts.specs.HeldItems.{going_forms, head_forms};
 ghost use Rattle.source_model.specs.Forest.{Forest, is_among, preorder};
@@ -11,6 +11,7 @@ ghost use Rattle.source_reading.specs.Pieces.{AreParts};
 ghost use Rattle.source_reading.specs.Walk.{IsForest};
 
 use crate::held::{Held, is_told};
+use crate::labels::Labels;
 use il_base::{Items, NoMemory};
 use ilasm_grammar::{TreeNode, productions};
 use source_model::{derivations_are_forests, forests_join, forests_open};
@@ -22,7 +23,7 @@ use std::alloc::Global;
 #[derive(Drop)]
 pub struct Lines {
     pub instructions: Items<Piece>,
-    pub labels: Items<u32>,
+    pub labels: Labels,
     pub held: Held,
 }
 
@@ -37,7 +38,7 @@ pub fn lines_in(alloc: Global, nodes: &[TreeNode]) -> Result<Lines, NoMemory>
     forests_open();
     forests_join();
     let mut instructions = Items::with_capacity(alloc, nodes.len() / 8)?;
-    let mut labels = Items::new(alloc);
+    let mut labels = Labels::new(alloc);
     let mut held = Held::nothing();
     let mut at = 0;
     while let Some(node) = nodes.get(at) {
@@ -60,7 +61,7 @@ pub fn lines_in(alloc: Global, nodes: &[TreeNode]) -> Result<Lines, NoMemory>
                     instructions.push(piece)?;
                     at = start + count;
                 } else if production == productions::ITEM_NAME {
-                    push_label(&mut labels, leaf_at(nodes_of(nodes, piece), 0))?;
+                    labels.push(alloc, leaf_at(nodes_of(nodes, piece), 0))?;
                     at = start + count;
                 } else if is_of_head(production) {
                     at = start + count;
@@ -76,18 +77,6 @@ pub fn lines_in(alloc: Global, nodes: &[TreeNode]) -> Result<Lines, NoMemory>
         labels,
         held,
     })
-}
-
-// Adds the token of the name of a label. The first gets room for some more, since most methods with one have several.
-fn push_label(labels: &mut Items<u32>, token: u32) -> Result<(), NoMemory>
-    ensures { OnOk result (labels.new ≡ labels.old ++ token ∷ []) }
-{
-    if labels.is_empty() {
-        labels.reserve(8)?;
-        labels.push(token)
-    } else {
-        labels.push(token)
-    }
 }
 
 // Whether a production goes on with the items of a method, or is the item of an instruction: most are.

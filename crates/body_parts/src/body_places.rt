@@ -4,10 +4,11 @@ use crate::code_places::Code;
 use crate::variables::Variables;
 use source_reading::place::Place;
 
-/// A place within a method: that of its types, its labels and the first tokens of its instructions, and its arguments and locals.
+/// A place within a method: that of its types, its labels and the first tokens of its instructions, and its arguments and locals
+/// where an instruction takes one.
 #[derive(Clone, Copy)]
 pub struct BodyPlace<'a> {
     pub place: Place<'a>,
     pub code: Code<'a>,
-    pub variables: &'a Variables,
+    pub variables: Option<&'a Variables>,
 }

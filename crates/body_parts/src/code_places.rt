@@ -2,7 +2,8 @@
 
 ghost use Rattle.std.specs.Prelude.{◌≡◌, IfOk, List, bytes_eq, map, slice_get};
 ghost use Rattle.std.specs.List.Sorted.{IsNonDecreasing};
-ghost use Rattle.body_parts.specs.CodePlaces.{IsCode, first_named};
+ghost use Rattle.body_parts.specs.CodePlaces.{IsCode};
+ghost use Rattle.body_parts.specs.LabelSlots.{first_named, numbered};
 ghost use Rattle.il_lexer.specs.declared.types.TokenKind.TheVariants.{Name};
 ghost use Rattle.source_model.specs.Forest.{Forest, Part, first_token, preorder};
 ghost use Rattle.source_model.specs.Instructions.{label_named, label_number, labels, mnemonic_token, number_at};
@@ -13,6 +14,7 @@ ghost use Rattle.source_reading.specs.Methods.{AreNames};
 ghost use Rattle.source_reading.specs.Pieces.{ArePieces};
 ghost use Rattle.source_reading.specs.Readers.{IsOf, Reads};
 
+use crate::label_slots::{SLOTS, number_in};
 use il_base::NoMemory;
 use ilasm_grammar::TreeNode;
 use source_model::{derivations_are_forests, forests_join, forests_open};
@@ -24,15 +26,26 @@ use source_reading::reader::Reader;
 use source_reading::walk::next;
 use std::alloc::Global;
 
-/// The labels of a method by the tokens of their names, and its instructions among the nodes below its production. Where there are
-/// several labels, `names` are theirs; else it is empty.
+/// How a label of a method is found by its name.
+#[derive(Clone, Copy)]
+pub enum Names<'a> {
+    /// Each is compared, where there is at most one.
+    Each,
+    /// By its slot, where they are few.
+    Slots(&'a [u8; SLOTS]),
+    /// By the names of all.
+    All(&'a Declared),
+}
+
+/// The labels of a method by the tokens of their names, how one is found, and its instructions among the nodes below its
+/// production.
 #[derive(Clone, Copy)]
 pub struct Code<'a> {
     pub reader: Reader<'a>,
     pub nodes: &'a [TreeNode],
     pub instructions: &'a [Piece],
     pub labels: &'a [u32],
-    pub names: &'a Declared,
+    pub names: Names<'a>,
 }
 
 impl<'a> Code<'a> {
@@ -66,16 +79,50 @@ impl<'a> Code<'a> {
     }
 
     // The first label with this name.
+    #[inline(always)]
     fn label_with(&self, alloc: Global, name: &[u8]) -> Result<Option<u32>, NoMemory>
         ensures { (s : Source) (f : Forest) → IsCode self.now s f → IfOk result (λ l. l ≡ first_named s name.now (labels f)) }
     {
-        if self.names.len() == 0 {
-            return first_named(alloc, &self.reader, self.labels, name);
+        match self.names {
+            Names::Each => first_named(alloc, &self.reader, self.labels, name),
+            Names::Slots(slots) => {
+                let number = number_in(slots, name);
+                numbered(alloc, &self.reader, self.labels, number, name)
+            }
+            Names::All(names) => Ok(token_in(names, self.labels, name)),
         }
-        match self.names.find(name) {
-            Some(k) => Ok(token_at(self.labels, k)),
-            None => Ok(None),
-        }
+    }
+}
+
+// The one of some tokens whose place is one less than a number, if it is this name.
+fn numbered(
+    alloc: Global,
+    reader: &Reader,
+    tokens: &[u32],
+    number: u8,
+    name: &[u8],
+) -> Result<Option<u32>, NoMemory>
+    ensures { (s : Source) → Reads reader.now s → AreNames s tokens.now → IfOk result (λ l. l ≡ numbered s name.now tokens.now number) }
+{
+    if number == 0 {
+        return Ok(None);
+    }
+    let Some(token) = token_at(tokens, usize::from(number) - 1) else {
+        return Ok(None);
+    };
+    if is_named(alloc, reader, token, name)? {
+        return Ok(Some(token));
+    }
+    Ok(None)
+}
+
+// The first of some tokens with a name, where these are their names.
+fn token_in(names: &Declared, tokens: &[u32], name: &[u8]) -> Option<u32>
+    ensures { (s : Source) → names.now ≡ map (name_text s) tokens.now → result ≡ first_named s name.now tokens.now }
+{
+    match names.find(name) {
+        Some(k) => token_at(tokens, k),
+        None => None,
     }
 }
 
@@ -106,6 +153,7 @@ fn first_named(
 }
 
 // Whether a token is this name.
+#[inline(always)]
 fn is_named(alloc: Global, reader: &Reader, token: u32, name: &[u8]) -> Result<bool, NoMemory>
     ensures { (s : Source) → Reads reader.now s → IsOf s Name token → IfOk result (λ b. b ≡ bytes_eq (name_text s token) name.now) }
 {

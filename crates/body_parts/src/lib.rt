@@ -12,6 +12,8 @@ pub mod code_pushes;
 pub mod held;
 pub mod held_parts;
 pub mod instructions;
+pub mod label_slots;
+pub mod labels;
 pub mod locals;
 pub mod numbers;
 pub mod operands;

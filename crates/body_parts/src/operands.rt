@@ -2,21 +2,26 @@
 
 ghost use Rattle.std.specs.Prelude.{◌≡◌, ◌<◌, ◌^◌, ◌++◌, ◌∷◌, [], IfOk, length, map, true};
 ghost use Rattle.assembly_tree.specs.declared.body.Operand.TheVariants as operand;
-ghost use Rattle.ilasm_grammar.specs.declared.productions.TheConstants.{FIELD_REF, METHOD_REF};
+ghost use Rattle.ilasm_grammar.specs.declared.productions.TheConstants.{FIELD_REF, INSTRUCTION_OP_VAR, METHOD_REF};
+ghost use Rattle.source_model.specs.BodyNumbers.{variable_out_of_range};
 ghost use Rattle.source_model.specs.Forest.{Forest, Part, has, preorder, the};
 ghost use Rattle.source_model.specs.Instructions.{label_number, targets};
 ghost use Rattle.source_model.specs.Nodes.{Around};
 ghost use Rattle.source_model.specs.Operands.{instruction, token_operand};
 ghost use Rattle.source_model.specs.References.{field_ref, method_ref};
+ghost use Rattle.source_model.specs.Shapes.{natural};
 ghost use Rattle.source_model.specs.Source.{Source};
 ghost use Rattle.source_model.specs.Types.{the_owner};
+ghost use Rattle.source_model.specs.Variables.{variable_number};
 ghost use Rattle.body_parts.specs.CodePlaces.{IsCode};
 ghost use Rattle.source_flags.specs.InRange.{AllInRange, IsInRange};
+ghost use Rattle.source_reading.specs.Derived.{FitsBody, HasBodies};
 ghost use Rattle.source_reading.specs.Methods.{AreNames};
 ghost use Rattle.source_reading.specs.Places.{IsAt};
 ghost use Rattle.source_reading.specs.Walk.{IsForest};
 ghost use Rattle.body_parts.specs.BodyPlaces.{IsWithin};
 ghost use Rattle.body_parts.specs.MethodsInRange.{IsInstructionInRange};
+ghost use Rattle.body_parts.specs.NamedVariables.{takes_variables};
 ghost use Rattle.body_parts.specs.Operands.{instruction_with, other_operand, reference_operand};
 
 use crate::body_places::BodyPlace;
@@ -63,7 +68,7 @@ pub fn push_instruction(
     match production {
         INSTRUCTION_OP_NONE => push_plain(all, op),
         INSTRUCTION_OP_VAR => {
-            let number = variable_number(alloc, reader, at.variables, nodes)?;
+            let number = number_of_variable(alloc, at, nodes)?;
             push_variable(all, op, number)
         }
         INSTRUCTION_OP_NUM => {
@@ -75,6 +80,18 @@ pub fn push_instruction(
             push_real(all, op, bits)
         }
         _ => push_other(all, alloc, at, op, production, nodes),
+    }
+}
+
+// The number of the variable of an instruction.
+fn number_of_variable(alloc: Global, at: &BodyPlace, nodes: &[TreeNode]) -> Result<u16, NoMemory>
+    requires { IsForest nodes.now }
+    ensures { (s : Source) (a : Around) (f : Forest) (p : Part) → IsWithin at.now s a f → takes_variables f ≡ true → FitsBody s INSTRUCTION_OP_VAR p.below →
+        HasBodies s p.below → preorder p.below ≡ nodes.now → variable_out_of_range s f p ≡ [] → IfOk result (λ number. number ≡ natural (variable_number s f p)) }
+{
+    match at.variables {
+        Some(variables) => variable_number(alloc, &at.place.reader, variables, nodes),
+        None => Ok(0),
     }
 }
 

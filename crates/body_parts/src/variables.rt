@@ -61,14 +61,6 @@ impl Variables {
         Ok(Variables { arguments, locals })
     }
 
-    /// Those of a method of which no instruction takes one.
-    pub fn none(alloc: Global) -> Variables {
-        Variables {
-            arguments: no_names(alloc),
-            locals: no_names(alloc),
-        }
-    }
-
     /// The number of the first argument, or for another opcode of the first local, that has this name.
     pub fn number_of(
         &self,

@@ -1,5 +1,12 @@
-use Rattle.std.proofs.Common.{inl}
+use Rattle.std.proofs.Common.{sym, subst}
+use Rattle.source_reading.specs.Methods.{AreNames}
+use Rattle.source_reading.proofs.LabelTokens.{labels_are_names}
 use Rattle.body_parts.proofs.bodies.body_with.Goals as goal
 
-pub returns : goal.returns
-returns c s a f x e h are names held = c.body_named.ensures s a f x e h are names (inl c.new-names.ensures) held
+pub returns-then-named-lt2 : goal.returns-then-named-lt2
+returns-then-named-lt2 c s a f x e h are names held = c.body_named.ensures s a f x e h are names tt held
+
+pub returns-then-give_slots : goal.returns-then-give_slots
+returns-then-give_slots c s a f x e h are names held =
+    let labelled = subst (AreNames s) (sym names) (labels_are_names s f h.derived.bodies) in
+    c.body_named-then-give_slots.ensures s a f x e h are names (c.give_slots.ensures s x.reads labelled c.if-give_slots.true) held

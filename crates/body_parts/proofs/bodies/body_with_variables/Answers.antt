@@ -1,4 +1,3 @@
-use Rattle.std.proofs.Common.{◌≡◌, ◌∷◌, [], refl}
 use Rattle.ilasm_grammar.specs.declared.productions.TheConstants.{METHOD}
 use Rattle.source_model.specs.Nodes.{Node}
 use Rattle.body_parts.proofs.bodies.body_with_variables.Goals as goal

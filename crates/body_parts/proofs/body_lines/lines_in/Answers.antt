@@ -110,7 +110,7 @@ loop-node-preserved-then-production-eq-ITEM_NAME c =
     let passed = name_passed q among in
     record {
       pieces = pieces.past_shut one opens joins nodes passed_forms instruction_forms at q n c.loop-node.instructions is other passed h.pieces;
-      named = subst (λ found. named.Named nodes passed_forms (ITEM_NAME ∷ []) (at + 1 + n) found) (sym c.in_ok-push_label-in-Branch.ensures)
+      named = subst (λ found. named.Named nodes passed_forms (ITEM_NAME ∷ []) (at + 1 + n) found) (sym c.in_ok-push-in-Branch-2.ensures)
           (named.past_branch one opens joins nodes passed_forms (ITEM_NAME ∷ []) at q n c.leaf_at.result c.loop-node.labels is among
           (λ g e. c.leaf_at.ensures g (e ∙ sym c.nodes_of.ensures)) h.named);
       held = held.past_shut one opens joins nodes at q n c.loop-node.held is passed (name_untold q among) h.held;

@@ -1,6 +1,6 @@
 use Rattle.std.proofs.Common.{◌≡◌, length}
 use Rattle.source_model.specs.Source.{Source}
-use Rattle.body_parts.specs.CodePlaces.{first_named}
+use Rattle.body_parts.specs.LabelSlots.{first_named}
 use Rattle.source_reading.specs.Methods.{AreNames}
 use Rattle.source_reading.specs.Readers.{Reads}
 use Rattle.body_parts.proofs.code_places.first_named.Given as goal

@@ -36,7 +36,7 @@ returns-in_ok-number-in-315 c s a f p x made e h =
     subst (λ i. IfOk c.push_variable.result (λ _. c.push_variable.new.all ≡ c.args.all.now ++ i ∷ []))
     (both s a f p c.op_of-op.result (operand.Var c.in_ok-number-in-315.number) (c.op_of-op.ensures s p x.at.reads e)
     (ap (λ n. operand.Var n)
-    (c.in_ok-number-in-315.ensures s f p x.at.reads (x.variables (h.takes (sym form))) fits (has_bodies s p.below h.each) e (h.variable (sym form)))
+    (c.in_ok-number-in-315.ensures s a f p x (h.takes (sym form)) fits (has_bodies s p.below h.each) e (h.variable (sym form)))
     ∙ is_form_at s a f p INSTRUCTION_OP_VAR form))
     c.push_variable.ensures
 

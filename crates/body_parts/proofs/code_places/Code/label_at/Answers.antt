@@ -2,7 +2,7 @@ use Rattle.std.proofs.Common.{◌≡◌, subst, ◌∙◌}
 use Rattle.std.specs.Prelude.{IfOk, IfSome}
 use Rattle.source_model.specs.Instructions.{labels}
 use Rattle.source_model.specs.Values.{name_text}
-use Rattle.body_parts.specs.CodePlaces.{first_named}
+use Rattle.body_parts.specs.LabelSlots.{first_named}
 use Rattle.body_parts.proofs.code_places.Code.label_at.Goals as goal
 
 pub returns-in-Some : goal.returns-in-Some

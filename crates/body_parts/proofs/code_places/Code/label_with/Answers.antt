@@ -1,22 +1,23 @@
-use Rattle.std.proofs.Common.{◌≡◌, ◌∙◌, length, map, ap, sym, arith}
-use Rattle.std.specs.Prelude.{false, ◌==◌, bytes_eq, position}
-use Rattle.source_model.specs.Values.{name_text}
-use Rattle.body_parts.specs.CodePlaces.{first_named}
-use Rattle.body_parts.proofs.LabelPlaces.{all_names, at_place, named_at}
+use Rattle.std.proofs.Common.{◌≡◌, ◌∙◌, ap, subst}
+use Rattle.std.specs.Prelude.{IfOk}
+use Rattle.body_parts.specs.CodePlaces.{HaveNames}
+use Rattle.body_parts.specs.LabelSlots.{first_named, numbered}
 use Rattle.body_parts.proofs.code_places.Code.label_with.Goals as goal
 
-pub returns-in-Some : goal.returns-in-Some
-returns-in-Some c s f x =
-    let ls = c.args.self.now.labels.now in
-    let some : (length c.args.self.now.names.now == 0) ≡ false = grind arith in
-    let all = all_names c.args.self.now.names.now (map (name_text s) ls) some x.names-are in
-    let found = sym c.in-Some.is ∙ c.find.ensures ∙ ap (position (bytes_eq c.args.name.now)) all in
-    c.token_at.ensures ∙ ap (at_place ls) found ∙ sym (named_at s c.args.name.now ls) ∙ ap (first_named s c.args.name.now) x.labels-are
+pub returns-in-Each : goal.returns-in-Each
+returns-in-Each c s f x =
+    subst (λ ls. IfOk c.first_named.result (λ l. l ≡ first_named s c.args.name.now ls)) x.labels-are (c.first_named.ensures s x.reads x.labelled)
 
-pub returns-in-None : goal.returns-in-None
-returns-in-None c s f x =
+pub returns-in-Slots : goal.returns-in-Slots
+returns-in-Slots c s f x =
     let ls = c.args.self.now.labels.now in
-    let some : (length c.args.self.now.names.now == 0) ≡ false = grind arith in
-    let all = all_names c.args.self.now.names.now (map (name_text s) ls) some x.names-are in
-    let found = sym c.in-None.is ∙ c.find.ensures ∙ ap (position (bytes_eq c.args.name.now)) all in
-    ap (at_place ls) found ∙ sym (named_at s c.args.name.now ls) ∙ ap (first_named s c.args.name.now) x.labels-are
+    let name = c.args.name.now in
+    let slotted = subst (λ names. HaveNames names s ls) c.in-Slots.is x.names-are in
+    subst (λ o. IfOk c.numbered.result (λ l. l ≡ o)) (ap (numbered s name ls) c.number_in-number.ensures ∙ slotted name ∙ ap (first_named s name) x.labels-are)
+    (c.numbered.ensures s x.reads x.labelled)
+
+pub returns-in-All : goal.returns-in-All
+returns-in-All c s f x =
+    let ls = c.args.self.now.labels.now in
+    let all = subst (λ names. HaveNames names s ls) c.in-All.is x.names-are in
+    c.token_in.ensures s all ∙ ap (first_named s c.args.name.now) x.labels-are
