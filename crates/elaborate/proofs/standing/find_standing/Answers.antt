@@ -1,4 +1,4 @@
-use Rattle.std.proofs.Common.{◌≡◌, ◌∷◌, ap, sym, subst, ◌∙◌}
+use Rattle.std.proofs.Common.{◌∷◌, ap, sym, subst, ◌∙◌}
 use Rattle.elaborate.proofs.StandingLemmas.{Walked, begins, ends, into_branch, past_leaf, past_shut}
 use Rattle.elaborate.proofs.standing.find_standing.Goals as goal
 
