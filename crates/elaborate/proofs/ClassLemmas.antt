@@ -12,7 +12,7 @@ use Rattle.ilasm_grammar.specs.declared.terminals.TheConstants as t
 use Rattle.type_terms.specs.declared.name.TypeId.{TypeId}
 use Rattle.source_model.specs.Classes.{class_from}
 use Rattle.source_model.specs.Forest.{Forest, Part, child, preorder}
-use Rattle.source_model.specs.Items.{members}
+use Rattle.source_model.specs.Items.{begins_run, customs_outside, is_custom, members}
 use Rattle.source_model.specs.Members.{events_in, is_method_part, method, method_forests, properties_in}
 use Rattle.source_model.specs.Nodes.{Around, typar_names, typars}
 use Rattle.source_model.specs.Source.{Source}
@@ -76,9 +76,21 @@ members_whole s f each =
 
 -- ---- its properties and events
 
-neither : (a b : Bool) → (a || b) ≡ false → (a ≡ false) × (b ≡ false)
+pub neither : (a b : Bool) → (a || b) ≡ false → (a ≡ false) × (b ≡ false)
 neither true b e = absurd cc
 neither false b e = (refl, e)
+
+-- whether some were found is whether there are some
+pub same_any : (test : ℕ → Bool) (nodes : List TreeNode) (found : List Piece) (ps : List Part) → ArePieces nodes found ps
+    → list_any (λ (x : Piece). test x.production) found ≡ list_any (λ (p : Part). test p.production) ps
+same_any test nodes [] [] e = refl
+same_any test nodes [] (p ∷ ps) e = absurd cc
+same_any test nodes (x ∷ xs) [] e = absurd cc
+same_any test nodes (x ∷ xs) (p ∷ ps) e =
+    let first : piece_of nodes x ≡ written p = cc in
+    let more : map (piece_of nodes) xs ≡ map written ps = cc in
+    let made : x.production ≡ p.production = ap (λ (w : ℕ × List TreeNode). w.0) first in
+    ap (λ q. test q || list_any (λ (y : Piece). test y.production) xs) made ∙ ap (λ b. test p.production || b) (same_any test nodes xs ps more)
 
 -- where none was found there is none
 pub none_accessed : (nodes : List TreeNode) (found : List Piece) (ps : List Part) → ArePieces nodes found ps → list_any (λ (x : Piece). is_accessed x.production) found ≡ false
@@ -100,6 +112,15 @@ none_accessed nodes (x ∷ xs) (p ∷ ps) e h =
           (ap (λ k. k == MEMBER_EVENT) (sym made) ∙ each.1)
           ∙ rest.1,
     )
+
+-- ---- its attributes
+
+pub no_customs : (in_run : Bool) (ps : List Part) → list_any (λ (p : Part). is_custom p) ps ≡ false → customs_outside in_run ps ≡ []
+no_customs in_run [] e = refl
+no_customs in_run (p ∷ ps) e =
+    let both = neither (is_custom p) (list_any (λ (q : Part). is_custom q) ps) e in
+    ap (λ (c : Bool). if c then (if in_run then [] else p ∷ []) ++ customs_outside in_run ps else customs_outside (begins_run p) ps) both.0
+    ∙ no_customs (begins_run p) ps both.1
 
 -- ---- its generic parameters
 

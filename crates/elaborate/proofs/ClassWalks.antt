@@ -34,7 +34,7 @@ nothing_both : {X : Type 0} (xs ys : List X) → xs ++ ys ≡ [] → (xs ≡ [])
 nothing_both [] ys e = (refl, e)
 nothing_both (x ∷ xs) ys e = absurd cc
 
-turned : (q p : ℕ) → (q == p) ≡ false → (p == q) ≡ false
+pub turned : (q p : ℕ) → (q == p) ≡ false → (p == q) ≡ false
 turned q p e = go (p == q) refl
   where
     go : (c : Bool) → (p == q) ≡ c → c ≡ false
@@ -84,8 +84,8 @@ module _ (s : Source) (a : Around) where
       ∙ ap (λ (c : Bool). (if c then class_from s (entered s a p b) b (classes_in s (entered s a p b) b) ∷ [] else classes_in s a b) ++ classes_in s a f) e
       ∙ ap (λ x. class_from s x b (classes_in s x b) ∷ classes_in s a f) (entered_class p b e)
 
-  -- in a method stand no classes
-  none_in : (f : Forest) → parts (CLASS ∷ []) f ≡ [] → classes_in s a f ≡ []
+  -- where no class stands
+  pub none_in : (f : Forest) → parts (CLASS ∷ []) f ≡ [] → classes_in s a f ≡ []
   none_in tree.none e = classes_none
   none_in (tree.leaf k f) e = classes_leaf k f ∙ none_in f e
   none_in (tree.branch p b f) e = go (CLASS == p) refl (λ k. none_in b k) (λ k. none_in f k)
@@ -162,21 +162,21 @@ module _ (s : Source) (a : Around) where
             same = ap (λ cs. found ++ cs) (sym past) ∙ ap (λ (g : Forest). found ++ classes_in s a g) (sym b.is) ∙ w.same;
           }
 
-      pub walked_class : (class : TypeDef) (more : List TypeDef) → (p == CLASS) ≡ true → more ≡ found ++ class ∷ []
-          → ((b : Forest) → preorder b ≡ take count rest → IsInRange s CLASS b → AllWhole s b → class ≡ class_from s (inner s a b) b (classes_in s (inner s a b) b))
+      pub walked_class : (more : List TypeDef) → (p == CLASS) ≡ true
+          → ((b : Forest) → preorder b ≡ take count rest → IsInRange s CLASS b → AllWhole s b
+          → more ≡ found ++ class_from s (inner s a b) b (classes_in s (inner s a b) b) ∷ [])
           → Walked f (drop count rest) more
-      walked_class class more own is read =
+      walked_class more own read =
           let b = opens.branch w.rest p count rest (w.is ∙ e) in
           let h = subst (AllWhole s) b.is w.each in
           let ranged = subst (λ q. IsInRange s q b.below) ((Decides-eqb p CLASS).0 own) h.0.0 in
-          let this = read b.below b.inner ranged h.1 in
+          let one = class_from s (inner s a b.below) b.below (classes_in s (inner s a b.below) b.below) in
           record {
             rest = b.after;
             is = b.rest;
             each = h.2;
-            same = ap (λ cs. cs ++ classes_in s a b.after) is
-                ∙ append_assoc found (class ∷ []) (classes_in s a b.after)
-                ∙ ap (λ c. found ++ c ∷ classes_in s a b.after) this
+            same = ap (λ cs. cs ++ classes_in s a b.after) (read b.below b.inner ranged h.1)
+                ∙ append_assoc found (one ∷ []) (classes_in s a b.after)
                 ∙ ap (λ cs. found ++ cs) (sym (classes_class p b.below b.after own))
                 ∙ ap (λ (g : Forest). found ++ classes_in s a g) (sym b.is) ∙ w.same;
           }

@@ -5,6 +5,8 @@ pub mod ClassWalks
 pub mod CoreLemmas
 pub mod Elaborated
 pub mod InterfaceLemmas
+pub mod NestedLemmas
+pub mod PassedForms
 pub mod SizeLemmas
 pub mod SizelessLemmas
 pub mod StandingLemmas

@@ -17,17 +17,8 @@ use Rattle.source_reading.specs.Derived.{OfEach}
 use Rattle.member_parts.specs.ClassSizes.{size_numbered}
 use Rattle.source_flags.specs.Lines.{productions_of}
 use Rattle.source_flags.specs.declared.gathering.Kind.TheVariants.{Members}
-use Rattle.source_flags.specs.declared.outside.Shut.TheVariants.{Methods}
-use Rattle.source_flags.proofs.Apart.{is_past, mask_of}
 use Rattle.source_flags.proofs.Gathered.{IsSought, all_append, all_follow, of_parts}
 use Rattle.elaborate.proofs.SizeLemmas.{all_chosen}
-use Rattle.ilasm_grammar.specs.Ilasm.{has_bit}
-use Rattle.ilasm_grammar.proofs.TableCheck.{ilasm_tables}
-
--- sizes stand in no method
-pub sizes_past : is_past Methods (MEMBER_SIZE ∷ []) ≡ true
-unfolding is_past mask_of ilasm_tables has_bit
-sizes_past = refl
 
 pub none_of_any : (ps : List Part) → is_any_part ps ≡ false → ps ≡ []
 none_of_any [] e = refl

@@ -10,9 +10,7 @@ use Rattle.source_model.specs.Forest.{Forest, Part, is_among, is_any_part, joine
 use Rattle.source_model.specs.Laws.{ForestOpens, ForestsJoin, OneForest}
 use Rattle.source_reading.specs.Walk.{IsForest}
 use Rattle.source_reading.proofs.Collecting.{no_forest}
-use Rattle.source_flags.specs.Outside.{shut_of}
-use Rattle.elaborate.specs.Standing.{IsStanding, stands_outside}
-use Rattle.source_flags.specs.declared.outside.Shut.TheVariants.{Methods}
+use Rattle.elaborate.specs.Standing.{IsStanding, passed_forms, stands_outside}
 use Rattle.elaborate.specs.declared.standing.Standing.{Standing}
 
 -- what is known, with what stands in the rest, is what stands in the whole
@@ -43,36 +41,36 @@ same_test p q = go (p == q) (q == p) refl refl
 
 module _ (q : ℕ) where
   -- a branch that isn't shut: it is that, or it stands in it or after it
-  into : ForestsJoin → (p : ℕ) (b a : Forest) → is_among (shut_of Methods) p ≡ false → stands_outside q (tree.branch p b a) ≡ ((q == p) || stands_outside q (joined b a))
+  into : ForestsJoin → (p : ℕ) (b a : Forest) → is_among passed_forms p ≡ false → stands_outside q (tree.branch p b a) ≡ ((q == p) || stands_outside q (joined b a))
   into joins p b a unshut = go (q == p) refl
     where
       inner : List Part
-      inner = parts_outside (shut_of Methods) (q ∷ []) b
+      inner = parts_outside passed_forms (q ∷ []) b
 
       later : List Part
-      later = parts_outside (shut_of Methods) (q ∷ []) a
+      later = parts_outside passed_forms (q ∷ []) a
 
       go : (c : Bool) → (q == p) ≡ c → stands_outside q (tree.branch p b a) ≡ (c || stands_outside q (joined b a))
-      go true e = ap (λ (c : Bool). is_any_part ((if c || false then part p b ∷ [] else if is_among (shut_of Methods) p then [] else inner) ++ later)) e
+      go true e = ap (λ (c : Bool). is_any_part ((if c || false then part p b ∷ [] else if is_among passed_forms p then [] else inner) ++ later)) e
       go false e =
-          ap (λ (c : Bool). is_any_part ((if c || false then part p b ∷ [] else if is_among (shut_of Methods) p then [] else inner) ++ later)) e
+          ap (λ (c : Bool). is_any_part ((if c || false then part p b ∷ [] else if is_among passed_forms p then [] else inner) ++ later)) e
           ∙ ap (λ (c : Bool). is_any_part ((if c then [] else inner) ++ later)) unshut
-          ∙ ap is_any_part (sym (joins.parts (shut_of Methods) (q ∷ []) b a))
+          ∙ ap is_any_part (sym (joins.parts passed_forms (q ∷ []) b a))
 
   -- one that is shut: it is that, or it stands after it
-  past : (p : ℕ) (b a : Forest) → is_among (shut_of Methods) p ≡ true → stands_outside q (tree.branch p b a) ≡ ((q == p) || stands_outside q a)
+  past : (p : ℕ) (b a : Forest) → is_among passed_forms p ≡ true → stands_outside q (tree.branch p b a) ≡ ((q == p) || stands_outside q a)
   past p b a closed = go (q == p) refl
     where
       inner : List Part
-      inner = parts_outside (shut_of Methods) (q ∷ []) b
+      inner = parts_outside passed_forms (q ∷ []) b
 
       later : List Part
-      later = parts_outside (shut_of Methods) (q ∷ []) a
+      later = parts_outside passed_forms (q ∷ []) a
 
       go : (c : Bool) → (q == p) ≡ c → stands_outside q (tree.branch p b a) ≡ (c || stands_outside q a)
-      go true e = ap (λ (c : Bool). is_any_part ((if c || false then part p b ∷ [] else if is_among (shut_of Methods) p then [] else inner) ++ later)) e
+      go true e = ap (λ (c : Bool). is_any_part ((if c || false then part p b ∷ [] else if is_among passed_forms p then [] else inner) ++ later)) e
       go false e =
-          ap (λ (c : Bool). is_any_part ((if c || false then part p b ∷ [] else if is_among (shut_of Methods) p then [] else inner) ++ later)) e
+          ap (λ (c : Bool). is_any_part ((if c || false then part p b ∷ [] else if is_among passed_forms p then [] else inner) ++ later)) e
           ∙ ap (λ (c : Bool). is_any_part ((if c then [] else inner) ++ later)) closed
 
   next : (known more : Bool) (p : ℕ) (g h f : Forest) → more ≡ (known || p == q) → Says q known g f
@@ -108,7 +106,7 @@ module _ (one : OneForest) (opens : ForestOpens) (joins : ForestsJoin) (nodes : 
             (s.0 ∙ ap (λ g. x.first || stands_outside first g) b.is, s.1 ∙ ap (λ g. x.second || stands_outside second g) b.is);
       }
 
-  pub past_shut : (left rest : List TreeNode) (x y : Standing) (p count : ℕ) → left ≡ Branch p count ∷ rest → is_among (shut_of Methods) p ≡ true → With first second x p y
+  pub past_shut : (left rest : List TreeNode) (x y : Standing) (p count : ℕ) → left ≡ Branch p count ∷ rest → is_among passed_forms p ≡ true → With first second x p y
       → Walked first second nodes left x → Walked first second nodes (drop count rest) y
   past_shut left rest x y p count e closed adds w =
       let b = opens.branch w.rest p count rest (w.is ∙ e) in
@@ -122,7 +120,7 @@ module _ (one : OneForest) (opens : ForestOpens) (joins : ForestsJoin) (nodes : 
             );
       }
 
-  pub into_branch : (left rest : List TreeNode) (x y : Standing) (p count : ℕ) → left ≡ Branch p count ∷ rest → is_among (shut_of Methods) p ≡ false → With first second x p y
+  pub into_branch : (left rest : List TreeNode) (x y : Standing) (p count : ℕ) → left ≡ Branch p count ∷ rest → is_among passed_forms p ≡ false → With first second x p y
       → Walked first second nodes left x → Walked first second nodes rest y
   into_branch left rest x y p count e unshut adds w =
       let b = opens.branch w.rest p count rest (w.is ∙ e) in

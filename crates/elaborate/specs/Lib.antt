@@ -2,6 +2,7 @@ pub mod Bases
 pub mod ClassParts
 pub mod Cores
 pub mod Elaborated
+pub mod HeadForms
 pub mod Interfaces
 pub mod KnownSizes
 pub mod OwnerLaws

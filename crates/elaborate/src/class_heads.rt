@@ -19,7 +19,7 @@ ghost use Rattle.source_reading.specs.Walk.{IsForest};
 use crate::bases::{base, is_root};
 use crate::interfaces::rising;
 use assembly_tree::Layout;
-use il_base::NoMemory;
+use il_base::{Items, NoMemory};
 use ilasm_grammar::TreeNode;
 use ilasm_grammar::productions::IMPLEMENTS_OPT_SOME;
 use member_parts::layouts::layout;
@@ -82,6 +82,10 @@ fn interfaces(alloc: Global, place: &Place, nodes: &[TreeNode]) -> Result<Owners
     ensures { (s : Source) (a : Around) → IsAt place.now s a → (f : Forest) → preorder f ≡ nodes.now → AllInRange s f →
         IfOk result (λ owners. owners ≡ rising (owners_in s a (child (IMPLEMENTS_OPT_SOME ∷ []) f))) }
 {
-    let owners = place.owners_in(alloc, child(nodes, IMPLEMENTS_OPT_SOME))?;
+    let written = child(nodes, IMPLEMENTS_OPT_SOME);
+    if written.is_empty() {
+        return Ok(Items::new(alloc));
+    }
+    let owners = place.owners_in(alloc, written)?;
     rising(alloc, owners)
 }

@@ -11,6 +11,7 @@ ghost use Rattle.source_model.specs.Manifests.{attributes};
 ghost use Rattle.source_model.specs.Members.{methods};
 ghost use Rattle.source_model.specs.Nodes.{Around};
 ghost use Rattle.source_model.specs.Source.{Source};
+ghost use Rattle.source_parts.specs.Runs.{is_custom};
 ghost use Rattle.source_reading.specs.Pieces.{ArePieces, AreParts};
 ghost use Rattle.source_reading.specs.Places.{IsAt};
 ghost use Rattle.source_reading.specs.Walk.{IsForest};
@@ -19,7 +20,9 @@ use crate::member_reader::MemberReader;
 use assembly_tree::{Attributes, Events, Fields, Generics, Method, Methods, Properties};
 use il_base::{Items, NoMemory};
 use ilasm_grammar::TreeNode;
-use ilasm_grammar::productions::{MEMBER_EVENT, MEMBER_PROPERTY};
+use ilasm_grammar::productions::{
+    DECL_CUSTOM, ITEM_CUSTOM, MEMBER_CUSTOM, MEMBER_EVENT, MEMBER_PROPERTY,
+};
 use member_parts::events::events;
 use member_parts::method_tables::MethodTable;
 use member_parts::properties::properties;
@@ -112,6 +115,19 @@ fn is_accessed(production: u16) -> bool
     production == MEMBER_PROPERTY || production == MEMBER_EVENT
 }
 
+// Whether there is an attribute among the members of a class.
+fn has_customs(found: &[Piece]) -> bool
+    ensures { result ≡ list_any (λ x. is_custom x.production) found.now }
+{
+    found.iter().any(|x| is_custom(x.production))
+}
+
+fn is_custom(production: u16) -> bool
+    ensures { result ≡ is_custom production }
+{
+    production == DECL_CUSTOM || production == MEMBER_CUSTOM || production == ITEM_CUSTOM
+}
+
 // The attributes of a class itself.
 fn own_attributes(
     alloc: Global,
@@ -124,6 +140,9 @@ fn own_attributes(
     ensures { (s : Source) (a : Around) → IsAt place.now s a → (f : Forest) → AllInRange s f → ArePieces nodes.now found.now (members f) →
         IfOk result (λ all. all ≡ attributes s a (own_customs (members f))) }
 {
+    if !has_customs(found) {
+        return Ok(Items::new(alloc));
+    }
     let own = own_customs(alloc, found)?;
     attributes(alloc, place, nodes, own.as_slice())
 }

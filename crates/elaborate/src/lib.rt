@@ -11,6 +11,7 @@ pub mod cores;
 pub mod elaborating;
 pub mod extern_keys;
 pub mod faultless_sources;
+pub mod gathering;
 pub mod interfaces;
 pub mod known_sizes;
 pub mod member_reader;

@@ -1,14 +1,11 @@
-//! Whether parts of two productions stand in a source outside of methods.
+//! Whether parts of two productions stand in a source outside of what holds neither data nor the sizes of classes.
 
 ghost use Rattle.std.specs.Prelude.{◌≡◌, ◌||◌, ◌==◌};
-ghost use Rattle.elaborate.specs.Standing.{IsStanding};
-ghost use Rattle.source_flags.specs.Outside.{shut_of};
-ghost use Rattle.source_flags.specs.declared.outside.Shut.TheVariants.{Methods};
+ghost use Rattle.elaborate.specs.Standing.{IsStanding, passed_forms};
 ghost use Rattle.source_model.specs.Forest.{Forest, is_among, preorder};
 ghost use Rattle.source_reading.specs.Walk.{IsForest};
 
-use ilasm_grammar::TreeNode;
-use ilasm_grammar::productions::METHOD;
+use ilasm_grammar::{TreeNode, productions};
 use source_model::{derivations_are_forests, forests_join, forests_open};
 use source_reading::walk::next;
 
@@ -19,7 +16,7 @@ pub struct Standing {
     pub second: bool,
 }
 
-/// Whether parts of these productions stand outside of methods, found in one walk.
+/// Whether parts of these productions stand outside of the heads of classes, of methods and of the like, found in one walk.
 pub fn find_standing(nodes: &[TreeNode], first: u16, second: u16) -> Standing
     requires { IsForest nodes.now }
     ensures { (f : Forest) → preorder f ≡ nodes.now → IsStanding first second f result }
@@ -39,7 +36,7 @@ pub fn find_standing(nodes: &[TreeNode], first: u16, second: u16) -> Standing
                 nodes: count,
             } => {
                 found = with(found, production, first, second);
-                if is_method(production) {
+                if is_passed(production) {
                     let (_, after) = rest.split_at(count as usize);
                     left = after;
                 } else {
@@ -63,8 +60,23 @@ fn with(found: Standing, production: u16, first: u16, second: u16) -> Standing
     }
 }
 
-fn is_method(production: u16) -> bool
-    ensures { result ≡ is_among (shut_of Methods) production }
+// Whether a production is one that is gone past.
+fn is_passed(production: u16) -> bool
+    ensures { result ≡ is_among passed_forms production }
 {
-    production == METHOD
+    matches!(
+        production,
+        productions::DECL_FIELD
+            | productions::DECL_METHOD
+            | productions::DECL_CUSTOM
+            | productions::CLASS_ATTR_STAR_MORE
+            | productions::TYPARS_OPT_SOME
+            | productions::EXTENDS_OPT_SOME
+            | productions::IMPLEMENTS_OPT_SOME
+            | productions::MEMBER_FIELD
+            | productions::MEMBER_METHOD
+            | productions::MEMBER_PROPERTY
+            | productions::MEMBER_EVENT
+            | productions::MEMBER_CUSTOM
+    )
 }

@@ -1,8 +1,10 @@
-use Rattle.std.proofs.Common.{false, sym, subst}
+use Rattle.std.proofs.Common.{false, ap, sym, subst, ◌∙◌}
 use Rattle.source_model.specs.Items.{members, own_customs}
 use Rattle.source_reading.specs.Pieces.{ArePieces}
+use Rattle.source_model.specs.Manifests.{attributes}
+use Rattle.source_parts.specs.Runs.{is_custom}
 use Rattle.source_parts.proofs.CustomParts.{outside_hold}
-use Rattle.elaborate.proofs.ClassLemmas.{members_ranged}
+use Rattle.elaborate.proofs.ClassLemmas.{members_ranged, no_customs, same_any}
 use Rattle.elaborate.proofs.class_members.own_attributes.Goals as goal
 
 pub attributes-requires-clause-parts : goal.attributes-requires-clause-parts
@@ -17,3 +19,9 @@ returns c s a x f each are =
     let ps = members f in
     c.attributes.ensures s a x (own_customs ps) (subst (λ xs. ArePieces nodes xs (own_customs ps)) (sym c.as_slice.ensures) (c.in_ok-own.ensures nodes ps are))
     (outside_hold s false ps (members_ranged s f each))
+
+pub returns-then-not-has_customs : goal.returns-then-not-has_customs
+returns-then-not-has_customs c s a x f each are =
+    let same = same_any is_custom c.args.nodes.now c.args.found.now (members f) are in
+    let none = no_customs false (members f) (sym same ∙ sym c.has_customs.ensures ∙ c.if-not-has_customs.true) in
+    c.new.ensures ∙ sym (ap (attributes s a) none)

@@ -1,4 +1,4 @@
-use Rattle.std.proofs.Common.{◌≡◌, ◌∷◌, ap, sym, subst, ◌∙◌}
+use Rattle.std.proofs.Common.{◌∷◌, ap, sym, subst, ◌∙◌}
 use Rattle.elaborate.proofs.StandingLemmas.{Walked, begins, ends, into_branch, past_leaf, past_shut}
 use Rattle.elaborate.proofs.standing.find_standing.Goals as goal
 
@@ -11,20 +11,20 @@ split_at-requires c =
     (c.forests_open.ensures.branch w.rest c.in-Branch.production c.in-Branch.count c.in-Some.rest.now
     (w.is ∙ c.in-Some.ensures ∙ ap (λ n. n ∷ c.in-Some.rest.now) c.in-Branch.is)).within
 
-pub loop-node-preserved-then-is_method : goal.loop-node-preserved-then-is_method
-loop-node-preserved-then-is_method c =
+pub loop-node-preserved-then-is_passed : goal.loop-node-preserved-then-is_passed
+loop-node-preserved-then-is_passed c =
     let is = c.in-Some.ensures ∙ ap (λ n. n ∷ c.in-Some.rest.now) c.in-Branch.is in
     subst (λ ns. Walked c.args.first c.args.second c.args.nodes.now ns c.with-found.result) (sym c.split_at.ensures.back)
     (past_shut c.derivations_are_forests.ensures c.forests_open.ensures c.forests_join.ensures c.args.nodes.now c.args.first c.args.second
     c.loop-node.left.now c.in-Some.rest.now c.loop-node.found c.with-found.result c.in-Branch.production c.in-Branch.count is
-    (sym c.is_method.ensures ∙ c.if-is_method.true) (record { first-is = c.with-found.ensures.first_is; second-is = c.with-found.ensures.second_is }) c.loop-node.invariant)
+    (sym c.is_passed.ensures ∙ c.if-is_passed.true) (record { first-is = c.with-found.ensures.first_is; second-is = c.with-found.ensures.second_is }) c.loop-node.invariant)
 
-pub loop-node-preserved-else-is_method : goal.loop-node-preserved-else-is_method
-loop-node-preserved-else-is_method c =
+pub loop-node-preserved-else-is_passed : goal.loop-node-preserved-else-is_passed
+loop-node-preserved-else-is_passed c =
     let is = c.in-Some.ensures ∙ ap (λ n. n ∷ c.in-Some.rest.now) c.in-Branch.is in
     into_branch c.derivations_are_forests.ensures c.forests_open.ensures c.forests_join.ensures c.args.nodes.now c.args.first c.args.second
     c.loop-node.left.now c.in-Some.rest.now c.loop-node.found c.with-found.result c.in-Branch.production c.in-Branch.count is
-    (sym c.is_method.ensures ∙ c.if-is_method.false) (record { first-is = c.with-found.ensures.first_is; second-is = c.with-found.ensures.second_is }) c.loop-node.invariant
+    (sym c.is_passed.ensures ∙ c.if-is_passed.false) (record { first-is = c.with-found.ensures.first_is; second-is = c.with-found.ensures.second_is }) c.loop-node.invariant
 
 pub loop-node-preserved : goal.loop-node-preserved
 loop-node-preserved c =
