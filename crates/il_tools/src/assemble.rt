@@ -10,6 +10,7 @@ ghost use Rattle.il_tools.specs.Output.{HoldsFront};
 
 use crate::fault::{ContentFault, Fault};
 use crate::input::{InputFault, read_file};
+use crate::kept::KeptTree;
 use crate::output::write_file;
 use assembly_tree::Assembly;
 use il_base::{Bytes, Shelf};
@@ -22,13 +23,15 @@ use std::alloc::Global;
 // The greatest number of bytes of a source.
 const LIMIT: usize = 0x0800_0000;
 
-/// Assembles the source `file` to the image `output`. The whole image is built before it is started.
+/// Assembles the source `file` to the image `output`. The whole image is built before it is started. The tree of the source
+/// goes to `kept`.
 pub(crate) fn assemble<S: Shelf>(
     alloc: Global,
     shelf: &mut S,
     file: &str,
     kind: Kind,
     output: &str,
+    kept: &mut KeptTree,
 ) -> Result<(), Fault>
     ensures usage { (word : ℕ) → result ≡ Err (Fault.Usage word) → ⊥ }
     ensures unread { result ≡ Err Fault.Unread → Rose (S.failed_reads shelf.old) (S.failed_reads shelf.new) ⊎ (IsTrue (S.tells shelf.old) × (S.files shelf.old file.now ≡ None)) }
@@ -51,7 +54,7 @@ pub(crate) fn assemble<S: Shelf>(
         Err(InputFault::TooLong) => return Err(Fault::TooLong),
         Err(InputFault::NoMemory) => return Err(Fault::NoMemory),
     };
-    let image = match image_of(alloc, source.as_slice(), kind) {
+    let image = match image_of(alloc, source.as_slice(), kind, kept) {
         Ok(image) => image,
         Err(fault) => return Err(fault),
     };
@@ -61,14 +64,18 @@ pub(crate) fn assemble<S: Shelf>(
     }
 }
 
-/// The image of a source.
-fn image_of(alloc: Global, source: &[u8], kind: Kind) -> Result<Bytes, Fault>
+/// The image of a source, whose tree goes to `kept`.
+fn image_of(alloc: Global, source: &[u8], kind: Kind, kept: &mut KeptTree) -> Result<Bytes, Fault>
     requires { length source.now ≤ 2 ^ 27 }
     ensures image { IfOk result (IsImageOf source.now kind) }
     ensures fault { IfErr result (IsRefused source.now) }
 {
     match assembly_of(alloc, source) {
-        Ok(assembly) => image_of_assembly(alloc, source, &assembly, kind),
+        Ok(assembly) => {
+            let image = image_of_assembly(alloc, source, &assembly, kind);
+            kept.keep(assembly);
+            image
+        }
         Err(ReadFault::Faulty(fault)) => Err(Fault::Content(ContentFault::Source(fault))),
         Err(ReadFault::NoMemory) => Err(Fault::NoMemory),
     }

@@ -4,10 +4,12 @@
 mod assemble;
 mod fault;
 mod input;
+mod kept;
 mod output;
 mod report;
 mod texts;
 mod top;
 
 pub use command_words::{Command, WordFault, parse_words};
-pub use top::{Status, run};
+pub use kept::KeptTree;
+pub use top::{Status, run, run_and_keep};

@@ -1,11 +1,12 @@
 //! `iltool`: tools for .NET's intermediate language. The words after the program's name, the real files and the
-//! real streams go to `il_tools::run`; `--help` and `--version`, alone, are answered here.
+//! real streams go to `il_tools::run_and_keep`; `--help` and `--version`, alone, are answered here.
 #![tactic(auto)]
 
 use il_base::{DiskShelf, NoMemory, StdConsole, Text, Words};
+use il_tools::{KeptTree, run_and_keep};
 use std::process::ExitCode;
 use std::rt::Env;
-use std::{env, io};
+use std::{env, io, mem};
 use thiserror::Error;
 
 const HELP: &str = "\
@@ -78,7 +79,11 @@ fn answer(rt: &HostRuntime, words: &Words) -> u8 {
         _ => {
             let mut shelf = DiskShelf::new(rt, rt.alloc());
             let mut console = StdConsole::new(rt.stdout(), rt.stderr());
-            il_tools::run(rt.alloc(), words, &mut shelf, &mut console).number
+            let mut kept = KeptTree::new();
+            let status = run_and_keep(rt.alloc(), words, &mut shelf, &mut console, &mut kept);
+            // The process ends now, which gives all its memory back at once.
+            mem::forget(kept);
+            status.number
         }
     }
 }

@@ -5,7 +5,7 @@ use Rattle.il_tools.specs.declared.fault.ContentFault.{ContentFault}
 use Rattle.il_tools.specs.declared.fault.Fault.{Fault}
 use Rattle.il_tools.specs.declared.fault.Fault.TheVariants.{Usage, Content}
 use Rattle.il_tools.proofs.OutcomeLemmas.{Answers-lacking, Answers-misfit, Answers-assembled, Answers-refused, Says-done, Says-lacking, Says-fault, brief}
-use Rattle.il_tools.proofs.top.run.Goals as goal
+use Rattle.il_tools.proofs.top.run_and_keep.Goals as goal
 
 -- a word has one number
 usage_of : (words : List (List ℕ)) (w : ℕ) → usage_fault words ≡ Some w → (word : ℕ) → ◌≡◌ {A = Fault} (Usage w) (Usage word) → usage_fault words ≡ Some word
