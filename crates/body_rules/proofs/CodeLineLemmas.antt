@@ -1,11 +1,10 @@
--- What the walk for the lines of a method goes past has none of those that are looked for, and what it says of a plain method.
+-- What the walk for the lines of a method says of a plain method.
 use Rattle.std.proofs.Common.{◌≡◌, ℕ, List, [], ◌∷◌, ◌++◌, map, ap, sym, ◌∙◌, refl}
-use Rattle.std.specs.Prelude.{Bool, true, false, not, ◌==◌, ◌||◌, ◌&&◌, if◌then◌else◌}
-use Rattle.std.specs.List.{flat_map, list_all}
-use Rattle.std.proofs.lemmas.Bool.{and_parts, eqb-true, false≢true}
+use Rattle.std.specs.Prelude.{Bool, true, false, not, ◌||◌, ◌&&◌, if◌then◌else◌}
+use Rattle.std.specs.List.{flat_map}
+use Rattle.std.proofs.lemmas.Bool.{and_parts, false≢true}
 use Rattle.std.proofs.lemmas.Grind.{flat_map-append}
 use Rattle.ilasm_grammar.specs.Ilasm.{body_at, has_bit}
-use Rattle.ilasm_grammar.specs.declared.productions.TheConstants.{ITEM_NAME}
 use Rattle.ilasm_grammar.specs.declared.tree.TreeNode.{TreeNode}
 use Rattle.ilasm_grammar.proofs.TableCheck.{ilasm_tables}
 use Rattle.ilasm_grammar.proofs.Tables.{all_below}
@@ -20,113 +19,24 @@ use Rattle.source_flags.proofs.Apart.{all_outside, are_apart, stays}
 use Rattle.body_rules.specs.CodeLines.{IsPlain, others}
 use Rattle.body_rules.specs.PlainBodies.{is_other, is_plain, lines}
 use Rattle.body_rules.proofs.NamingLemmas.{naming, names_are, no_targets}
+use Rattle.body_rules.proofs.PastLemmas.{all_of, others_past, passed_forms}
 
--- what the walk goes past
-abbrev pub shut : List ℕ
-shut = ITEM_NAME ∷ instruction_forms
-
--- ---- nothing that is looked for stands in what is gone past
+-- ---- what names labels stands in no instruction
 
 -- the nonterminals that stand somewhere below an instruction
 abbrev below_forms : ℕ
 below_forms = 0x1ffff800000000003fffffffffffe3820
 
-shut_closed : all_below (stays below_forms shut) ilasm_tables.productions ≡ true
-unfolding ilasm_tables body_at has_bit
-shut_closed = refl
-
 forms_closed : all_below (stays below_forms instruction_forms) ilasm_tables.productions ≡ true
 unfolding ilasm_tables body_at has_bit
 forms_closed = refl
-
-names_closed : all_below (stays 0 (ITEM_NAME ∷ [])) ilasm_tables.productions ≡ true
-unfolding ilasm_tables body_at has_bit
-names_closed = refl
-
-labels_apart : are_apart below_forms (ITEM_NAME ∷ []) ≡ true
-unfolding ilasm_tables has_bit
-labels_apart = refl
 
 naming_apart : are_apart below_forms naming ≡ true
 unfolding ilasm_tables has_bit
 naming_apart = refl
 
-others_apart : are_apart below_forms others ≡ true
-unfolding ilasm_tables has_bit
-others_apart = refl
-
-forms_apart : are_apart 0 instruction_forms ≡ true
-unfolding ilasm_tables has_bit
-forms_apart = refl
-
-pub labels_past : (s : Source) (f : Forest) → HasBodies s f → parts_outside instruction_forms (ITEM_NAME ∷ []) f ≡ parts (ITEM_NAME ∷ []) f
-labels_past s f h = all_outside below_forms instruction_forms (ITEM_NAME ∷ []) forms_closed labels_apart s f h
-
-pub instructions_past : (s : Source) (f : Forest) → HasBodies s f → parts_outside (ITEM_NAME ∷ []) instruction_forms f ≡ parts instruction_forms f
-instructions_past s f h = all_outside 0 (ITEM_NAME ∷ []) instruction_forms names_closed forms_apart s f h
-
 naming_past : (s : Source) (f : Forest) → HasBodies s f → parts_outside instruction_forms naming f ≡ parts naming f
 naming_past s f h = all_outside below_forms instruction_forms naming forms_closed naming_apart s f h
-
-others_past : (s : Source) (f : Forest) → HasBodies s f → parts_outside shut others f ≡ parts others f
-others_past s f h = all_outside below_forms shut others shut_closed others_apart s f h
-
--- ---- one production
-
--- what holds of each of some productions holds of one that is among them
-all_of : (t : ℕ → Bool) (ps : List ℕ) → list_all t ps ≡ true → (q : ℕ) → is_among ps q ≡ true → t q ≡ true
-all_of t [] all q e = absurd (false≢true e)
-all_of t (p ∷ ps) all q e = go (p == q) refl (all_of t ps (and_parts (t p) (list_all t ps) all).1 q)
-  where
-    go : (c : Bool) → (p == q) ≡ c → (is_among ps q ≡ true → t q ≡ true) → t q ≡ true
-    go true same later = ap t (sym (eqb-true p q same)) ∙ (and_parts (t p) (list_all t ps) all).0
-    go false apart later = later (sym (ap (λ (c : Bool). c || is_among ps q) apart) ∙ e)
-
-pub not_true : (b : Bool) → not b ≡ true → b ≡ false
-not_true true e = absurd (false≢true e)
-not_true false e = refl
-
-pub forms_unnamed : (q : ℕ) → is_among instruction_forms q ≡ true → is_among (ITEM_NAME ∷ []) q ≡ false
-forms_unnamed q e = not_true _ (all_of (λ p. not (is_among (ITEM_NAME ∷ []) p)) instruction_forms refl q e)
-
-pub forms_no_others : (q : ℕ) → is_among instruction_forms q ≡ true → is_among others q ≡ false
-forms_no_others q e = not_true _ (all_of (λ p. not (is_among others p)) instruction_forms refl q e)
-
-pub forms_shut : (q : ℕ) → is_among instruction_forms q ≡ true → is_among shut q ≡ true
-forms_shut q e = all_of (is_among shut) instruction_forms refl q e
-
-pub name_among : (q : ℕ) → q ≡ ITEM_NAME → is_among (ITEM_NAME ∷ []) q ≡ true
-name_among q e = ap (is_among (ITEM_NAME ∷ [])) e
-
-pub name_shut : (q : ℕ) → q ≡ ITEM_NAME → is_among shut q ≡ true
-name_shut q e = ap (is_among shut) e
-
-pub name_no_other : (q : ℕ) → q ≡ ITEM_NAME → is_among others q ≡ false
-name_no_other q e = ap (is_among others) e
-
-turned : (p q : ℕ) → (p == q) ≡ false → (q == p) ≡ false
-turned p q e = go (q == p) refl
-  where
-    go : (c : Bool) → (q == p) ≡ c → c ≡ false
-    go false is = refl
-    go true is =
-        let same : q ≡ p = eqb-true q p is in
-        let own : (q == q) ≡ false = ap (λ k. k == q) same ∙ e in
-        let here : (q == q) ≡ true = ap (λ k. q == k) same ∙ is in
-        absurd (false≢true (sym own ∙ here))
-
-pub no_name_among : (q : ℕ) → (q == ITEM_NAME) ≡ false → is_among (ITEM_NAME ∷ []) q ≡ false
-no_name_among q e = ap (λ (c : Bool). c || false) (turned q ITEM_NAME e)
-
-pub unshut : (q : ℕ) → (q == ITEM_NAME) ≡ false → is_among instruction_forms q ≡ false → is_among shut q ≡ false
-unshut q e form = ap (λ (c : Bool). c || is_among instruction_forms q) (turned q ITEM_NAME e) ∙ form
-
-pub no_line_shut : (q : ℕ) → is_among (ITEM_NAME ∷ []) q ≡ false → is_among instruction_forms q ≡ false → is_among shut q ≡ false
-no_line_shut q e form = go (ITEM_NAME == q) e
-  where
-    go : (c : Bool) → (c || false) ≡ false → (c || is_among instruction_forms q) ≡ false
-    go false h = form
-    go true h = absurd (false≢true (sym h))
 
 -- ---- a method without the others
 
@@ -220,10 +130,10 @@ unwritten : (ps : List Part) → [] ≡ map written ps → ps ≡ []
 unwritten [] e = refl
 unwritten (p ∷ ps) e = absurd cc
 
-pub plain_lines : (s : Source) (nodes : List TreeNode) (f : Forest) → preorder f ≡ nodes → HasBodies s f → [] ≡ map written (parts_outside shut others f)
+pub plain_lines : (s : Source) (nodes : List TreeNode) (f : Forest) → preorder f ≡ nodes → HasBodies s f → [] ≡ map written (parts_outside passed_forms others f)
     → IsPlain nodes f
 plain_lines s nodes f e bodies none =
-    let nothing : parts others f ≡ [] = sym (others_past s f bodies) ∙ unwritten (parts_outside shut others f) none in
+    let nothing : parts others f ≡ [] = sym (others_past s f bodies) ∙ unwritten (parts_outside passed_forms others f) none in
     record {
       plain = sym (ap is_plain e) ∙ plain_without f nothing;
       named = ap (flat_map label_names_in) (sym (naming_past s f bodies)) ∙ names_without f nothing;

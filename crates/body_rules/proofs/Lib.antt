@@ -9,10 +9,12 @@ pub mod EndLemmas
 pub mod KnownLemmas
 pub mod LabelWalks
 pub mod LineTable
+pub mod MethodWalks
 pub mod NamedLemmas
 pub mod NamingLemmas
 pub mod OffsetLemmas
 pub mod OperandLemmas
+pub mod PastLemmas
 pub mod RangeNames
 pub mod RealParts
 pub mod ShortBranchLemmas

@@ -32,6 +32,7 @@ use crate::code_places::CodePlaces;
 use crate::instruction_rules::first_in_code;
 use crate::known_names::are_known;
 use crate::label_faults::label_fault;
+use crate::method_walk::first_by_method;
 use crate::operand_ranges::{OperandRanges, has_ranged};
 use crate::short_branches::Reach;
 use crate::short_code::is_short_code;
@@ -44,7 +45,7 @@ use rule_steps::counts::local_past_most;
 use rule_steps::ranges::{Limit, beyond_in_each};
 use source_reading::label_numbers::Labels;
 use source_reading::least::sooner;
-use source_reading::methods::{MethodRule, first_in_methods};
+use source_reading::methods::MethodRule;
 use source_reading::pieces::Piece;
 use source_reading::reader::Reader;
 use std::alloc::Global;
@@ -54,7 +55,7 @@ pub fn body_fault(alloc: Global, reader: &Reader) -> Result<Option<u32>, NoMemor
     requires { IsForest reader.now.nodes.now }
     ensures { (s : Source) → Reads reader.now s → IfOk result (λ k. k ≡ least (broken_in_bodies s)) }
 {
-    let first = first_in_methods(&AllOfBodies, alloc, reader)?;
+    let first = first_by_method(&AllOfBodies, alloc, reader)?;
     Ok(first)
 }
 

@@ -2,16 +2,15 @@
 //! no locals and no clauses (ECMA-335 II.5.4, II.15.4.1), as most have none.
 
 ghost use Rattle.std.specs.Prelude.{◌≡◌, ◌∷◌, ◌++◌, [], IfOk, OnOk};
-ghost use Rattle.source_model.specs.Forest.{Forest, is_among, preorder};
-ghost use Rattle.source_model.specs.Instructions.{instruction_forms};
+ghost use Rattle.source_model.specs.Forest.{Forest, preorder};
 ghost use Rattle.source_model.specs.Source.{Source};
 ghost use Rattle.source_reading.specs.Derived.{HasBodies};
 ghost use Rattle.source_reading.specs.Pieces.{AreParts};
 ghost use Rattle.source_reading.specs.Walk.{IsForest};
-ghost use Rattle.body_rules.specs.CodeLines.{AreLines, is_line, others};
+ghost use Rattle.body_rules.specs.CodeLines.{AreLines, kind_of};
 
 use il_base::{Items, NoMemory};
-use ilasm_grammar::{TreeNode, productions};
+use ilasm_grammar::TreeNode;
 use source_model::{derivations_are_forests, forests_join, forests_open};
 use source_reading::pieces::{Piece, nodes_of};
 use source_reading::walk::leaf_at;
@@ -27,7 +26,7 @@ pub struct Lines {
 }
 
 /// Those of a method, from the nodes below its production. An instruction takes four nodes or more, and most take about eight, so
-/// there is room for most from the start.
+/// there is room for most from the start. What stands in instructions, and before the braces, is gone past.
 pub fn lines_in(alloc: Global, nodes: &[TreeNode]) -> Result<Lines, NoMemory>
     requires { IsForest nodes.now }
     ensures parts { IfOk result (λ x. AreParts nodes.now x.instructions) }
@@ -47,7 +46,8 @@ pub fn lines_in(alloc: Global, nodes: &[TreeNode]) -> Result<Lines, NoMemory>
                 nodes: count,
             } => {
                 let start = at + 1;
-                if !is_line(production) {
+                let kind = kind_of(production);
+                if kind == GOES_ON {
                     at = start;
                 } else {
                     let count = count as usize;
@@ -56,14 +56,16 @@ pub fn lines_in(alloc: Global, nodes: &[TreeNode]) -> Result<Lines, NoMemory>
                         start,
                         count,
                     };
-                    if is_instruction(production) {
+                    if kind == INSTRUCTION {
                         instructions.push(piece)?;
                         at = start + count;
-                    } else if production == productions::ITEM_NAME {
+                    } else if kind == HEAD {
+                        at = start + count;
+                    } else if kind == LABEL {
                         push_label(&mut labels, leaf_at(nodes_of(nodes, piece), 0))?;
                         at = start + count;
                     } else {
-                        plain = plain && !is_other(production);
+                        plain = false;
                         at = start;
                     }
                 }
@@ -92,18 +94,27 @@ fn push_label(labels: &mut Items<u32>, token: u32) -> Result<(), NoMemory>
     }
 }
 
-// Of each production whether it is an instruction, a label or one of the others.
-static LINES: [u8; 704] = [
+// What the walk does at a production: it goes on with what stands below.
+const GOES_ON: u8 = 0;
+// An instruction, and then what stands behind it.
+const INSTRUCTION: u8 = 1;
+// The name of a label, and then what stands behind it.
+const LABEL: u8 = 2;
+// Something before the braces of a method, or a type: what stands behind it is next.
+const HEAD: u8 = 4;
+
+// Of each production which of those it is; 3 where it is one of the others, with which a method isn't plain.
+static KINDS: [u8; 704] = [
+    0, 0, 0, 0, 0, 0, 0, 0, 0, 0, 0, 0, 0, 0, 0, 0, 0, 0, 0, 0, 0, 0, 0, 0, 0, 0, 0, 0, 0, 0, 0, 0,
+    0, 0, 0, 0, 0, 0, 0, 0, 0, 0, 0, 4, 0, 0, 0, 0, 0, 0, 0, 0, 0, 4, 0, 0, 0, 0, 0, 0, 0, 0, 0, 0,
     0, 0, 0, 0, 0, 0, 0, 0, 0, 0, 0, 0, 0, 0, 0, 0, 0, 0, 0, 0, 0, 0, 0, 0, 0, 0, 0, 0, 0, 0, 0, 0,
     0, 0, 0, 0, 0, 0, 0, 0, 0, 0, 0, 0, 0, 0, 0, 0, 0, 0, 0, 0, 0, 0, 0, 0, 0, 0, 0, 0, 0, 0, 0, 0,
     0, 0, 0, 0, 0, 0, 0, 0, 0, 0, 0, 0, 0, 0, 0, 0, 0, 0, 0, 0, 0, 0, 0, 0, 0, 0, 0, 0, 0, 0, 0, 0,
     0, 0, 0, 0, 0, 0, 0, 0, 0, 0, 0, 0, 0, 0, 0, 0, 0, 0, 0, 0, 0, 0, 0, 0, 0, 0, 0, 0, 0, 0, 0, 0,
     0, 0, 0, 0, 0, 0, 0, 0, 0, 0, 0, 0, 0, 0, 0, 0, 0, 0, 0, 0, 0, 0, 0, 0, 0, 0, 0, 0, 0, 0, 0, 0,
     0, 0, 0, 0, 0, 0, 0, 0, 0, 0, 0, 0, 0, 0, 0, 0, 0, 0, 0, 0, 0, 0, 0, 0, 0, 0, 0, 0, 0, 0, 0, 0,
-    0, 0, 0, 0, 0, 0, 0, 0, 0, 0, 0, 0, 0, 0, 0, 0, 0, 0, 0, 0, 0, 0, 0, 0, 0, 0, 0, 0, 0, 0, 0, 0,
-    0, 0, 0, 0, 0, 0, 0, 0, 0, 0, 0, 0, 0, 0, 0, 0, 0, 0, 0, 0, 0, 0, 0, 0, 0, 0, 0, 0, 0, 0, 0, 0,
-    0, 0, 0, 0, 0, 0, 0, 0, 0, 0, 0, 0, 0, 0, 0, 0, 0, 0, 0, 0, 0, 0, 0, 0, 0, 0, 0, 0, 0, 0, 0, 0,
-    0, 0, 0, 0, 0, 0, 0, 0, 0, 0, 0, 0, 0, 0, 0, 0, 1, 0, 1, 0, 0, 0, 0, 0, 0, 0, 1, 1, 1, 1, 1, 1,
+    0, 0, 0, 0, 0, 0, 4, 0, 0, 0, 0, 0, 0, 0, 0, 0, 0, 0, 0, 0, 0, 0, 0, 0, 0, 0, 0, 4, 0, 0, 0, 0,
+    0, 4, 0, 0, 0, 0, 0, 0, 0, 0, 0, 0, 0, 0, 0, 0, 2, 0, 3, 0, 0, 0, 0, 0, 0, 0, 1, 1, 1, 1, 1, 1,
     1, 1, 1, 1, 1, 0, 0, 0, 0, 0, 0, 0, 0, 0, 0, 0, 0, 0, 0, 0, 0, 0, 0, 0, 0, 0, 0, 0, 0, 0, 0, 0,
     0, 0, 0, 0, 0, 0, 0, 0, 0, 0, 0, 0, 0, 0, 0, 0, 0, 0, 0, 0, 0, 0, 0, 0, 0, 0, 0, 0, 0, 0, 0, 0,
     0, 0, 0, 0, 0, 0, 0, 0, 0, 0, 0, 0, 0, 0, 0, 0, 0, 0, 0, 0, 0, 0, 0, 0, 0, 0, 0, 0, 0, 0, 0, 0,
@@ -111,55 +122,19 @@ static LINES: [u8; 704] = [
     0, 0, 0, 0, 0, 0, 0, 0, 0, 0, 0, 0, 0, 0, 0, 0, 0, 0, 0, 0, 0, 0, 0, 0, 0, 0, 0, 0, 0, 0, 0, 0,
     0, 0, 0, 0, 0, 0, 0, 0, 0, 0, 0, 0, 0, 0, 0, 0, 0, 0, 0, 0, 0, 0, 0, 0, 0, 0, 0, 0, 0, 0, 0, 0,
     0, 0, 0, 0, 0, 0, 0, 0, 0, 0, 0, 0, 0, 0, 0, 0, 0, 0, 0, 0, 0, 0, 0, 0, 0, 0, 0, 0, 0, 0, 0, 0,
-    0, 0, 0, 0, 0, 0, 0, 0, 0, 0, 0, 0, 0, 0, 0, 0, 0, 0, 0, 0, 0, 0, 0, 0, 0, 0, 0, 0, 0, 0, 0, 1,
-    0, 0, 0, 0, 0, 0, 0, 0, 0, 0, 0, 0, 1, 0, 1, 1, 1, 1, 0, 1, 1, 0, 0, 0, 0, 0, 0, 0, 0, 0, 0, 0,
+    0, 0, 0, 0, 0, 0, 0, 0, 0, 0, 0, 0, 0, 0, 0, 0, 0, 0, 0, 0, 0, 0, 0, 0, 0, 0, 0, 0, 0, 0, 0, 3,
+    0, 0, 0, 0, 0, 0, 0, 0, 0, 0, 0, 0, 3, 0, 3, 3, 3, 3, 0, 3, 3, 0, 0, 0, 0, 0, 0, 0, 0, 0, 0, 0,
     0, 0, 0, 0, 0, 0, 0, 0, 0, 0, 0, 0, 0, 0, 0, 0, 0, 0, 0, 0, 0, 0, 0, 0, 0, 0, 0, 0, 0, 0, 0, 0,
     0, 0, 0, 0, 0, 0, 0, 0, 0, 0, 0, 0, 0, 0, 0, 0, 0, 0, 0, 0, 0, 0, 0, 0, 0, 0, 0, 0, 0, 0, 0, 0,
     0, 0, 0, 0, 0, 0, 0, 0, 0, 0, 0, 0, 0, 0, 0, 0, 0, 0, 0, 0, 0, 0, 0, 0, 0, 0, 0, 0, 0, 0, 0, 0,
 ];
 
-// Whether a production is one of those.
-fn is_line(production: u16) -> bool
-    ensures { result ≡ is_line production }
+// Which of those a production is.
+fn kind_of(production: u16) -> u8
+    ensures { result ≡ kind_of production }
 {
     if production >= 704 {
-        return false;
+        return GOES_ON;
     }
-    LINES[production as usize] != 0
-}
-
-fn is_instruction(production: u16) -> bool
-    ensures { result ≡ is_among instruction_forms production }
-{
-    matches!(
-        production,
-        productions::INSTRUCTION_OP_NONE
-            | productions::INSTRUCTION_OP_VAR
-            | productions::INSTRUCTION_OP_NUM
-            | productions::INSTRUCTION_OP_REAL
-            | productions::INSTRUCTION_OP_BRANCH
-            | productions::INSTRUCTION_OP_METHOD
-            | productions::INSTRUCTION_OP_FIELD
-            | productions::INSTRUCTION_OP_TYPE
-            | productions::INSTRUCTION_SWITCH
-            | productions::INSTRUCTION_LDSTR
-            | productions::INSTRUCTION_LDTOKEN
-    )
-}
-
-fn is_other(production: u16) -> bool
-    ensures { result ≡ is_among others production }
-{
-    matches!(
-        production,
-        productions::ITEM_MAXSTACK
-            | productions::LOCAL
-            | productions::CLAUSE_CATCH
-            | productions::CLAUSE_FILTER
-            | productions::CLAUSE_FINALLY
-            | productions::CLAUSE_FAULT
-            | productions::TRY_RANGE_NAME
-            | productions::HANDLER_HANDLER
-            | productions::FILTER_START_NAME
-    )
+    KINDS[production as usize]
 }

@@ -15,6 +15,7 @@ pub mod instruction_rules;
 pub mod known_names;
 pub mod label_faults;
 pub mod label_rules;
+pub mod method_walk;
 pub mod operand_ranges;
 pub mod short_branches;
 pub mod short_code;

@@ -4,15 +4,15 @@ use Rattle.ilasm_grammar.specs.declared.productions.TheConstants.{ITEM_NAME}
 use Rattle.source_model.specs.Instructions.{instruction_forms}
 use Rattle.source_flags.proofs.PastShut.{Gathered}
 use Rattle.body_rules.specs.CodeLines.{others}
-use Rattle.body_rules.proofs.CodeLineLemmas.{shut}
 use Rattle.body_rules.proofs.LabelWalks.{Named}
+use Rattle.body_rules.proofs.PastLemmas.{passed_forms}
 use Rattle.body_rules.proofs.code_lines.lines_in.Given as goal
 
 abbrev pub invariant-loop-node : goal.invariant-loop-node
 invariant-loop-node l = record {
-  pieces : Gathered l.nodes (ITEM_NAME ∷ []) instruction_forms l.at l.instructions;
-  named : Named l.nodes instruction_forms (ITEM_NAME ∷ []) l.at l.labels;
-  plain-is : l.plain ≡ true → Gathered l.nodes shut others l.at [];
+  pieces : Gathered l.nodes passed_forms instruction_forms l.at l.instructions;
+  named : Named l.nodes passed_forms (ITEM_NAME ∷ []) l.at l.labels;
+  plain-is : l.plain ≡ true → Gathered l.nodes passed_forms others l.at [];
 }
 
 abbrev pub decreases-loop-node : goal.decreases-loop-node

@@ -1,5 +1,5 @@
 use Rattle.body_rules.proofs.LineTable.{bytes_are, none_past}
-use Rattle.body_rules.proofs.code_lines.is_line.Goals as goal
+use Rattle.body_rules.proofs.code_lines.kind_of.Goals as goal
 
 pub returns-then-production-ge704 : goal.returns-then-production-ge704
 returns-then-production-ge704 c = none_past c.args.production c.if-production-ge704.true
