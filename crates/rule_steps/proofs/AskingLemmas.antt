@@ -1,9 +1,10 @@
 -- What a rule finds at the productions of a forest, piece by piece.
-use Rattle.std.proofs.Common.{◌≡◌, ℕ, zero, suc, ◌<◌, ◌≤◌, List, [], ◌∷◌, ◌++◌, length, map, take, drop, ap, sym, ◌∙◌, refl, subst, arith, length-drop}
+use Rattle.std.proofs.Common.{◌≡◌, ℕ, zero, suc, ◌+◌, ◌<◌, ◌≤◌, List, [], ◌∷◌, ◌++◌, length, map, take, drop, ap, sym, ◌∙◌, refl, subst, arith, length-drop}
 use Rattle.std.specs.Prelude.{Bool, true, false, ◌==◌, ◌||◌, if◌then◌else◌, Option, None, Some}
 use Rattle.std.specs.List.{AllByRecursion, flat_map}
 use Rattle.std.proofs.lemmas.Bool.{eqb-true}
-use Rattle.std.proofs.lemmas.List.{length-map, length-take, take-append-drop}
+use Rattle.std.proofs.Math.Seq.{take-add}
+use Rattle.std.proofs.lemmas.List.{drop-drop, length-map, length-take, take-append-drop}
 use Rattle.ilasm_grammar.specs.declared.productions.TheConstants.{CLASS, METHOD, TYPAR, TYPARS_OPT_SOME}
 use Rattle.ilasm_grammar.specs.declared.tree.TreeNode.{TreeNode}
 use Rattle.ilasm_grammar.specs.declared.tree.TreeNode.TheVariants.{Branch, Leaf}
@@ -21,6 +22,7 @@ use Rattle.source_reading.specs.Walk.{IsForest}
 use Rattle.rule_steps.specs.declared.asking.Surrounding.{Surrounding}
 use Rattle.source_reading.specs.declared.reader.Reader.{Reader}
 use Rattle.source_reading.proofs.Collecting.{of_joined}
+use Rattle.source_reading.proofs.LabelTokens.{all_append}
 use Rattle.source_reading.proofs.LeastLemmas.{flat_append, least_append, sooner_assoc}
 use Rattle.source_reading.proofs.SizeLemmas.{child_smaller, few_each}
 use Rattle.source_reading.proofs.Stepping.{Steps, step_into_branch, step_past_leaf}
@@ -179,6 +181,17 @@ module _ (opens : ForestOpens) (joins : ForestsJoin) (one : OneForest) (broken :
   quiet_left left behind passes steps bodied =
       let far = quiet_past passes.many left passes.quiet steps bodied in
       (subst (Steps now whole nodes) (sym passes.left-is) far.0, λ s h. subst (Bodied s) (sym passes.left-is) (far.1 s h))
+
+-- further past it
+pub quiet_further : (broken : Source → Node → List ℕ) (nodes left behind : List TreeNode) (n : ℕ) → PassesQuiet broken nodes left
+    → AllByRecursion (IsQuiet broken) (take n left) → behind ≡ drop n left → PassesQuiet broken nodes behind
+quiet_further broken nodes left behind n passes quiet e = record {
+  many = passes.many + n;
+  quiet = subst (AllByRecursion (IsQuiet broken)) (sym (take-add passes.many n nodes))
+      (all_append (IsQuiet broken) (take passes.many nodes) (take n (drop passes.many nodes)) passes.quiet
+      (subst (λ ns. AllByRecursion (IsQuiet broken) (take n ns)) passes.left-is quiet));
+  left-is = e ∙ ap (drop n) passes.left-is ∙ drop-drop n passes.many nodes;
+}
 
 pub left_shorter : (k : ℕ) (left nodes rest : List TreeNode) → rest ≡ drop k left → length left ≤ length nodes → length rest ≤ length nodes
 left_shorter k left nodes rest e within =

@@ -154,30 +154,60 @@ fn first_among<'n, R: Rule>(
 fn past_quiet<'n, R: Rule>(rule: &R, nodes: &'n [TreeNode]) -> &'n [TreeNode]
     ensures { PassesQuiet (R.broken rule.now) nodes.now result.now }
 {
-    let (_, left) = nodes.split_at(quiet_front(rule, nodes));
+    let mut left = nodes;
+    while left.len() >= 8 {
+        let quiet = quiet_of_eight(rule, left);
+        let (_, behind) = left.split_at(quiet);
+        if quiet < 8 {
+            return behind;
+        }
+        left = behind;
+    }
+    while let [node, rest @ ..] = left {
+        if !is_quiet(rule, node) {
+            return left;
+        }
+        left = rest;
+    }
     left
 }
 
-// How many of them there are.
-fn quiet_front<R: Rule>(rule: &R, nodes: &[TreeNode]) -> usize
-    ensures within { result ≤ length nodes.now }
+// How many of the first eight nodes they are.
+fn quiet_of_eight<R: Rule>(rule: &R, nodes: &[TreeNode]) -> usize
+    requires { 8 ≤ length nodes.now }
+    ensures most { result ≤ 8 }
     ensures quiet { AllByRecursion (IsQuiet (R.broken rule.now)) (take result nodes.now) }
 {
-    let mut at = 0;
-    while let Some(node) = nodes.get(at) {
-        if !is_quiet(rule, *node) {
-            return at;
-        }
-        at += 1;
+    let [a, b, c, d, e, f, g, h, ..] = nodes else {
+        return 0;
+    };
+    if !is_quiet(rule, a) {
+        0
+    } else if !is_quiet(rule, b) {
+        1
+    } else if !is_quiet(rule, c) {
+        2
+    } else if !is_quiet(rule, d) {
+        3
+    } else if !is_quiet(rule, e) {
+        4
+    } else if !is_quiet(rule, f) {
+        5
+    } else if !is_quiet(rule, g) {
+        6
+    } else if !is_quiet(rule, h) {
+        7
+    } else {
+        8
     }
-    at
 }
 
-fn is_quiet<R: Rule>(rule: &R, node: TreeNode) -> bool
-    ensures { result ≡ true → IsQuiet (R.broken rule.now) node }
+// Whether a node is a token, or has a production of which the rule doesn't speak.
+fn is_quiet<R: Rule>(rule: &R, node: &TreeNode) -> bool
+    ensures { result ≡ true → IsQuiet (R.broken rule.now) node.now }
 {
     match node {
-        TreeNode::Branch { production, .. } => !rule.speaks_of(production),
+        TreeNode::Branch { production, .. } => !rule.speaks_of(*production),
         TreeNode::Leaf { .. } => true,
     }
 }
