@@ -60,7 +60,7 @@ pub fn classes_in<R: MemberReader>(
     derivations_are_forests();
     forests_open();
     forests_join();
-    let mut all = Items::new(alloc);
+    let mut all = room_for(alloc, outside, nodes.len())?;
     let mut found = Items::new(alloc);
     let mut left = nodes;
     while let Some((node, rest)) = next(left) {
@@ -91,6 +91,16 @@ pub fn classes_in<R: MemberReader>(
             TreeNode::Leaf { .. } => left = rest,
         }
     }
+    Ok(all)
+}
+
+// No classes. Outside of all classes there is room for those of a large source, where a class takes some hundred nodes, so that
+// they needn't be moved as they become more.
+fn room_for(alloc: Global, outside: bool, nodes: usize) -> Result<TypeDefs, NoMemory>
+    ensures { IfOk result (λ all. all ≡ []) }
+{
+    let count = if outside { nodes / 64 } else { 0 };
+    let all = Items::with_capacity(alloc, count)?;
     Ok(all)
 }
 

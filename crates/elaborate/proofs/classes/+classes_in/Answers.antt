@@ -23,7 +23,7 @@ pub loop-node-init : goal.loop-node-init
 loop-node-init g t c = record {
   forest = c.requires.forest;
   shorter = omega arith;
-  so_far = λ s a f v k o e h. subst (Walked s a f c.args.nodes.now) (sym c.new-all.ensures) (walked_start s a f c.args.nodes.now e h);
+  so_far = λ s a f v k o e h. subst (Walked s a f c.args.nodes.now) (sym c.in_ok-all.ensures) (walked_start s a f c.args.nodes.now e h);
 }
 
 pub split_at-requires : goal.split_at-requires
