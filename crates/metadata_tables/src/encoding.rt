@@ -106,7 +106,7 @@ fn push_row(out: &mut Bytes, cells: &[u32], widths: &[u8]) -> Result<(), NoMemor
     Ok(())
 }
 
-/// Adds a cell of 1, 2 or 4 bytes.
+/// Adds a cell of 1, 2 or 4 bytes, one by one: a call that adds several takes longer.
 #[tactic(auto, unfolding(crate::specs::Bytes::number_bytes))]
 fn push_cell(out: &mut Bytes, cell: u32, width: u8) -> Result<(), NoMemory>
     requires { FitsCell width cell }
@@ -114,8 +114,18 @@ fn push_cell(out: &mut Bytes, cell: u32, width: u8) -> Result<(), NoMemory>
 {
     match width {
         1 => out.push(cell as u8),
-        2 => out.extend(&(cell as u16).to_le_bytes()),
-        _ => out.extend(&cell.to_le_bytes()),
+        2 => {
+            let [low, high] = (cell as u16).to_le_bytes();
+            out.push(low)?;
+            out.push(high)
+        }
+        _ => {
+            let [first, second, third, fourth] = cell.to_le_bytes();
+            out.push(first)?;
+            out.push(second)?;
+            out.push(third)?;
+            out.push(fourth)
+        }
     }
 }
 

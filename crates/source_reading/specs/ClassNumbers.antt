@@ -6,7 +6,7 @@ use Rattle.assembly_tree.specs.DataSize.{is_id}
 use Rattle.source_model.specs.Names.{is_path}
 use Rattle.source_reading.specs.Chains.{IsChained}
 use Rattle.source_reading.specs.Nested.{IsNested, child, is_child, reached}
-use Rattle.source_reading.specs.TextHash.{mix, mix_text, text_hash}
+use Rattle.source_reading.specs.TextHash.{mix, mix_text_near, text_hash}
 use Rattle.source_reading.specs.declared.class_paths.ClassName.{ClassName}
 
 abbrev pub outer_of : ClassName → ℕ
@@ -40,7 +40,7 @@ Knows cs paths = (id : TypeId) (more : List TypeId) → is_some (class_numbered 
 
 -- the hash by which a class is found
 unfoldable pub class_hash : ClassName → ℕ
-class_hash c = mix (mix_text (text_hash c.id.space) c.id.name) c.outer
+class_hash c = mix_text_near (mix (text_hash c.id.space) c.outer) c.id.name
 
 -- no class stands there twice
 abbrev pub AreDistinct : List ClassName → Type 0

@@ -1,4 +1,4 @@
--- The hash by which a text is found: FNV-1a at 64 bits over its bytes.
+-- The hashes by which texts are found: FNV-1a at 64 bits over their bytes, or FNV-1 over their bytes doubled.
 use Rattle.std.specs.Prelude.{ℕ, ◌*◌, ◌%◌, ◌^◌, List, fold, bit_xor}
 
 -- one step of FNV-1a
@@ -11,3 +11,10 @@ mix_text hash text = fold mix hash text
 -- the hash of a text alone
 unfoldable pub text_hash : List ℕ → ℕ
 text_hash text = mix_text 0xCBF29CE484222325 text
+
+-- one step of FNV-1, of a number doubled
+unfoldable pub mix_near : ℕ → ℕ → ℕ
+mix_near hash number = bit_xor ((hash * 0x00000100000001B3) % (2 ^ 64)) (2 * number)
+
+unfoldable pub mix_text_near : ℕ → List ℕ → ℕ
+mix_text_near hash text = fold mix_near hash text

@@ -9,7 +9,7 @@ ghost use Rattle.source_reading.specs.NameTexts.{id_with};
 ghost use Rattle.source_reading.specs.Nested.{IsNested};
 
 use crate::equality::are_equal;
-use crate::hashes::{mix, mix_text, text_hash};
+use crate::hashes::{mix, mix_text_near, text_hash};
 use hash_places::HashPlaces;
 use il_base::{Bytes, Items, NoMemory};
 use std::alloc::Global;
@@ -146,7 +146,7 @@ impl ClassPaths {
 fn class_hash(outer: usize, space: &[u8], name: &[u8]) -> u64
     ensures { result ≡ class_hash (class_of outer (id_with space.now name.now)) }
 {
-    mix(mix_text(text_hash(space), name), outer as u64)
+    mix_text_near(mix(text_hash(space), outer as u64), name)
 }
 
 // Whether a class has a name and stands in the class of a number.
