@@ -1,5 +1,5 @@
 -- The hashes by which names, types and references are found again: FNV-1 at 64 bits over what they are made of.
-use Rattle.std.specs.Prelude.{ℕ, ◌*◌, ◌/◌, ◌%◌, ◌^◌, List, Option, Some, None, fold, bit_xor}
+use Rattle.std.specs.Prelude.{ℕ, ◌+◌, ◌*◌, ◌/◌, ◌%◌, ◌^◌, List, Option, Some, None, fold, bit_xor}
 use Rattle.type_terms.specs.Order.{prim_place}
 use Rattle.type_terms.specs.declared.name.Scope.{Scope}
 use Rattle.type_terms.specs.declared.name.Scope.TheVariants.{Here, Extern}
@@ -26,7 +26,7 @@ mix_doubled hash number = mix hash (2 * number)
 
 -- the cells of a row
 abbrev pub hash_cells : ℕ → ℕ → ℕ → ℕ
-hash_cells first second third = mix (mix (mix (mix start first) third) (second / 32)) (2 * (second % 32))
+hash_cells first second third = mix (mix (mix start first) third) (second % 4 * 2 ^ 62 + second / 4)
 
 -- the bytes of a text, or units
 unfoldable pub mix_text : ℕ → List ℕ → ℕ

@@ -19,15 +19,15 @@ fn mix(hash: u64, number: u64) -> u64
     hash.wrapping_mul(0x0000_0100_0000_01B3) ^ number
 }
 
-/// The hash of the cells of a row. The last bits of the second cell, which is mostly the index of a name, come last: names that
-/// follow one another in their heap stand near one another in a table.
+/// The hash of the cells of a row. The second cell, which is mostly the index of a name, comes last, all but its last two bits
+/// in the low bits: names that follow one another in their heap stand near one another in a table, in the same order.
 pub fn hash_cells(first: u32, second: u32, third: u32) -> u64
     ensures { result ≡ hash_cells first second third }
 {
     let hash = mix(mix(START, u64::from(first)), u64::from(third));
     mix(
-        mix(hash, u64::from(second / 32)),
-        2 * u64::from(second % 32),
+        hash,
+        u64::from(second % 4) * (1 << 62) + u64::from(second / 4),
     )
 }
 
