@@ -7,6 +7,7 @@ pub mod Elaborated
 pub mod InterfaceLemmas
 pub mod NestedLemmas
 pub mod PassedForms
+pub mod PlainLemmas
 pub mod SizeLemmas
 pub mod SizelessLemmas
 pub mod StandingLemmas

@@ -1,14 +1,18 @@
 //! The assembly that a source denotes, or the first rule that it breaks (ECMA-335 II.5 to II.19, II.21).
 
-ghost use Rattle.std.specs.Prelude.{◌≡◌, ◌⊎◌, ℕ, ◌<◌, ◌≤◌, ◌^◌, Err, IfErr, IfOk, IsTrue, Ok, length};
+ghost use Rattle.std.specs.Prelude.{◌≡◌, ◌⊎◌, ℕ, List, ◌<◌, ◌≤◌, ◌^◌, Err, IfErr, IfOk, IsTrue, Ok, length, true};
 ghost use Rattle.assembly_tree.specs.WellFormed.{is_well_formed};
 ghost use Rattle.assembly_tree.specs.declared.assembly.Assembly.{Assembly};
 ghost use Rattle.elaborate.specs.Elaborated.{IsCause};
 ghost use Rattle.elaborate.specs.SourceMembers.{ReadsSome};
+ghost use Rattle.elaborate.specs.Standing.{HaveNeither};
 ghost use Rattle.elaborate.specs.declared.name_fault.NameFault.TheVariants.{Bad, NoMemory};
 ghost use Rattle.il_base.specs.declared.pos.Pos.{Pos};
 ghost use Rattle.il_lexer.specs.Lexing.{Lexes};
 ghost use Rattle.ilasm_grammar.specs.Parsing.{IsTreeOf};
+ghost use Rattle.ilasm_grammar.specs.declared.productions.TheConstants.{DATA, MEMBER_SIZE};
+ghost use Rattle.ilasm_grammar.specs.declared.tree.TreeNode.{TreeNode};
+ghost use Rattle.source_faults.specs.Census.{IsCensus};
 ghost use Rattle.source_model.specs.Denotes.{Denotes, HasNameFault};
 ghost use Rattle.source_model.specs.declared.fault.NameClass.{NameClass};
 
@@ -17,9 +21,11 @@ use crate::name_fault::NameFault;
 use assembly_tree::Assembly;
 use formed_assemblies::laws::what_is_denoted_is_formed;
 use il_lexer::types::Tokens;
+use ilasm_grammar::productions::{DATA, MEMBER_SIZE};
 use ilasm_grammar::{Tree, one_derivation};
 use method_parts::laws::faultless_sources_are_whole;
-use source_faults::faults::first_fault;
+use source_faults::census::{Census, census_of};
+use source_faults::faults::first_fault_by;
 use source_model::{derivations_are_forests, one_meaning};
 use source_reading::reader::Reader;
 use std::alloc::Global;
@@ -71,13 +77,22 @@ fn read_source(alloc: Global, reader: &Reader) -> Result<Assembly, NameFault>
     ensures cause { IfErr result (IsCause reader.now.source.now) }
 {
     faultless_sources_are_whole();
-    if let Some(fault) = first_fault(alloc, reader)? {
+    let census = census_of(reader.nodes);
+    let plain = is_plain(&census);
+    if let Some(fault) = first_fault_by(alloc, reader, census)? {
         return Err(NameFault::Bad {
             pos: fault.pos,
             class: fault.class,
             rule: fault.rule,
         });
     }
-    let found = read_faultless(alloc, reader)?;
+    let found = read_faultless(alloc, reader, plain)?;
     Ok(found)
+}
+
+// Whether a source has neither data nor sizes of classes.
+fn is_plain(census: &Census) -> bool
+    ensures { (nodes : List TreeNode) → IsCensus nodes census.now → result ≡ true → HaveNeither DATA MEMBER_SIZE nodes }
+{
+    census.count(DATA) == 0 && census.count(MEMBER_SIZE) == 0
 }

@@ -2,9 +2,9 @@
 
 ghost use Rattle.std.specs.Prelude.{◌≡◌, ◌<◌, ◌^◌, IfOk, length, true};
 ghost use Rattle.elaborate.specs.SourceMembers.{ReadsSome};
-ghost use Rattle.elaborate.specs.Standing.{stands_outside};
+ghost use Rattle.elaborate.specs.Standing.{HaveNeither, stands_outside};
 ghost use Rattle.elaborate.specs.WholeParts.{AllWhole};
-ghost use Rattle.ilasm_grammar.specs.declared.productions.TheConstants.{ASSEMBLY_ASSEMBLY_ATTR_STAR, DATA};
+ghost use Rattle.ilasm_grammar.specs.declared.productions.TheConstants.{ASSEMBLY_ASSEMBLY_ATTR_STAR, DATA, MEMBER_SIZE};
 ghost use Rattle.member_parts.specs.LabelledData.{AreData};
 ghost use Rattle.source_flags.specs.InRange.{AllInRange};
 ghost use Rattle.source_model.specs.Classes.{assembly};
@@ -16,7 +16,7 @@ ghost use Rattle.source_reading.specs.Walk.{IsForest};
 use crate::assemblies::read_assembly;
 use crate::known_sizes::read_sizes;
 use crate::source_members::SourceMembers;
-use crate::standing::find_standing;
+use crate::standing::standing_of;
 use assembly_tree::Assembly;
 use il_base::NoMemory;
 use ilasm_grammar::productions::{DATA, MEMBER_SIZE};
@@ -24,13 +24,15 @@ use member_parts::labelled_data::{LabelledData, collect_data, no_data};
 use source_reading::reader::Reader;
 use std::alloc::Global;
 
-/// The assembly that a source denotes, whose productions are whole and which has the declaration of an assembly.
-pub fn read_faultless(alloc: Global, reader: &Reader) -> Result<Assembly, NoMemory>
+/// The assembly that a source denotes, whose productions are whole and which has the declaration of an assembly; `plain` where it
+/// is known to have neither data nor sizes of classes.
+pub fn read_faultless(alloc: Global, reader: &Reader, plain: bool) -> Result<Assembly, NoMemory>
     requires reads { ReadsSome reader.now }
     requires few_nodes { length reader.now.nodes.now < 2 ^ 32 }
+    requires plain { plain ≡ true → HaveNeither DATA MEMBER_SIZE reader.now.nodes.now }
     ensures { (s : Source) → Reads reader.now s → AllWhole s s.tree → has ASSEMBLY_ASSEMBLY_ATTR_STAR s.tree ≡ true → IfOk result (λ a. a ≡ assembly s) }
 {
-    let stated = find_standing(reader.nodes, DATA, MEMBER_SIZE);
+    let stated = standing_of(reader.nodes, DATA, MEMBER_SIZE, plain);
     let labelled = read_data(alloc, reader, stated.first)?;
     let sizes = read_sizes(alloc, reader, stated.second)?;
     let members = SourceMembers {

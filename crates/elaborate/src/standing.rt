@@ -1,7 +1,7 @@
 //! Whether parts of two productions stand in a source outside of what holds neither data nor the sizes of classes.
 
-ghost use Rattle.std.specs.Prelude.{◌≡◌, ◌||◌, ◌==◌};
-ghost use Rattle.elaborate.specs.Standing.{IsStanding, passed_forms};
+ghost use Rattle.std.specs.Prelude.{◌≡◌, ◌||◌, ◌==◌, true};
+ghost use Rattle.elaborate.specs.Standing.{HaveNeither, IsStanding, passed_forms};
 ghost use Rattle.source_model.specs.Forest.{Forest, is_among, preorder};
 ghost use Rattle.source_reading.specs.Walk.{IsForest};
 
@@ -16,8 +16,23 @@ pub struct Standing {
     pub second: bool,
 }
 
+/// The same as `find_standing`, without a walk where it is known that no node has either production.
+pub fn standing_of(nodes: &[TreeNode], first: u16, second: u16, none: bool) -> Standing
+    requires forest { IsForest nodes.now }
+    requires none { none ≡ true → HaveNeither first second nodes.now }
+    ensures { (f : Forest) → preorder f ≡ nodes.now → IsStanding first second f result }
+{
+    if none {
+        return Standing {
+            first: false,
+            second: false,
+        };
+    }
+    find_standing(nodes, first, second)
+}
+
 /// Whether parts of these productions stand outside of the heads of classes, of methods and of the like, found in one walk.
-pub fn find_standing(nodes: &[TreeNode], first: u16, second: u16) -> Standing
+fn find_standing(nodes: &[TreeNode], first: u16, second: u16) -> Standing
     requires { IsForest nodes.now }
     ensures { (f : Forest) → preorder f ≡ nodes.now → IsStanding first second f result }
 {

@@ -5,8 +5,9 @@ ghost use Rattle.source_model.specs.Source.{Source};
 ghost use Rattle.source_reading.specs.Readers.{Reads};
 ghost use Rattle.source_reading.specs.Walk.{IsForest};
 ghost use Rattle.source_faults.specs.AllDeclared.{AreDeclarations};
+ghost use Rattle.source_faults.specs.Census.{IsCensusOf};
 
-use crate::census::{Census, census_of};
+use crate::census::Census;
 use crate::declared_names::collect_some;
 use il_base::NoMemory;
 use ilasm_grammar::productions::{ASSEMBLY_ASSEMBLY_ATTR_STAR, ASSEMBLY_EXTERN, DATA};
@@ -30,12 +31,16 @@ pub struct Declarations {
     pub census: Census,
 }
 
-/// All that a source declares.
-pub fn collect_declarations(alloc: Global, reader: &Reader) -> Result<Declarations, NoMemory>
-    requires { IsForest reader.now.nodes.now }
+/// All that a source declares, whose nodes have this census.
+pub fn collect_declarations(
+    alloc: Global,
+    reader: &Reader,
+    census: Census,
+) -> Result<Declarations, NoMemory>
+    requires forest { IsForest reader.now.nodes.now }
+    requires counted { IsCensusOf reader.now.nodes.now census }
     ensures { (s : Source) → Reads reader.now s → IfOk result (AreDeclarations s) }
 {
-    let census = census_of(reader.nodes);
     let data = census.count(DATA);
     let others = census.count(ASSEMBLY_EXTERN);
     let owns = census.count(ASSEMBLY_ASSEMBLY_ATTR_STAR);

@@ -1,4 +1,4 @@
-//! How many nodes of a source have the productions that rules ask for, and whether types are long: what a source has none of isn't looked for.
+//! How many nodes of a source have the productions that are asked for, and whether types are long: what a source has none of isn't looked for.
 
 ghost use Rattle.std.specs.Prelude.{◌≡◌, ◌≤◌, ◌<◌, ◌^◌, ◌+◌, ◌==◌, ◌||◌, ◌&&◌, ℕ, nat_lt, slice_index_or, true, false};
 ghost use Rattle.std.specs.List.{list_any};
@@ -20,6 +20,7 @@ const MARKS: u64 = 1 << (productions::DECL_MODULE & 63)
     | 1 << (productions::PROPERTY & 63)
     | 1 << (productions::EVENT & 63)
     | 1 << (productions::DATA & 63)
+    | 1 << (productions::MEMBER_SIZE & 63)
     | 1 << (productions::TYPE & 63);
 
 /// How many nodes have each production that is asked for.

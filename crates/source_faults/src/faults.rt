@@ -6,9 +6,11 @@ ghost use Rattle.source_model.specs.Source.{Source, place_at};
 ghost use Rattle.source_reading.specs.Readers.{Reads};
 ghost use Rattle.source_reading.specs.Walk.{IsForest};
 ghost use Rattle.source_faults.specs.AllDeclared.{AreDeclarations};
+ghost use Rattle.source_faults.specs.Census.{IsCensusOf};
 ghost use Rattle.source_faults.specs.SourceFaults.{IsFault, IsFirst, classed};
 
 use crate::all_declared::{Declarations, collect_declarations};
+use crate::census::{Census, census_of};
 use crate::declared_twice::declared_twice;
 use crate::not_declared::not_declared;
 use crate::out_of_bounds::out_of_bounds;
@@ -48,7 +50,24 @@ pub fn first_fault(alloc: Global, reader: &Reader) -> Result<Option<Fault>, NoMe
     requires few_nodes { length reader.now.nodes.now < 2 ^ 32 }
     ensures { (s : Source) → Reads reader.now s → IfOk result (λ f. IsFault s f) }
 {
-    match first_broken(alloc, reader)? {
+    let census = census_of(reader.nodes);
+    first_fault_by(alloc, reader, census)
+}
+
+/// The same of a source whose nodes have this census.
+pub fn first_fault_by(
+    alloc: Global,
+    reader: &Reader,
+    census: Census,
+) -> Result<Option<Fault>, NoMemory>
+    requires forest { IsForest reader.now.nodes.now }
+    requires short { length reader.now.source.now ≤ 2 ^ 27 }
+    requires few { length reader.now.tokens.now ≤ 2 ^ 24 }
+    requires few_nodes { length reader.now.nodes.now < 2 ^ 32 }
+    requires counted { IsCensusOf reader.now.nodes.now census }
+    ensures { (s : Source) → Reads reader.now s → IfOk result (λ f. IsFault s f) }
+{
+    match first_broken(alloc, reader, census)? {
         Some(first) => Ok(Some(Fault {
             pos: place_of(reader, first.breach.token),
             class: first.class,
@@ -70,13 +89,14 @@ fn place_of(reader: &Reader, token: u32) -> Pos
 }
 
 // The first rule that is broken, with its class.
-fn first_broken(alloc: Global, reader: &Reader) -> Result<Option<Classed>, NoMemory>
+fn first_broken(alloc: Global, reader: &Reader, census: Census) -> Result<Option<Classed>, NoMemory>
     requires forest { IsForest reader.now.nodes.now }
     requires few { length reader.now.tokens.now < 2 ^ 32 }
     requires few_nodes { length reader.now.nodes.now < 2 ^ 32 }
+    requires counted { IsCensusOf reader.now.nodes.now census }
     ensures { (s : Source) → Reads reader.now s → IfOk result (λ f. IsFirst s f) }
 {
-    let declared = collect_declarations(alloc, reader)?;
+    let declared = collect_declarations(alloc, reader, census)?;
     let first = first_of_all(alloc, reader, &declared)?;
     Ok(first)
 }

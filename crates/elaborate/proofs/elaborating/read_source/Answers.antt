@@ -10,3 +10,9 @@ returns-clause-assembly c =
     let faultless = subst (IsFault s) c.in_default.is (c.in_ok-fault.ensures s r) in
     let whole = c.faultless_sources_are_whole.ensures s r.derived faultless in
     denotes c.args.reader.now s c.in_ok-found.found r faultless (c.in_ok-found.ensures s r whole (has_assembly s faultless))
+
+pub first_fault_by-requires-clause-counted : goal.first_fault_by-requires-clause-counted
+first_fault_by-requires-clause-counted c = record { counts = c.census_of-census.ensures.counts; long-types = c.census_of-census.ensures.long }
+
+pub read_faultless-found-requires-clause-plain : goal.read_faultless-found-requires-clause-plain
+read_faultless-found-requires-clause-plain c plain = c.is_plain.ensures c.args.reader.now.nodes.now c.census_of-census.ensures.counts plain

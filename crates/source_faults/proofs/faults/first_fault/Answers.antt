@@ -1,13 +1,4 @@
-use Rattle.std.proofs.Common.{◌∙◌, ap, subst, sym}
-use Rattle.source_faults.specs.SourceFaults.{IsFirst}
 use Rattle.source_faults.proofs.faults.first_fault.Goals as goal
 
-pub returns-in-Some : goal.returns-in-Some
-returns-in-Some c s r = record {
-  token = c.in-Some.first.breach.token;
-  first = subst (IsFirst s) c.in-Some.is (c.in_ok-first.ensures s r);
-  place = c.place_of.ensures s r;
-}
-
-pub returns-in-None : goal.returns-in-None
-returns-in-None c s r = subst (IsFirst s) c.in-None.is (c.in_ok-first.ensures s r)
+pub first_fault_by-requires-clause-counted : goal.first_fault_by-requires-clause-counted
+first_fault_by-requires-clause-counted c = record { counts = c.census_of-census.ensures.counts; long-types = c.census_of-census.ensures.long }
