@@ -1,13 +1,15 @@
 //! From the bytes of a source to what it says.
 ghost use Rattle.std.specs.Prelude.{◌≡◌, ◌≤◌, ◌^◌, length, IfErr, IfOk, IsTrue};
 ghost use Rattle.assembly_tree.specs.WellFormed.{is_well_formed};
-ghost use Rattle.il_lexer.specs.Lexing.{IsAccepted};
+ghost use Rattle.il_lexer.specs.Lexing.{IsAccepted, place_of};
+ghost use Rattle.ilasm_grammar.specs.Parsing as parsing;
 ghost use Rattle.ilasm_grammar.specs.Parsing.{IsTreeOf};
 ghost use Rattle.source_assembly.specs.Reading.{IsAssemblyOf, IsCause};
 
 use crate::fault::{ReadFault, SourceFault};
 use assembly_tree::Assembly;
 use elaborate::{NameFault, elaborate};
+use il_base::Pos;
 use il_lexer::types::Tokens;
 use il_lexer::{LexFault, end_place, lexes_in_one_way, tokens};
 use ilasm_grammar::{SyntaxFault, Tree, parse};
@@ -44,13 +46,27 @@ fn of_tokens(alloc: Global, source: &[u8], tokens: &Tokens) -> Result<Assembly, 
     ensures formed { IfOk result (λ a. IsTrue (is_well_formed a)) }
     ensures cause { IfErr result (IsCause source.now) }
 {
-    match parse(alloc, tokens, end_place(source)) {
+    match derivation(alloc, source, tokens) {
         Ok(tree) => of_tree(alloc, source, tokens, &tree),
         Err(SyntaxFault::Bad { pos, rule }) => Err(ReadFault::Faulty(SourceFault::Syntax {
             line: pos.line,
             rule,
         })),
         Err(SyntaxFault::NoMemory) => Err(ReadFault::NoMemory),
+    }
+}
+
+/// The derivation of the source's tokens, or their syntax fault. Only a fault asks where the source ends, which takes a walk over
+/// it; the tokens are then parsed once more.
+fn derivation(alloc: Global, source: &[u8], tokens: &Tokens) -> Result<Tree, SyntaxFault>
+    requires short { length source.now ≤ 2 ^ 27 }
+    requires accepted { IsAccepted source.now tokens.now }
+    ensures tree { IfOk result (IsTreeOf tokens.now) }
+    ensures cause { IfErr result (parsing.IsCause tokens.now (place_of source.now (length source.now))) }
+{
+    match parse(alloc, tokens, Pos { line: 1, col: 1 }) {
+        Ok(tree) => Ok(tree),
+        Err(_) => parse(alloc, tokens, end_place(source)),
     }
 }
 
