@@ -14,7 +14,7 @@ module _ (shut : List ℕ) (p : ℕ) where
   none_outside (tree.leaf k a) e =
       let first = count_first p (Leaf k) (preorder a) in
       none_outside a (omega (arith, e, first))
-  none_outside (tree.branch q b a) e = go (p == q) refl
+  none_outside (tree.branch q b a) e = go (p == q) refl (λ none. none_outside b none) (λ none. none_outside a none)
     where
       all : count_of p (preorder (tree.branch q b a)) ≡ one_if (p == q) + (count_of p (preorder b) + count_of p (preorder a))
       all = count_branch p q b a
@@ -25,22 +25,17 @@ module _ (shut : List ℕ) (p : ℕ) where
       later : List Part
       later = parts_outside shut (p ∷ []) a
 
-      no-inner : inner ≡ []
-      no-inner = none_outside b (omega (arith, e, all))
+      either : inner ≡ [] → (c : Bool) → (if c then [] else inner) ≡ []
+      either none true = refl
+      either none false = none
 
-      no-later : later ≡ []
-      no-later = none_outside a (omega (arith, e, all))
-
-      either : (c : Bool) → (if c then [] else inner) ≡ []
-      either true = refl
-      either false = no-inner
-
-      go : (c : Bool) → (p == q) ≡ c → parts_outside shut (p ∷ []) (tree.branch q b a) ≡ []
-      go true is = let one : one_if (p == q) ≡ 1 = ap one_if is in absurd (omega (arith, e, all, one))
-      go false is =
+      go : (c : Bool) → (p == q) ≡ c → (count_of p (preorder b) ≡ 0 → inner ≡ []) → (count_of p (preorder a) ≡ 0 → later ≡ [])
+          → parts_outside shut (p ∷ []) (tree.branch q b a) ≡ []
+      go true is below behind = let one : one_if (p == q) ≡ 1 = ap one_if is in absurd (omega (arith, e, all, one))
+      go false is below behind =
           ap (λ (c : Bool). (if c || false then part q b ∷ [] else if is_among shut q then [] else inner) ++ later) is
-          ∙ ap (λ ps. ps ++ later) (either (is_among shut q))
-          ∙ no-later
+          ∙ ap (λ ps. ps ++ later) (either (below (omega (arith, e, all))) (is_among shut q))
+          ∙ behind (omega (arith, e, all))
 
 stands_nowhere : (p : ℕ) (f : Forest) → count_of p (preorder f) ≡ 0 → stands_outside p f ≡ false
 stands_nowhere p f e = ap is_any_part (none_outside passed_forms p f e)

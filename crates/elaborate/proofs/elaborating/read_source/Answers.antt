@@ -14,5 +14,5 @@ returns-clause-assembly c =
 pub first_fault_by-requires-clause-counted : goal.first_fault_by-requires-clause-counted
 first_fault_by-requires-clause-counted c = record { counts = c.census_of-census.ensures.counts; long-types = c.census_of-census.ensures.long }
 
-pub read_faultless-found-requires-clause-plain : goal.read_faultless-found-requires-clause-plain
-read_faultless-found-requires-clause-plain c plain = c.is_plain.ensures c.args.reader.now.nodes.now c.census_of-census.ensures.counts plain
+pub read_faultless-requires-clause-plain : goal.read_faultless-requires-clause-plain
+read_faultless-requires-clause-plain c plain = c.is_plain-plain.ensures c.args.reader.now.nodes.now c.census_of-census.ensures.counts plain
