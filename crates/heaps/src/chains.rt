@@ -132,8 +132,8 @@ fn are_equal(one: &[u8], other: &[u8]) -> bool
     true
 }
 
-/// The FNV-1 hash of a content, with each byte doubled. Contents that differ in their last byte alone, as numbered names
-/// do, stand near one another in the table, in every other slot.
+/// The FNV-1 hash of a content. Contents that differ in their last byte alone, as numbered names do, stand near one
+/// another in the table.
 #[tactic(auto, unfolding(crate::specs::Hash::hash_of))]
 fn hash_of(content: &[u8]) -> u64
     ensures { result ≡ hash_of content.now }
@@ -152,5 +152,5 @@ const START: u64 = 0xCBF2_9CE4_8422_2325;
 fn mix(hash: u64, byte: u8) -> u64
     ensures { result ≡ mix hash byte }
 {
-    hash.wrapping_mul(0x0000_0100_0000_01B3) ^ (2 * u64::from(byte))
+    hash.wrapping_mul(0x0000_0100_0000_01B3) ^ u64::from(byte)
 }

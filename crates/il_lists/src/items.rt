@@ -103,6 +103,7 @@ fn grow_by_one<T>(items: &mut Vec<T>) -> Result<(), NoMemory>
 impl<T: Drop> Items<T> {
     /// Adds an item at the end. A first item gets room for itself alone, since many lists of a tree
     /// have one item.
+    #[inline(always)]
     pub fn push(&mut self, item: T) -> Result<(), NoMemory>
         ensures ok { OnOk result (self.new ≡ self.old ++ item ∷ []) }
         ensures err { OnErr result (self.new ≡ self.old) }

@@ -9,7 +9,7 @@ use crate::stack::{NOWHERE, drop_first, replace_first, symbol_at};
 use crate::table::{CELLS, choice_in, fallback_choice, inner_of, own_cell};
 use crate::terminals::{END, terminal_of};
 use crate::{Symbol, Tree, TreeNode};
-use il_base::NoMemory;
+use il_base::{Items, NoMemory};
 use il_lexer::types::Token;
 use std::alloc::Global;
 
@@ -55,7 +55,7 @@ pub(crate) fn derive(alloc: Global, tokens: &[Token]) -> Result<Outcome, NoMemor
 {
     let mut nodes = Tree::with_capacity(alloc, 7 * tokens.len())?;
     let mut next = START;
-    let mut behind = Vec::new(alloc);
+    let mut behind = Items::new(alloc);
     let mut at = 0;
     loop {
         if next >= NOWHERE {
@@ -99,15 +99,15 @@ fn terminal_at(tokens: &[Token], at: usize) -> u16
 /// is a terminal, and takes it if it is the token.
 fn advance(
     next: &mut usize,
-    behind: &mut Vec<u16>,
+    behind: &mut Items<u16>,
     nodes: &mut Tree,
     terminal: u16,
     at: u32,
 ) -> Result<Turn, NoMemory>
     requires terminal { terminal ≤ 410 }
     requires some { next.old < 887 }
-    ensures turned { IfOk result (IsTurn terminal at (symbols_at next.old behind.old.items) nodes.old (symbols_at next.new behind.new.items) nodes.new) }
-    ensures none { IfOk result (λ _. 887 ≤ next.new → symbols_at next.new behind.new.items ≡ []) }
+    ensures turned { IfOk result (IsTurn terminal at (symbols_at next.old behind.old) nodes.old (symbols_at next.new behind.new) nodes.new) }
+    ensures none { IfOk result (λ _. 887 ≤ next.new → symbols_at next.new behind.new ≡ []) }
 {
     loop {
         match symbol_at(*next) {
@@ -133,7 +133,7 @@ fn advance(
 /// Applies the production that the terminal picks to the first symbol, a nonterminal.
 fn expand(
     next: &mut usize,
-    behind: &mut Vec<u16>,
+    behind: &mut Items<u16>,
     nodes: &mut Tree,
     nonterminal: u16,
     terminal: u16,
@@ -142,7 +142,7 @@ fn expand(
     requires some { next.old < 887 }
     requires first { symbol_in next.old ≡ Nonterminal nonterminal }
     requires known { nonterminal < 165 }
-    ensures { IfOk result (IsStep terminal next.new (symbols_at next.old behind.old.items) nodes.old (symbols_at next.new behind.new.items) nodes.new) }
+    ensures { IfOk result (IsStep terminal next.new (symbols_at next.old behind.old) nodes.old (symbols_at next.new behind.new) nodes.new) }
 {
     if let Some(cell) = own_cell(nonterminal, terminal) {
         descend(next, behind, nodes, terminal, cell)?;
@@ -167,7 +167,7 @@ fn expand(
 /// Applies the production of a cell to the first symbol, and then those of the cells of what the bodies begin with.
 fn descend(
     next: &mut usize,
-    behind: &mut Vec<u16>,
+    behind: &mut Items<u16>,
     nodes: &mut Tree,
     terminal: u16,
     first: usize,
@@ -175,7 +175,7 @@ fn descend(
     requires terminal { terminal ≤ 410 }
     requires some { next.old < 887 }
     requires cell { IsCellOf terminal (symbol_in next.old) first }
-    ensures { OnOk result (HasApplied terminal next.new (symbols_at next.old behind.old.items) nodes.old (symbols_at next.new behind.new.items) nodes.new) }
+    ensures { OnOk result (HasApplied terminal next.new (symbols_at next.old behind.old) nodes.old (symbols_at next.new behind.new) nodes.new) }
 {
     let mut cell = first;
     loop {

@@ -6,7 +6,7 @@ ghost use Rattle.ilasm_grammar.specs.Stacked.{symbol_of, symbol_in, behind_in, r
 
 use crate::Symbol;
 use crate::cells::PLACE_NUMBERS;
-use il_base::NoMemory;
+use il_base::{Items, NoMemory};
 
 /// The place of no symbols.
 pub(crate) const NOWHERE: usize = 887;
@@ -22,10 +22,10 @@ pub(crate) fn symbol_at(place: usize) -> Symbol
 }
 
 /// Takes the first symbol off. Where none are left, the next place is that of no symbols, and only there.
-pub(crate) fn drop_first(next: &mut usize, behind: &mut Vec<u16>)
+pub(crate) fn drop_first(next: &mut usize, behind: &mut Items<u16>)
     requires { next.old < 887 }
-    ensures is { symbols_at next.new behind.new.items ≡ symbols_at (behind_in next.old) behind.old.items }
-    ensures none { 887 ≤ next.new → symbols_at next.new behind.new.items ≡ [] }
+    ensures is { symbols_at next.new behind.new ≡ symbols_at (behind_in next.old) behind.old }
+    ensures none { 887 ≤ next.new → symbols_at next.new behind.new ≡ [] }
 {
     *next = place_behind(*next);
     while *next >= NOWHERE {
@@ -39,11 +39,11 @@ pub(crate) fn drop_first(next: &mut usize, behind: &mut Vec<u16>)
 /// Puts the symbols of the body that begins at a place in the place of the first symbol.
 pub(crate) fn replace_first(
     next: &mut usize,
-    behind: &mut Vec<u16>,
+    behind: &mut Items<u16>,
     begin: u16,
 ) -> Result<(), NoMemory>
     requires { next.old < 887 }
-    ensures is { OnOk result (symbols_at next.new behind.new.items ≡ rest_at begin ++ symbols_at (behind_in next.old) behind.old.items) }
+    ensures is { OnOk result (symbols_at next.new behind.new ≡ rest_at begin ++ symbols_at (behind_in next.old) behind.old) }
     ensures next { OnOk result (next.new ≡ begin) }
 {
     let rest = place_behind(*next);

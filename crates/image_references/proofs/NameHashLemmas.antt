@@ -94,7 +94,7 @@ found_again n less =
     ∙ ap (λ z. z % 2 ^ 54) (let one : n * 1 ≡ n = omega arith in one)
     ∙ mod-eq_of_lt less
 
-parts_told : (a b r s : ℕ) → r < 256 → s < 256 → a * 512 + 2 * r ≡ b * 512 + 2 * s → (a ≡ b) × (r ≡ s)
+parts_told : (a b r s : ℕ) → r < 256 → s < 256 → a * 256 + r ≡ b * 256 + s → (a ≡ b) × (r ≡ s)
 parts_told a b r s first second e = (omega (arith, first, second, e), omega (arith, first, second, e))
 
 joined : (m n : ℕ) → m / 256 ≡ n / 256 → m % 256 ≡ n % 256 → m ≡ n

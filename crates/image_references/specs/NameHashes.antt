@@ -17,7 +17,7 @@ number_of text = fold add_digit 1 text
 
 -- another number for each below 2^62: its last digit, and what stands before it times an odd number
 unfoldable pub spread : ℕ → ℕ
-spread number = (number / 256 * 0x9E3779B97F4A7C15 % 2 ^ 64 % 2 ^ 54) * 512 + 2 * (number % 256)
+spread number = (number / 256 * 0x9E3779B97F4A7C15 % 2 ^ 64 % 2 ^ 54) * 256 + number % 256
 
 -- the text of a name of at most 7 bytes, by its space and its name
 abbrev pub short_in : List ℕ → List ℕ → Option (List ℕ)

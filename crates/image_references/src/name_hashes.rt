@@ -90,5 +90,5 @@ fn spread(number: u64) -> u64
     ensures { result ≡ spread number }
 {
     let first = (number / 256).wrapping_mul(FACTOR) % (1 << 54);
-    first * 512 + 2 * (number % 256)
+    first * 256 + number % 256
 }

@@ -66,7 +66,8 @@ fn derivation(alloc: Global, source: &[u8], tokens: &Tokens) -> Result<Tree, Syn
 {
     match parse(alloc, tokens, Pos { line: 1, col: 1 }) {
         Ok(tree) => Ok(tree),
-        Err(_) => parse(alloc, tokens, end_place(source)),
+        Err(SyntaxFault::Bad { .. }) => parse(alloc, tokens, end_place(source)),
+        Err(SyntaxFault::NoMemory) => Err(SyntaxFault::NoMemory),
     }
 }
 

@@ -143,7 +143,7 @@ methods_below s = nodes_below_are s METHOD s.tree nothing_around
 
 -- ---- tokens that follow one another
 
-front_run : (xs ys : List ℕ) (at count : ℕ) → xs ++ ys ≡ numbers_from at count → xs ≡ numbers_from at (length xs)
+pub front_run : (xs ys : List ℕ) (at count : ℕ) → xs ++ ys ≡ numbers_from at count → xs ≡ numbers_from at (length xs)
 front_run [] ys at count e = refl
 front_run (x ∷ xs) ys at zero e = absurd cc
 front_run (x ∷ xs) ys at (suc count) e =
@@ -151,14 +151,14 @@ front_run (x ∷ xs) ys at (suc count) e =
     let rest : xs ++ ys ≡ numbers_from (suc at) count = cc in
     ap (λ k. k ∷ xs) first ∙ ap (λ zs. at ∷ zs) (front_run xs ys (suc at) count rest)
 
-back_run : (xs ys : List ℕ) (at count : ℕ) → xs ++ ys ≡ numbers_from at count → (first : ℕ) × (more : ℕ) × (ys ≡ numbers_from first more)
+pub back_run : (xs ys : List ℕ) (at count : ℕ) → xs ++ ys ≡ numbers_from at count → (first : ℕ) × (more : ℕ) × (ys ≡ numbers_from first more)
 back_run [] ys at count e = (at, count, e)
 back_run (x ∷ xs) ys at zero e = absurd cc
 back_run (x ∷ xs) ys at (suc count) e = let rest : xs ++ ys ≡ numbers_from (suc at) count = cc in back_run xs ys (suc at) count rest
 
 -- ---- what the derivation says of each production
 
-nodes_derived : (s : Source) (f : Forest) (a : Around) (at count : ℕ) → HasBodies s f → tokens_of f ≡ numbers_from at count
+pub nodes_derived : (s : Source) (f : Forest) (a : Around) (at count : ℕ) → HasBodies s f → tokens_of f ≡ numbers_from at count
     → AllByRecursion (λ n. IsDerived s n.production n.below) (nodes_in s a f)
 nodes_derived s tree.none a at count h e = tt
 nodes_derived s (tree.leaf k f) a at count h e =
@@ -172,7 +172,7 @@ nodes_derived s (tree.branch q b f) a at count h e =
     all_append (λ m. IsDerived s m.production m.below) (n ∷ nodes_in s around b) (nodes_in s a f)
     (own, nodes_derived s b around at (length (tokens_of b)) h.1 front) (nodes_derived s f a back.0 back.1 h.2 back.2)
 
-chosen_derived : (s : Source) (p : ℕ) (ns : List Node) → AllByRecursion (λ n. IsDerived s n.production n.below) ns
+pub chosen_derived : (s : Source) (p : ℕ) (ns : List Node) → AllByRecursion (λ n. IsDerived s n.production n.below) ns
     → AllByRecursion (λ n. IsDerived s p n.below) (nodes_of (p ∷ []) ns)
 chosen_derived s p [] h = tt
 chosen_derived s p (n ∷ ns) h = go (is_among (p ∷ []) n.production) refl (chosen_derived s p ns h.1)

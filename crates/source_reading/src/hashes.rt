@@ -47,10 +47,10 @@ pub fn mix_text_near(hash: u64, text: &[u8]) -> u64
     hash
 }
 
-// One step of FNV-1, of a byte doubled.
+// One step of FNV-1.
 #[tactic(auto, unfolding(crate::specs::TextHash::mix_near))]
 fn mix_near(hash: u64, byte: u8) -> u64
     ensures { result ≡ mix_near hash byte }
 {
-    hash.wrapping_mul(PRIME) ^ (2 * u64::from(byte))
+    hash.wrapping_mul(PRIME) ^ u64::from(byte)
 }

@@ -34,10 +34,10 @@ leaf_made kinds terminal at symbols symbols' nodes nodes' low first made next un
 
 pub returns-then-symbol-terminal-clause-turned : goal.returns-then-symbol-terminal-clause-turned
 returns-then-symbol-terminal-clause-turned c kinds next under = record {
-  symbols = symbols_at c.loop-symbol.next c.loop-symbol.behind.items;
+  symbols = symbols_at c.loop-symbol.next c.loop-symbol.behind;
   nodes = c.loop-symbol.nodes;
   under = c.loop-symbol.invariant.extended.keeps kinds c.args.at next under;
-  stuck = none_takes c.args.terminal c.in-Terminal.symbol c.loop-symbol.next c.loop-symbol.behind.items (sym c.symbol_at.ensures.is ∙ c.in-Terminal.is)
+  stuck = none_takes c.args.terminal c.in-Terminal.symbol c.loop-symbol.next c.loop-symbol.behind (sym c.symbol_at.ensures.is ∙ c.in-Terminal.is)
       c.loop-symbol.invariant.some c.if-symbol-terminal.true;
 }
 
@@ -45,9 +45,9 @@ pub returns-in-Terminal-clause-turned : goal.returns-in-Terminal-clause-turned
 returns-in-Terminal-clause-turned c kinds next under =
     let same : c.in-Terminal.symbol ≡ c.args.terminal = c.if-symbol-terminal.false in
     let low : c.args.terminal < 410 = subst (λ (x : ℕ). x < 410) same c.in-Terminal.ensures.known in
-    let first = first_is c.loop-symbol.next c.loop-symbol.behind.items (Terminal c.args.terminal) c.loop-symbol.invariant.some
+    let first = first_is c.loop-symbol.next c.loop-symbol.behind (Terminal c.args.terminal) c.loop-symbol.invariant.some
     (sym c.symbol_at.ensures.is ∙ c.in-Terminal.is ∙ ap (λ (x : ℕ). Terminal x) same) in
-    leaf_made kinds c.args.terminal c.args.at (symbols_at c.loop-symbol.next c.loop-symbol.behind.items)
-    (symbols_at c.drop_first.new.next c.drop_first.new.behind.items) c.loop-symbol.nodes c.push.new.self low
+    leaf_made kinds c.args.terminal c.args.at (symbols_at c.loop-symbol.next c.loop-symbol.behind)
+    (symbols_at c.drop_first.new.next c.drop_first.new.behind) c.loop-symbol.nodes c.push.new.self low
     (first ∙ ap (λ (s : List Symbol). Terminal c.args.terminal ∷ s) (sym c.drop_first.ensures.is)) c.in_ok-push-in-Terminal.ensures.ok next
     (c.loop-symbol.invariant.extended.keeps kinds c.args.at next under)

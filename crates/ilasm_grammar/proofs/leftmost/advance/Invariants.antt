@@ -8,8 +8,8 @@ use Rattle.ilasm_grammar.proofs.leftmost.advance.Given as goal
 abbrev pub invariant-loop-symbol : goal.invariant-loop-symbol
 invariant-loop-symbol l = record {
   some : l.next < 887;
-  extended : IsExtended l.terminal (symbols_at l.initial.next l.initial.behind.items) l.initial.nodes (symbols_at l.next l.behind.items) l.nodes;
+  extended : IsExtended l.terminal (symbols_at l.initial.next l.initial.behind) l.initial.nodes (symbols_at l.next l.behind) l.nodes;
 }
 
 abbrev pub decreases-loop-symbol : goal.decreases-loop-symbol
-decreases-loop-symbol l = load_of ilasm_sets (symbols_at l.next l.behind.items)
+decreases-loop-symbol l = load_of ilasm_sets (symbols_at l.next l.behind)

@@ -46,7 +46,7 @@ split zero (suc n) le = inl (omega arith)
 split (suc a) zero le = absurd (omega arith)
 split (suc a) (suc n) le = elim (split a n (omega arith)) [ inl h ↦ inl (omega arith) | inr e ↦ inr (ap suc e) ]
 
-turned : (c : In_ok-advance) → HasTurned (terminals_of c.args.tokens.now) c.terminal_at-terminal.result c.loop-next.at (symbols_at c.advance.new.next c.advance.new.behind.items) c.advance.new.nodes c.in_ok-advance.field-0
+turned : (c : In_ok-advance) → HasTurned (terminals_of c.args.tokens.now) c.terminal_at-terminal.result c.loop-next.at (symbols_at c.advance.new.next c.advance.new.behind) c.advance.new.nodes c.in_ok-advance.field-0
 turned c = c.in_ok-advance.ensures.turned (terminals_of c.args.tokens.now) (sym c.terminal_at-terminal.ensures.is) c.loop-next.invariant.under
 
 -- the symbol from which a source is derived stands at its place
@@ -61,14 +61,14 @@ loop-next-init c =
     record {
       within = omega arith;
       none = λ le. absurd (omega arith);
-      under = subst (λ (x : List Symbol). IsUnderWay (terminals_of c.args.tokens.now) 0 x c.in_ok-nodes.nodes) (sym (ap (λ x. symbols_at 886 x) c.new-behind.ensures.items ∙ start_is))
+      under = subst (λ (x : List Symbol). IsUnderWay (terminals_of c.args.tokens.now) 0 x c.in_ok-nodes.nodes) (sym (ap (λ x. symbols_at 886 x) c.new-behind.ensures ∙ start_is))
           (subst (λ (x : List TreeNode). IsUnderWay (terminals_of c.args.tokens.now) 0 (Nonterminal SOURCE ∷ []) x) (sym c.in_ok-nodes.ensures) start);
     }
 
 pub returns-in-Stops : goal.returns-in-Stops
 returns-in-Stops c =
     let kinds = terminals_of c.args.tokens.now in
-    let h = subst (λ (t : Turn). HasTurned kinds c.terminal_at-terminal.result c.loop-next.at (symbols_at c.advance.new.next c.advance.new.behind.items) c.advance.new.nodes t) c.in-Stops.is
+    let h = subst (λ (t : Turn). HasTurned kinds c.terminal_at-terminal.result c.loop-next.at (symbols_at c.advance.new.next c.advance.new.behind) c.advance.new.nodes t) c.in-Stops.is
     (turned ((goal.at.returns-in-Stops c).In_ok-advance)) in
     elim (split c.loop-next.at (length c.args.tokens.now) c.loop-next.invariant.within) [
       | inl lt ↦ stops c.args.tokens.now c.loop-next.at c.terminal_at-terminal.result lt (c.terminal_at-terminal.ensures.low lt) (sym c.terminal_at-terminal.ensures.is) h

@@ -6,8 +6,8 @@ use Rattle.ilasm_grammar.proofs.leftmost.derive.Given as goal
 abbrev pub invariant-loop-next : goal.invariant-loop-next
 invariant-loop-next l = record {
   within : l.at ≤ length l.tokens;
-  none : 887 ≤ l.next → symbols_at l.next l.behind.items ≡ [];
-  under : IsUnderWay (terminals_of l.tokens) l.at (symbols_at l.next l.behind.items) l.nodes;
+  none : 887 ≤ l.next → symbols_at l.next l.behind ≡ [];
+  under : IsUnderWay (terminals_of l.tokens) l.at (symbols_at l.next l.behind) l.nodes;
 }
 
 abbrev pub decreases-loop-next : goal.decreases-loop-next

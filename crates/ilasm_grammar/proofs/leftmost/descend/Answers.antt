@@ -10,10 +10,10 @@ use Rattle.ilasm_grammar.proofs.leftmost.descend.Goals.{After-inner_of-inner}
 
 -- a round of the loop
 round : (c : After-inner_of-inner) →
-    IsExtended c.args.terminal (symbols_at c.loop-next.next c.loop-next.behind.items) c.loop-next.nodes (symbols_at c.replace_first.new.next c.replace_first.new.behind.items) c.push_branch.new.nodes ×
-    (load_of ilasm_sets (symbols_at c.replace_first.new.next c.replace_first.new.behind.items) < load_of ilasm_sets (symbols_at c.loop-next.next c.loop-next.behind.items))
+    IsExtended c.args.terminal (symbols_at c.loop-next.next c.loop-next.behind) c.loop-next.nodes (symbols_at c.replace_first.new.next c.replace_first.new.behind) c.push_branch.new.nodes ×
+    (load_of ilasm_sets (symbols_at c.replace_first.new.next c.replace_first.new.behind) < load_of ilasm_sets (symbols_at c.loop-next.next c.loop-next.behind))
 round c =
-    cell_applied c.args.terminal c.loop-next.cell c.loop-next.next c.loop-next.behind.items _ c.loop-next.nodes c.push_branch.new.nodes
+    cell_applied c.args.terminal c.loop-next.cell c.loop-next.next c.loop-next.behind _ c.loop-next.nodes c.push_branch.new.nodes
     c.choice_in-choice.result.production c.choice_in-choice.result.begin c.loop-next.invariant.here c.requires.terminal c.loop-next.invariant.some
     c.choice_in-choice.ensures.production c.choice_in-choice.ensures.begin c.in_ok-push_branch.ensures c.in_ok-replace_first.ensures.is
 

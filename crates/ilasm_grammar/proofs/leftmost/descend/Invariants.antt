@@ -9,8 +9,8 @@ abbrev pub invariant-loop-next : goal.invariant-loop-next
 invariant-loop-next l = record {
   some : l.next < 887;
   here : IsCellOf l.terminal (symbol_in l.next) l.cell;
-  extended : IsExtended l.terminal (symbols_at l.initial.next l.initial.behind.items) l.initial.nodes (symbols_at l.next l.behind.items) l.nodes;
+  extended : IsExtended l.terminal (symbols_at l.initial.next l.initial.behind) l.initial.nodes (symbols_at l.next l.behind) l.nodes;
 }
 
 abbrev pub decreases-loop-next : goal.decreases-loop-next
-decreases-loop-next l = load_of ilasm_sets (symbols_at l.next l.behind.items)
+decreases-loop-next l = load_of ilasm_sets (symbols_at l.next l.behind)

@@ -10,10 +10,10 @@ returns-clause-is c =
     let rest = c.place_behind-rest.ensures in
     ap (λ (x : List Symbol). rest_at c.args.begin ++ x) (elim c.if-rest-lt-NOWHERE.branch [
       | then-rest-lt-NOWHERE+in_ok-push w ↦
-          ap (λ x. joined x.items) w.behind-is ∙ ap joined w.in_ok-push.ensures.items ∙ joined-push c.args.behind.now.items c.place_behind-rest.result ∙
-          ap (λ x. rest_at x ++ joined c.args.behind.now.items) rest
+          ap joined w.behind-is ∙ ap joined w.in_ok-push.ensures.ok ∙ joined-push c.args.behind.now c.place_behind-rest.result ∙
+          ap (λ x. rest_at x ++ joined c.args.behind.now) rest
       | else-rest-lt-NOWHERE w ↦
-          ap (λ x. joined x.items) w.behind-is ∙
-          sym (ap (λ (x : List Symbol). x ++ joined c.args.behind.now.items) (rest_at_past c.place_behind-rest.result (omega (arith, w.if-rest-lt-NOWHERE.false)))) ∙
-          ap (λ x. rest_at x ++ joined c.args.behind.now.items) rest
+          ap joined w.behind-is ∙
+          sym (ap (λ (x : List Symbol). x ++ joined c.args.behind.now) (rest_at_past c.place_behind-rest.result (omega (arith, w.if-rest-lt-NOWHERE.false)))) ∙
+          ap (λ x. rest_at x ++ joined c.args.behind.now) rest
     ])
