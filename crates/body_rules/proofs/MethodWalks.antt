@@ -15,21 +15,21 @@ use Rattle.ilasm_grammar.proofs.IlasmFacts.{ilasm_table}
 use Rattle.ilasm_grammar.proofs.TableCheck.{ilasm_tables, ilasm_checked}
 use Rattle.ilasm_grammar.proofs.TableFacts.{at_rule}
 use Rattle.ilasm_grammar.proofs.Tables as tables
-use Rattle.source_model.specs.BodyFaults.{all_methods}
 use Rattle.source_model.specs.Forest.{Forest, none, leaf, branch, is_among, joined, preorder}
 use Rattle.source_model.specs.Laws.{ForestOpens, ForestsJoin, OneForest}
-use Rattle.source_model.specs.Nodes.{Node}
+use Rattle.source_model.specs.Nodes.{Node, nodes_in, nodes_of, nothing_around}
 use Rattle.source_model.specs.Source.{Source}
-use Rattle.source_model.specs.TokenOrder.{TokensStandInOrder}
-use Rattle.source_reading.specs.Derived.{DerivationsHaveBodies, Fits, FitsBody, FitsRule, HasBodies}
+use Rattle.source_reading.specs.Derived.{Fits, FitsBody, FitsRule, HasBodies}
 use Rattle.source_reading.specs.Least.{least, sooner}
 use Rattle.source_reading.specs.Methods.{all_below, IsMethod}
 use Rattle.source_reading.specs.Readers.{Reads}
 use Rattle.source_reading.specs.Walk.{IsForest}
 use Rattle.source_reading.specs.declared.reader.Reader.{Reader}
 use Rattle.source_reading.proofs.LeastLemmas.{least_append, sooner_assoc}
-use Rattle.source_reading.proofs.MethodLemmas.{below_joined, methods_below, methods_derived, nothing_more}
+use Rattle.source_reading.proofs.MethodLemmas.{below_joined, chosen_derived, nodes_below_are, nodes_derived, nothing_more}
 use Rattle.source_flags.proofs.Apart.{all_in, stays}
+use Rattle.body_rules.specs.AllOfBodies.{body_broken, broken_in}
+use Rattle.body_rules.specs.AmongNodes.{AreMethodsOf, StandsIn}
 
 -- ---- below a method stands no other
 
@@ -107,51 +107,51 @@ none_below s b fits bodies = let r = body_of s METHOD b (ilasm METHOD) refl fits
 -- ---- the walk
 
 -- the methods that aren't asked yet stand in what is left, and what breaks the rule in them completes what was found
-pub record Unasked (broken : Node → List ℕ) (s : Source) (left : Forest) (found : Option ℕ) : Type 0 where
+pub record Unasked (broken : Node → List ℕ) (s : Source) (all : List Node) (left : Forest) (found : Option ℕ) : Type 0 where
   pub methods : List Node
   pub are : map (λ (n : Node). n.below) methods ≡ all_below METHOD left
   pub each : AllByRecursion (IsMethod s) methods
-  pub rest : sooner found (least (flat_map broken methods)) ≡ least (flat_map broken (all_methods s))
+  pub rest : sooner found (least (flat_map broken methods)) ≡ least (flat_map broken all)
 
--- what is left is a forest, and so it is for each source that is read
-pub record Walked (broken : Source → Node → List ℕ) (r : Reader) (left : List TreeNode) (found : Option ℕ) : Type 0 where
+-- what is left of the nodes is a forest, and so it is for each source that is read
+pub record Walked (broken : Source → Node → List ℕ) (r : Reader) (nodes left : List TreeNode) (found : Option ℕ) : Type 0 where
   pub forest : Forest
   pub is : preorder forest ≡ left
-  pub unasked : (s : Source) → Reads r s → Unasked (broken s) s forest found
+  pub unasked : (s : Source) (f : Forest) (ms : List Node) → Reads r s → preorder f ≡ nodes → AreMethodsOf s f ms → Unasked (broken s) s ms forest found
 
-pub begin : OneForest → DerivationsHaveBodies → TokensStandInOrder → (broken : Source → Node → List ℕ) (r : Reader) → IsForest r.nodes.now
-    → Walked broken r r.nodes.now None
-begin one bodies order broken r f = record {
+pub begin : OneForest → (broken : Source → Node → List ℕ) (r : Reader) (nodes : List TreeNode) → IsForest nodes → Walked broken r nodes nodes None
+begin one broken r nodes f = record {
   forest = f.0;
   is = f.1;
-  unasked = λ s reads. record {
-    methods = all_methods s;
-    are = methods_below s ∙ ap (all_below METHOD) (one.one s.tree f.0 (reads.nodes ∙ sym f.1));
-    each = methods_derived bodies order r s reads;
+  unasked = λ s g ms reads e of. record {
+    methods = ms;
+    are = of.below ∙ ap (all_below METHOD) (one.one g f.0 (e ∙ sym f.1));
+    each = of.each;
     rest = refl;
   };
 }
 
-module _ (opens : ForestOpens) (broken : Source → Node → List ℕ) (r : Reader) (left rest : List TreeNode) (found : Option ℕ) (w : Walked broken r left found) where
-  pub past_leaf : (token : ℕ) → left ≡ Leaf token ∷ rest → Walked broken r rest found
+module _ (opens : ForestOpens) (broken : Source → Node → List ℕ) (r : Reader) (nodes left rest : List TreeNode) (found : Option ℕ)
+    (w : Walked broken r nodes left found) where
+  pub past_leaf : (token : ℕ) → left ≡ Leaf token ∷ rest → Walked broken r nodes rest found
   past_leaf token e =
       let b = opens.leaf w.forest token rest (w.is ∙ e) in
       record {
         forest = b.after;
         is = b.rest;
-        unasked = λ s reads.
-            let u = w.unasked s reads in
+        unasked = λ s f all reads e0 of.
+            let u = w.unasked s f all reads e0 of in
             record { methods = u.methods; are = u.are ∙ ap (all_below METHOD) b.is; each = u.each; rest = u.rest };
       }
 
-  pub into_branch : ForestsJoin → (p count : ℕ) → left ≡ Branch p count ∷ rest → (METHOD == p) ≡ false → Walked broken r rest found
+  pub into_branch : ForestsJoin → (p count : ℕ) → left ≡ Branch p count ∷ rest → (METHOD == p) ≡ false → Walked broken r nodes rest found
   into_branch joins p count e other =
       let b = opens.branch w.forest p count rest (w.is ∙ e) in
       record {
         forest = joined b.below b.after;
         is = joins.nodes b.below b.after ∙ ap (λ ns. ns ++ preorder b.after) b.inner ∙ ap (λ ns. take count rest ++ ns) b.rest ∙ take-append-drop count rest;
-        unasked = λ s reads.
-            let u = w.unasked s reads in
+        unasked = λ s f all reads e0 of.
+            let u = w.unasked s f all reads e0 of in
             record {
               methods = u.methods;
               are = u.are ∙ ap (all_below METHOD) b.is ∙ beside p b.below b.after other ∙ sym (below_joined METHOD b.below b.after);
@@ -170,22 +170,22 @@ module _ (opens : ForestOpens) (broken : Source → Node → List ℕ) (r : Read
   -- a method, which was asked
   pub past_method : (p count : ℕ) → left ≡ Branch p count ∷ rest → p ≡ METHOD → (here : Option ℕ)
       → ((s : Source) (n : Node) → Reads r s → IsMethod s n → preorder n.below ≡ take count rest → here ≡ least (broken s n))
-      → Walked broken r (drop count rest) (sooner found here)
+      → Walked broken r nodes (drop count rest) (sooner found here)
   past_method p count e own here asked =
       let b = opens.branch w.forest p count rest (w.is ∙ e) in
       record {
         forest = b.after;
         is = b.rest;
-        unasked = λ s reads.
-            let u = w.unasked s reads in
-            go s reads b.below b.after b.inner u.methods (u.are ∙ ap (all_below METHOD) (b.is ∙ ap (λ q. branch q b.below b.after) own)) u.each u.rest;
+        unasked = λ s f all reads e0 of.
+            let u = w.unasked s f all reads e0 of in
+            go s all reads b.below b.after b.inner u.methods (u.are ∙ ap (all_below METHOD) (b.is ∙ ap (λ q. branch q b.below b.after) own)) u.each u.rest;
       }
     where
-      go : (s : Source) → Reads r s → (b a : Forest) → preorder b ≡ take count rest → (ms : List Node)
+      go : (s : Source) (all : List Node) → Reads r s → (b a : Forest) → preorder b ≡ take count rest → (ms : List Node)
           → map (λ (n : Node). n.below) ms ≡ b ∷ (all_below METHOD b ++ all_below METHOD a) → AllByRecursion (IsMethod s) ms
-          → sooner found (least (flat_map (broken s) ms)) ≡ least (flat_map (broken s) (all_methods s)) → Unasked (broken s) s a (sooner found here)
-      go s reads b a inner [] are each all = absurd cc
-      go s reads b a inner (n ∷ ms) are each all =
+          → sooner found (least (flat_map (broken s) ms)) ≡ least (flat_map (broken s) all) → Unasked (broken s) s all a (sooner found here)
+      go s all reads b a inner [] are each whole = absurd cc
+      go s all reads b a inner (n ∷ ms) are each whole =
           let same : n.below ≡ b = cc in
           let more : map (λ (m : Node). m.below) ms ≡ all_below METHOD b ++ all_below METHOD a = cc in
           let nothing : all_below METHOD b ≡ [] = subst (λ f. all_below METHOD f ≡ []) same (none_below s n.below each.0.fits each.0.bodies) in
@@ -197,17 +197,36 @@ module _ (opens : ForestOpens) (broken : Source → Node → List ℕ) (r : Read
             rest = sooner_assoc found here (least behind)
                 ∙ ap (λ o. sooner found (sooner o (least behind))) (asked s n reads each.0 (ap preorder same ∙ inner))
                 ∙ ap (sooner found) (sym (least_append (broken s n) behind))
-                ∙ all;
+                ∙ whole;
           }
 
 -- at the end all are asked
-pub ended : ForestOpens → (broken : Source → Node → List ℕ) (r : Reader) (left : List TreeNode) (found : Option ℕ) → left ≡ [] → Walked broken r left found
-    → (s : Source) → Reads r s → found ≡ least (flat_map (broken s) (all_methods s))
-ended opens broken r left found e w s reads =
-    let u = w.unasked s reads in
+pub ended : ForestOpens → (broken : Source → Node → List ℕ) (r : Reader) (nodes left : List TreeNode) (found : Option ℕ) → left ≡ []
+    → Walked broken r nodes left found → (s : Source) (f : Forest) (ms : List Node) → Reads r s → preorder f ≡ nodes → AreMethodsOf s f ms
+    → found ≡ least (flat_map (broken s) ms)
+ended opens broken r nodes left found e w s f all reads is of =
+    let u = w.unasked s f all reads is of in
     go u.methods (u.are ∙ ap (all_below METHOD) (opens.none w.forest (w.is ∙ e))) u.rest
   where
-    go : (ms : List Node) → map (λ (n : Node). n.below) ms ≡ [] → sooner found (least (flat_map (broken s) ms)) ≡ least (flat_map (broken s) (all_methods s))
-        → found ≡ least (flat_map (broken s) (all_methods s))
-    go [] are all = nothing_more found ∙ all
-    go (n ∷ ms) are all = absurd cc
+    go : (ms : List Node) → map (λ (n : Node). n.below) ms ≡ [] → sooner found (least (flat_map (broken s) ms)) ≡ least (flat_map (broken s) all)
+        → found ≡ least (flat_map (broken s) all)
+    go [] are whole = nothing_more found ∙ whole
+    go (n ∷ ms) are whole = absurd cc
+
+-- ---- the methods among the nodes of a part of a source
+
+pub methods_of : (s : Source) (f : Forest) → StandsIn s f → AreMethodsOf s f (nodes_of (METHOD ∷ []) (nodes_in s nothing_around f))
+methods_of s f stands = record {
+  below = nodes_below_are s METHOD f nothing_around;
+  each = chosen_derived s METHOD (nodes_in s nothing_around f) (nodes_derived s f nothing_around stands.first stands.count stands.bodies stands.in-order);
+}
+
+pub chosen_broken : (s : Source) (ns : List Node) → flat_map (broken_in s) (nodes_of (METHOD ∷ []) ns) ≡ flat_map (body_broken s) ns
+chosen_broken s [] = refl
+chosen_broken s (n ∷ ns) = go (is_among (METHOD ∷ []) n.production) (chosen_broken s ns)
+  where
+    go : (c : Bool) → flat_map (broken_in s) (nodes_of (METHOD ∷ []) ns) ≡ flat_map (body_broken s) ns
+        → flat_map (broken_in s) (if c then n ∷ nodes_of (METHOD ∷ []) ns else nodes_of (METHOD ∷ []) ns)
+        ≡ (if c then broken_in s n else []) ++ flat_map (body_broken s) ns
+    go true rest = ap (λ ks. broken_in s n ++ ks) rest
+    go false rest = rest

@@ -1,11 +1,12 @@
 -- All rules that the bodies of methods must meet, one after another.
-use Rattle.std.specs.Prelude.{ℕ, List, ◌++◌, filter, not}
+use Rattle.std.specs.Prelude.{ℕ, List, [], ◌∷◌, ◌++◌, filter, if◌then◌else◌, not}
 use Rattle.std.specs.List.{enumerate_from, flat_map}
-use Rattle.ilasm_grammar.specs.declared.productions.TheConstants.{INSTRUCTION_OP_VAR}
+use Rattle.ilasm_grammar.specs.declared.productions.TheConstants.{INSTRUCTION_OP_VAR, METHOD}
 use Rattle.source_model.specs.BodyFaults.{body_numbers_out_of_range, branch_too_far, branches_to_the_end, branches_too_far, clause_backwards, clauses_backwards, is_same_name, label_names, labels_twice, labels_undeclared, targets_at_the_end, variable_undeclared, variables_undeclared}
 use Rattle.source_model.specs.BodyNumbers.{body_numbers_out_of_range_in}
 use Rattle.source_model.specs.Clauses.{guarded}
 use Rattle.source_model.specs.DeclaredTwice.{repeats}
+use Rattle.source_model.specs.Forest.{is_among}
 use Rattle.source_model.specs.Instructions.{instructions_of, instructions_with, is_label, labels}
 use Rattle.source_model.specs.Nodes.{Node}
 use Rattle.source_model.specs.Source.{Source}
@@ -40,3 +41,7 @@ module _ (s : Source) (n : Node) where
   abbrev pub broken_in : List ℕ
   broken_in =
       twice_in ++ undeclared_in ++ variables_in ++ body_numbers_out_of_range_in s n ++ far_in ++ backwards_in ++ ends_in
+
+-- the same at any production: only at that of a method
+abbrev pub body_broken : Source → Node → List ℕ
+body_broken s n = if is_among (METHOD ∷ []) n.production then broken_in s n else []

@@ -1,4 +1,5 @@
 pub mod AllOfBodies
+pub mod AmongNodes
 pub mod ClauseCounts
 pub mod CodeLines
 pub mod CodeParts

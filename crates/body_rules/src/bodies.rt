@@ -5,9 +5,9 @@ ghost use Rattle.std.specs.Prelude.{◌≡◌, ◌==◌, IfOk, length, true};
 ghost use Rattle.std.specs.List.{flat_map, list_any};
 ghost use Rattle.source_model.specs.BodyNumbers.{body_numbers_out_of_range_in};
 ghost use Rattle.source_model.specs.Bodies.{code};
-ghost use Rattle.source_model.specs.Forest.{preorder};
+ghost use Rattle.source_model.specs.Forest.{Forest, preorder};
 ghost use Rattle.source_model.specs.Instructions.{instructions_of, labels, targets};
-ghost use Rattle.source_model.specs.Nodes.{Node};
+ghost use Rattle.source_model.specs.Nodes.{Node, nothing_around};
 ghost use Rattle.source_model.specs.Source.{Source};
 ghost use Rattle.source_reading.specs.Labels.{AreLabels};
 ghost use Rattle.source_reading.specs.Least.{least};
@@ -15,7 +15,9 @@ ghost use Rattle.source_reading.specs.Methods.{IsMethod};
 ghost use Rattle.source_reading.specs.Pieces.{ArePieces, AreParts};
 ghost use Rattle.source_reading.specs.Readers.{Reads};
 ghost use Rattle.source_reading.specs.Walk.{IsForest};
-ghost use Rattle.body_rules.specs.AllOfBodies.{backwards_in, broken_in, broken_in_bodies, ends_in, far_in, variables_in};
+ghost use Rattle.rule_steps.specs.Surroundings.{found_in};
+ghost use Rattle.body_rules.specs.AllOfBodies.{backwards_in, body_broken, broken_in, ends_in, far_in, variables_in};
+ghost use Rattle.body_rules.specs.AmongNodes.{StandsIn};
 ghost use Rattle.body_rules.specs.MethodFaults.{naming_in, AreOperandFaults};
 ghost use Rattle.body_rules.specs.CodeLines.{IsPlain};
 ghost use Rattle.body_rules.specs.NamedVariables.{ServesVariables};
@@ -50,12 +52,17 @@ use source_reading::pieces::Piece;
 use source_reading::reader::Reader;
 use std::alloc::Global;
 
-/// The least token at which the body of a method breaks any of the rules.
-pub fn body_fault(alloc: Global, reader: &Reader) -> Result<Option<u32>, NoMemory>
-    requires { IsForest reader.now.nodes.now }
-    ensures { (s : Source) → Reads reader.now s → IfOk result (λ k. k ≡ least (broken_in_bodies s)) }
+/// The least token at which the body of a method among these nodes of a source breaks any of the rules.
+pub fn body_fault(
+    alloc: Global,
+    reader: &Reader,
+    nodes: &[TreeNode],
+) -> Result<Option<u32>, NoMemory>
+    requires { IsForest nodes.now }
+    ensures { (s : Source) (f : Forest) → Reads reader.now s → preorder f ≡ nodes.now → StandsIn s f →
+        IfOk result (λ k. k ≡ least (found_in body_broken s nothing_around f)) }
 {
-    let first = first_by_method(&AllOfBodies, alloc, reader)?;
+    let first = first_by_method(&AllOfBodies, alloc, reader, nodes)?;
     Ok(first)
 }
 

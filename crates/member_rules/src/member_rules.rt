@@ -4,8 +4,8 @@ ghost use Rattle.std.specs.Prelude.{◌≡◌, ◌<◌, ◌^◌, ◌∷◌, [], 
 ghost use Rattle.type_terms.specs.declared.name.TypeId.{TypeId};
 ghost use Rattle.source_model.specs.DeclaredTwice.{members_twice, members_twice_in};
 ghost use Rattle.source_model.specs.Forest.{Forest, preorder, the};
-ghost use Rattle.source_model.specs.Items.{members};
-ghost use Rattle.source_model.specs.Nodes.{Around, Node};
+ghost use Rattle.source_model.specs.Items.{declarations, members};
+ghost use Rattle.source_model.specs.Nodes.{Around, Node, nothing_around};
 ghost use Rattle.source_model.specs.Source.{Source};
 ghost use Rattle.source_model.specs.TypeRules.{breaks_signature, is_nothing};
 ghost use Rattle.source_reading.specs.Derived.{FitsBody, HasBodies};
@@ -49,6 +49,24 @@ pub fn member_twice<R: Rule>(
         IfOk result (λ k. k ≡ least (members_twice s)) }
 {
     derivations_have_bodies();
+    let here = outer_twice(rule, alloc, reader, externs)?;
+    let within = inner_twice(rule, alloc, reader, externs, reader.nodes)?;
+    Ok(sooner(here, within))
+}
+
+/// The same among the members that stand in no class.
+pub fn outer_twice<R: Rule>(
+    rule: &R,
+    alloc: Global,
+    reader: &Reader,
+    externs: &Named,
+) -> Result<Option<u32>, NoMemory>
+    requires forest { IsForest reader.now.nodes.now }
+    requires few { length reader.now.nodes.now < 2 ^ 32 }
+    ensures { (s : Source) → Reads reader.now s → AreNames s naming.Assembly externs.now → ((n : Node) → is_nothing (R.broken rule.now s n) ≡ is_nothing (breaks_signature s n)) →
+        IfOk result (λ k. k ≡ least (members_twice_in s nothing_around (declarations s.tree))) }
+{
+    derivations_have_bodies();
     let signatures = Signatures {
         rule,
         keys: &externs.names,
@@ -62,9 +80,30 @@ pub fn member_twice<R: Rule>(
         method_typars: &none,
         parameters: 0,
     };
-    let here = signatures.again(alloc, reader, &outside, Level::Source, reader.nodes)?;
-    let within = signatures.again_within(alloc, reader, 0, reader.nodes)?;
-    Ok(sooner(here, within))
+    let first = signatures.again(alloc, reader, &outside, Level::Source, reader.nodes)?;
+    Ok(first)
+}
+
+/// The same among the members of the classes that stand among these nodes, which stand in no class themselves.
+pub fn inner_twice<R: Rule>(
+    rule: &R,
+    alloc: Global,
+    reader: &Reader,
+    externs: &Named,
+    nodes: &[TreeNode],
+) -> Result<Option<u32>, NoMemory>
+    requires forest { IsForest nodes.now }
+    requires few { length reader.now.nodes.now < 2 ^ 32 }
+    ensures { (s : Source) (f : Forest) → Reads reader.now s → AreNames s naming.Assembly externs.now →
+        ((n : Node) → is_nothing (R.broken rule.now s n) ≡ is_nothing (breaks_signature s n)) → preorder f ≡ nodes.now → HasBodies s f →
+        IfOk result (λ k. k ≡ least (twice_within s [] f)) }
+{
+    let signatures = Signatures {
+        rule,
+        keys: &externs.names,
+    };
+    let first = signatures.again_within(alloc, reader, 0, nodes)?;
+    Ok(first)
 }
 
 impl<'a, R: Rule> Signatures<'a, R> {

@@ -3,7 +3,7 @@
 ghost use Rattle.std.specs.Prelude.{◌≡◌, ◌<◌, ◌≤◌, ◌^◌, ℕ, ◌+◌, [], List, length, min, take, true, IfOk, MatchOption};
 ghost use Rattle.std.specs.List.{AllByRecursion, flat_map};
 ghost use Rattle.source_model.specs.Forest.{Forest, preorder};
-ghost use Rattle.source_model.specs.Nodes.{Around, Node, entered, nodes, typar_names};
+ghost use Rattle.source_model.specs.Nodes.{Around, Node, entered, nodes, nothing_around, typar_names};
 ghost use Rattle.source_model.specs.Parameters.{parameters};
 ghost use Rattle.source_model.specs.Source.{Source};
 ghost use Rattle.source_reading.specs.Least.{least};
@@ -313,6 +313,22 @@ pub fn first_at_all<R: Rule>(
     requires { IsForest reader.now.nodes.now }
     ensures { (s : Source) → Reads reader.now s → IfOk result (λ k. k ≡ least (flat_map (R.broken rule.now s) (nodes s))) }
 {
+    derivations_have_bodies();
+    let first = first_outside(rule, alloc, reader, reader.nodes)?;
+    Ok(first)
+}
+
+/// The least token at which a production among these nodes, which stand in no class and no method, breaks a rule.
+pub fn first_outside<R: Rule>(
+    rule: &R,
+    alloc: Global,
+    reader: &Reader,
+    nodes: &[TreeNode],
+) -> Result<Option<u32>, NoMemory>
+    requires { IsForest nodes.now }
+    ensures { (s : Source) (f : Forest) → Reads reader.now s → preorder f ≡ nodes.now → HasBodies s f →
+        IfOk result (λ k. k ≡ least (found_in (R.broken rule.now) s nothing_around f)) }
+{
     let none = Declared::new(alloc);
     let outside = Surrounding {
         depth: 0,
@@ -322,7 +338,6 @@ pub fn first_at_all<R: Rule>(
         method_typars: &none,
         parameters: 0,
     };
-    derivations_have_bodies();
-    let first = first_in(rule, alloc, reader, &outside, reader.nodes)?;
+    let first = first_in(rule, alloc, reader, &outside, nodes)?;
     Ok(first)
 }

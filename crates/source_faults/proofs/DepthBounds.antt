@@ -1,5 +1,5 @@
 -- A type is at most one deeper than the number of nodes below its production: where none has more than 98, none is too deep.
-use Rattle.std.proofs.Common.{◌≡◌, ℕ, suc, ◌+◌, ◌<◌, ◌≤◌, List, [], ◌∷◌, ◌++◌, length, map, max, cond, refl, ap, sym, subst, ◌∙◌, arith, length-append}
+use Rattle.std.proofs.Common.{◌≡◌, ℕ, suc, ◌+◌, ◌≤◌, List, [], ◌∷◌, ◌++◌, length, map, refl, ap, sym, ◌∙◌, arith, length-append}
 use Rattle.std.proofs.lemmas.Bool.{ltb-true}
 use Rattle.std.proofs.lemmas.Grind.{flat_map-append}
 use Rattle.std.specs.Prelude.{Bool, true, false, ◌==◌, ◌&&◌, ◌||◌, None, nat_lt, if◌then◌else◌}
@@ -21,7 +21,7 @@ use Rattle.source_model.specs.TypeRules.{type_too_deep}
 use Rattle.source_model.specs.Types.{base_type, first_owner, owners_in, suffix, suffixed, suffixes, type_of, types_in}
 use Rattle.source_reading.specs.Least.{least}
 use Rattle.source_rules.specs.TypeDepths.{is_modifier}
-use Rattle.source_rules.proofs.DepthLemmas.{base_is, by_depth, suffix_is}
+use Rattle.source_rules.proofs.DepthLemmas.{base_is, suffix_is}
 use Rattle.source_faults.specs.Census.{is_long}
 
 -- ---- the deepest of some

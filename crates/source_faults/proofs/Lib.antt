@@ -2,3 +2,4 @@ pub mod CensusLemmas
 pub mod DepthBounds
 pub mod PassLemmas
 pub mod SomeNames
+pub mod Sweeps

@@ -1,7 +1,8 @@
--- Where two passes find nothing, none of their rules is broken.
+-- Where the pass finds nothing, none of its rules is broken.
 use Rattle.std.proofs.Common.{◌≡◌, ℕ, List, ◌++◌, ap, sym, ◌∙◌}
 use Rattle.std.specs.Prelude.{None}
 use Rattle.source_model.specs.BodyFaults.{body_numbers_out_of_range, branches_to_the_end, branches_too_far, clauses_backwards, labels_twice, labels_undeclared, variables_undeclared}
+use Rattle.source_model.specs.DeclaredTwice.{members_twice}
 use Rattle.source_model.specs.OutOfRange.{nestings_too_deep, numbers_out_of_range}
 use Rattle.source_model.specs.Source.{Source}
 use Rattle.source_model.specs.Undeclared.{data_undeclared, scopes_undeclared, types_undeclared, typars_undeclared}
@@ -27,7 +28,8 @@ nothing_broken s e =
     let scopes = scopes_undeclared s in
     let typars = typars_undeclared s in
     let data-labels = data_undeclared s in
-    let passes = neither_rule (broken_in_bodies s) (broken_in_parts s) e in
+    let all = neither_rule (broken_in_bodies s ++ broken_in_parts s) (members_twice s) e in
+    let passes = neither_rule (broken_in_bodies s) (broken_in_parts s) all.0 in
     let b6 = neither_rule (twice ++ labels ++ variables ++ numbers ++ far ++ clauses) (branches_to_the_end s) passes.0 in
     let b5 = neither_rule (twice ++ labels ++ variables ++ numbers ++ far) clauses b6.0 in
     let b4 = neither_rule (twice ++ labels ++ variables ++ numbers) far b5.0 in
@@ -52,4 +54,5 @@ nothing_broken s e =
       data-labels = p3.1;
       numbers = none_of_both (numbers_out_of_range s) numbers p4.1 b3.1;
       nestings = p5.1;
+      members = all.1;
     }

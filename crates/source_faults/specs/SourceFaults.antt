@@ -1,7 +1,7 @@
 -- The first rule that a source breaks, as the code says it.
 use Rattle.std.specs.Prelude.{◌≡◌, ℕ, Option, None, Some}
 use Rattle.source_model.specs.Denotes.{broken}
-use Rattle.source_model.specs.Faults.{Broken, IsFaultless, IsFirstFault}
+use Rattle.source_model.specs.Faults.{IsFaultless, IsFirstFault}
 use Rattle.source_model.specs.Source.{Source, place_at}
 use Rattle.source_model.specs.declared.fault.NameClass.{NameClass}
 use Rattle.source_rules.specs.Breaches.{broken_of}

@@ -57,27 +57,25 @@ fn twice(
     ensures { (s : Source) → Reads reader.now s → AreDeclarations s declared.now → found ≡ least (broken_in_passes s) → IfOk result (AreTwice s) }
 {
     match found {
-        None => other_twice(alloc, reader, declared),
+        None => Ok(other_twice(reader, declared)),
         Some(_) => each_twice(alloc, reader, declared),
     }
 }
 
 // Where nothing is found in the passes.
-fn other_twice(alloc: Global, reader: &Reader, declared: &Declarations) -> Result<Twice, NoMemory>
-    requires forest { IsForest reader.now.nodes.now }
-    requires few { length reader.now.nodes.now < 2 ^ 32 }
-    ensures { (s : Source) → Reads reader.now s → AreDeclarations s declared.now → KeepsPasses s → IfOk result (AreTwice s) }
+fn other_twice(reader: &Reader, declared: &Declarations) -> Twice
+    requires { IsForest reader.now.nodes.now }
+    ensures { (s : Source) → Reads reader.now s → AreDeclarations s declared.now → KeepsPasses s → AreTwice s result }
 {
-    let rule = signatures_of(&declared.externs, &declared.own, &declared.classes);
-    Ok(Twice {
+    Twice {
         types: declared.classes.again,
-        members: member_twice(&rule, alloc, reader, &declared.externs)?,
+        members: None,
         externs: assembly_again(&declared.externs),
         labels: None,
         entries: entry_again(reader, &declared.census),
         manifests: manifest_again(reader, &declared.census),
         data_labels: label_again(&declared.labels),
-    })
+    }
 }
 
 fn each_twice(alloc: Global, reader: &Reader, declared: &Declarations) -> Result<Twice, NoMemory>

@@ -1,18 +1,27 @@
-//! The rules that are asked together, in a pass over the bodies of a source's methods and one over its productions.
+//! The rules that are asked together, in one pass over a source: of each declaration all of them, while its nodes and tokens are at
+//! hand.
 
-ghost use Rattle.std.specs.Prelude.{◌≡◌, IfOk};
+ghost use Rattle.std.specs.Prelude.{◌≡◌, ◌<◌, ◌^◌, IfOk, length};
+ghost use Rattle.source_model.specs.Forest.{Forest, preorder};
 ghost use Rattle.source_model.specs.Source.{Source};
 ghost use Rattle.source_reading.specs.Least.{least};
 ghost use Rattle.source_reading.specs.Readers.{Reads};
 ghost use Rattle.source_reading.specs.Walk.{IsForest};
+ghost use Rattle.body_rules.specs.AmongNodes.{StandsIn};
 ghost use Rattle.source_faults.specs.AllDeclared.{AreDeclarations};
-ghost use Rattle.source_faults.specs.Passes.{broken_in_passes};
+ghost use Rattle.source_faults.specs.Passes.{broken_among, broken_in_passes, is_outer};
 
 use crate::all_declared::Declarations;
 use body_rules::bodies::body_fault;
 use il_base::NoMemory;
+use ilasm_grammar::{TreeNode, productions};
+use member_rules::broken_signatures::signatures_of;
+use member_rules::member_rules::{inner_twice, outer_twice};
+use source_model::{derivations_are_forests, forests_join, forests_open, tokens_stand_in_order};
+use source_reading::derived::derivations_have_bodies;
 use source_reading::least::sooner;
 use source_reading::reader::Reader;
+use source_reading::walk::next;
 use source_rules::parts::part_fault;
 use std::alloc::Global;
 
@@ -22,8 +31,78 @@ pub fn pass_fault(
     reader: &Reader,
     declared: &Declarations,
 ) -> Result<Option<u32>, NoMemory>
-    requires { IsForest reader.now.nodes.now }
+    requires forest { IsForest reader.now.nodes.now }
+    requires few { length reader.now.nodes.now < 2 ^ 32 }
     ensures { (s : Source) → Reads reader.now s → AreDeclarations s declared.now → IfOk result (λ k. k ≡ least (broken_in_passes s)) }
+{
+    derivations_have_bodies();
+    tokens_stand_in_order();
+    let Declarations {
+        externs,
+        own,
+        classes,
+        ..
+    } = declared;
+    let rule = signatures_of(externs, own, classes);
+    let outer = outer_twice(&rule, alloc, reader, externs)?;
+    let inner = declaration_fault(alloc, reader, declared)?;
+    Ok(sooner(inner, outer))
+}
+
+// The same among the declarations, but for members of no class that are declared twice.
+fn declaration_fault(
+    alloc: Global,
+    reader: &Reader,
+    declared: &Declarations,
+) -> Result<Option<u32>, NoMemory>
+    requires forest { IsForest reader.now.nodes.now }
+    requires few { length reader.now.nodes.now < 2 ^ 32 }
+    ensures { (s : Source) → Reads reader.now s → AreDeclarations s declared.now → StandsIn s s.tree → IfOk result (λ k. k ≡ least (broken_among s declared.now s.tree)) }
+{
+    derivations_are_forests();
+    forests_open();
+    forests_join();
+    let mut left = reader.nodes;
+    let mut found = None;
+    while let Some((node, rest)) = next(left) {
+        match node {
+            TreeNode::Branch {
+                production,
+                nodes: count,
+            } => {
+                if is_outer(production) {
+                    left = rest;
+                } else {
+                    let (first, after) = left.split_at(count as usize + 1);
+                    let here = tree_fault(alloc, reader, declared, first)?;
+                    found = sooner(found, here);
+                    left = after;
+                }
+            }
+            TreeNode::Leaf { .. } => left = rest,
+        }
+    }
+    Ok(found)
+}
+
+// Whether a production is that of a source, or of a list of declarations, of which no rule speaks.
+fn is_outer(production: u16) -> bool
+    ensures { result ≡ is_outer production }
+{
+    production == productions::SOURCE || production == productions::DECL_STAR_MORE
+}
+
+// The same among these nodes, which stand in no class and no method.
+fn tree_fault(
+    alloc: Global,
+    reader: &Reader,
+    declared: &Declarations,
+    nodes: &[TreeNode],
+) -> Result<Option<u32>, NoMemory>
+    requires forest { IsForest nodes.now }
+    requires few { length reader.now.nodes.now < 2 ^ 32 }
+    ensures { (s : Source) (f : Forest) → Reads reader.now s → AreDeclarations s declared.now → preorder f ≡ nodes.now → StandsIn s f →
+        IfOk result (λ k. k ≡ least (broken_among s declared.now f)) }
 {
     let Declarations {
         labels,
@@ -32,7 +111,10 @@ pub fn pass_fault(
         classes,
         ..
     } = declared;
-    let bodies = body_fault(alloc, reader)?;
-    let parts = part_fault(alloc, reader, externs, own, classes, labels)?;
-    Ok(sooner(bodies, parts))
+    let rule = signatures_of(externs, own, classes);
+    let bodies = body_fault(alloc, reader, nodes)?;
+    let parts = part_fault(alloc, reader, externs, own, classes, labels, nodes)?;
+    let members = inner_twice(&rule, alloc, reader, externs, nodes)?;
+    let to_parts = sooner(bodies, parts);
+    Ok(sooner(to_parts, members))
 }

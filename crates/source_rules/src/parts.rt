@@ -2,19 +2,16 @@
 //! II.15, II.16.3, II.23.2).
 
 ghost use Rattle.std.specs.Prelude.{◌≡◌, IfOk, true};
-ghost use Rattle.source_model.specs.Forest.{is_among, preorder};
-ghost use Rattle.source_model.specs.Nodes.{Node};
+ghost use Rattle.source_model.specs.Forest.{Forest, is_among, preorder};
+ghost use Rattle.source_model.specs.Nodes.{Node, nothing_around};
 ghost use Rattle.source_model.specs.Source.{Source};
 ghost use Rattle.source_reading.specs.Derived.{FitsBody, HasBodies};
 ghost use Rattle.source_reading.specs.Least.{least};
-ghost use Rattle.source_reading.specs.Namings.{AreNames};
 ghost use Rattle.source_reading.specs.Readers.{Reads};
 ghost use Rattle.source_reading.specs.Walk.{IsForest};
-ghost use Rattle.source_reading.specs.declared.name_lists.Naming.TheVariants as naming;
 ghost use Rattle.source_rules.specs.Asked.{named};
-ghost use Rattle.source_rules.specs.AllOfParts.{broken_at, broken_in_parts, name_broken};
-ghost use Rattle.source_rules.specs.DeclaredClasses.{AreClasses};
-ghost use Rattle.rule_steps.specs.Surroundings.{IsDerived, IsNode};
+ghost use Rattle.source_rules.specs.AllOfParts.{broken_at, name_broken};
+ghost use Rattle.rule_steps.specs.Surroundings.{IsDerived, IsNode, found_in};
 
 use crate::asked::{is_asked, is_named};
 use crate::class_rules::Classes;
@@ -25,17 +22,15 @@ use crate::undeclared::{Labels, Typars};
 use crate::written::written_name;
 use il_base::NoMemory;
 use ilasm_grammar::{TreeNode, productions};
-use rule_steps::asking::{Rule, Surrounding, first_at_all};
+use rule_steps::asking::{Rule, Surrounding, first_outside};
 use rule_steps::counts::argument_past_most;
-use source_model::tokens_stand_in_order;
-use source_reading::derived::derivations_have_bodies;
 use source_reading::least::sooner;
 use source_reading::name_lists::Named;
 use source_reading::reader::Reader;
 use source_reading::walk::{child, has, leaf_at};
 use std::alloc::Global;
 
-/// The least token at which a production of a source breaks any of these rules.
+/// The least token at which a production among these nodes, which stand in no class and no method, breaks any of these rules.
 pub fn part_fault(
     alloc: Global,
     reader: &Reader,
@@ -43,13 +38,12 @@ pub fn part_fault(
     own: &Named,
     classes: &Classes,
     labels: &Named,
+    nodes: &[TreeNode],
 ) -> Result<Option<u32>, NoMemory>
-    requires { IsForest reader.now.nodes.now }
-    ensures { (s : Source) → Reads reader.now s → AreNames s naming.Assembly externs.now → AreNames s naming.Own own.now → AreClasses s classes.now →
-        AreNames s naming.Label labels.now → IfOk result (λ k. k ≡ least (broken_in_parts s)) }
+    requires { IsForest nodes.now }
+    ensures { (s : Source) (f : Forest) → Reads reader.now s → preorder f ≡ nodes.now → HasBodies s f →
+        IfOk result (λ k. k ≡ least (found_in (broken_at externs.now.names own.now.names classes.now.paths labels.now.names) s nothing_around f)) }
 {
-    tokens_stand_in_order();
-    derivations_have_bodies();
     let scopes = Scopes {
         keys: &externs.names,
         own: &own.names,
@@ -62,7 +56,7 @@ pub fn part_fault(
         names: &labels.names,
     };
     let rule = AllOfParts { types, labels };
-    let first = first_at_all(&rule, alloc, reader)?;
+    let first = first_outside(&rule, alloc, reader, nodes)?;
     Ok(first)
 }
 

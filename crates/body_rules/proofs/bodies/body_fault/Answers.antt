@@ -1,6 +1,11 @@
-use Rattle.std.proofs.Common.{◌∙◌}
-use Rattle.body_rules.proofs.BodyLemmas.{all_bodies}
+use Rattle.std.proofs.Common.{◌∷◌, [], ap, ◌∙◌}
+use Rattle.ilasm_grammar.specs.declared.productions.TheConstants.{METHOD}
+use Rattle.source_model.specs.Nodes.{nodes_in, nodes_of, nothing_around}
+use Rattle.source_reading.specs.Least.{least}
+use Rattle.body_rules.proofs.MethodWalks.{chosen_broken, methods_of}
 use Rattle.body_rules.proofs.bodies.body_fault.Goals as goal
 
 pub returns : goal.returns
-returns c s r = c.in_ok-first.ensures s r ∙ all_bodies s
+returns c s f r e stands =
+    let ns = nodes_in s nothing_around f in
+    c.in_ok-first.ensures s f (nodes_of (METHOD ∷ []) ns) r e (methods_of s f stands) ∙ ap least (chosen_broken s ns)

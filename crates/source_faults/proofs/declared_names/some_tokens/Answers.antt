@@ -1,4 +1,4 @@
-use Rattle.std.proofs.Common.{◌≡◌, ◌≤◌, ◌++◌, ◌∙◌, ap, arith, subst, sym}
+use Rattle.std.proofs.Common.{◌≡◌, ◌++◌, ◌∙◌, ap, arith, subst, sym}
 use Rattle.source_model.specs.Forest as tree
 use Rattle.source_reading.specs.Walk.{IsForest, is_of}
 use Rattle.source_reading.proofs.Collecting.{after_is, behind_is, is_branch}

@@ -1,4 +1,4 @@
-use Rattle.std.proofs.Common.{[], ◌++◌, ◌∙◌, ap, arith, map, sym, drop, refl}
+use Rattle.std.proofs.Common.{◌++◌, ◌∙◌, ap, arith, map, sym, drop, refl}
 use Rattle.ilasm_grammar.specs.declared.productions.TheConstants.{ASSEMBLY_ASSEMBLY_ATTR_STAR, DECL_MODULE}
 use Rattle.source_model.specs.Forest.{each, leaf_at}
 use Rattle.source_model.specs.Names.{assembly_token}

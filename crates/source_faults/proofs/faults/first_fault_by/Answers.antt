@@ -1,4 +1,4 @@
-use Rattle.std.proofs.Common.{◌∙◌, ap, subst, sym}
+use Rattle.std.proofs.Common.{subst}
 use Rattle.source_faults.specs.SourceFaults.{IsFirst}
 use Rattle.source_faults.proofs.faults.first_fault_by.Goals as goal
 

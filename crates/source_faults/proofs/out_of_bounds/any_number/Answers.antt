@@ -1,4 +1,4 @@
-use Rattle.std.proofs.Common.{◌≡◌, ap, sym, ◌∙◌}
+use Rattle.std.proofs.Common.{ap, sym, ◌∙◌}
 use Rattle.source_model.specs.BodyFaults.{body_numbers_out_of_range}
 use Rattle.source_model.specs.OutOfRange.{numbers_out_of_range}
 use Rattle.source_reading.specs.Least.{least, sooner}

@@ -1,4 +1,4 @@
-use Rattle.std.proofs.Common.{◌≡◌, ◌∙◌, sym, refl}
+use Rattle.std.proofs.Common.{◌∙◌, sym, refl}
 use Rattle.ilasm_grammar.specs.declared.productions.TheConstants.{AT_NAME}
 use Rattle.data_rules.proofs.FieldLemmas.{faults_of_all}
 use Rattle.data_rules.proofs.Unmapped.{no_data}
