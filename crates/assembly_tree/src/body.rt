@@ -1,4 +1,4 @@
-use il_lists::{Items, Numbers, Units};
+use il_lists::{Boxed, Items, Numbers, Units};
 use opcode_table::Op;
 use type_terms::{FieldRef, MethodRef, Owner, Types};
 
@@ -25,7 +25,8 @@ pub struct Ins {
 /// The instructions of a body in order.
 pub type Code = Items<Ins>;
 
-/// What stands behind an opcode (III.1.7). Targets are instruction numbers, counted from 0.
+/// What stands behind an opcode (III.1.7). Targets are instruction numbers, counted from 0. What an instruction names
+/// stands in a box, so that one that names nothing takes little memory.
 #[derive(Drop)]
 pub enum Operand {
     Nothing,
@@ -36,9 +37,9 @@ pub enum Operand {
     Real(u64),
     Target(u32),
     Targets(Numbers),
-    Method(MethodRef),
-    Field(FieldRef),
-    Of(Owner),
+    Method(Boxed<MethodRef>),
+    Field(Boxed<FieldRef>),
+    Of(Boxed<Owner>),
     Text(Units),
 }
 

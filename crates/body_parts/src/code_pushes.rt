@@ -5,8 +5,9 @@ ghost use Rattle.assembly_tree.specs.declared.body.Operand.TheVariants as operan
 ghost use Rattle.body_parts.specs.Operands.{instruction_with};
 
 use assembly_tree::{Code, Ins, Operand};
-use il_base::{NoMemory, Numbers, Units};
+use il_base::{Boxed, NoMemory, Numbers, Units};
 use opcode_table::Op;
+use std::alloc::Global;
 use type_terms::{FieldRef, MethodRef, Owner};
 
 /// Adds one that takes nothing.
@@ -88,9 +89,10 @@ pub fn push_text(all: &mut Code, op: Op, units: Units) -> Result<(), NoMemory>
 
 /// Adds one that takes a type.
 #[inline(never)]
-pub fn push_owner(all: &mut Code, op: Op, owner: Owner) -> Result<(), NoMemory>
+pub fn push_owner(all: &mut Code, alloc: Global, op: Op, owner: Owner) -> Result<(), NoMemory>
     ensures { OnOk result (all.new ≡ all.old ++ instruction_with op (operand.Of owner) ∷ []) }
 {
+    let owner = Boxed::new(alloc, owner)?;
     all.push(Ins {
         op,
         operand: Operand::Of(owner),
@@ -99,9 +101,15 @@ pub fn push_owner(all: &mut Code, op: Op, owner: Owner) -> Result<(), NoMemory>
 
 /// Adds one that takes a method.
 #[inline(never)]
-pub fn push_method_ref(all: &mut Code, op: Op, reference: MethodRef) -> Result<(), NoMemory>
+pub fn push_method_ref(
+    all: &mut Code,
+    alloc: Global,
+    op: Op,
+    reference: MethodRef,
+) -> Result<(), NoMemory>
     ensures { OnOk result (all.new ≡ all.old ++ instruction_with op (operand.Method reference) ∷ []) }
 {
+    let reference = Boxed::new(alloc, reference)?;
     all.push(Ins {
         op,
         operand: Operand::Method(reference),
@@ -110,9 +118,15 @@ pub fn push_method_ref(all: &mut Code, op: Op, reference: MethodRef) -> Result<(
 
 /// Adds one that takes a field.
 #[inline(never)]
-pub fn push_field_ref(all: &mut Code, op: Op, reference: FieldRef) -> Result<(), NoMemory>
+pub fn push_field_ref(
+    all: &mut Code,
+    alloc: Global,
+    op: Op,
+    reference: FieldRef,
+) -> Result<(), NoMemory>
     ensures { OnOk result (all.new ≡ all.old ++ instruction_with op (operand.Field reference) ∷ []) }
 {
+    let reference = Boxed::new(alloc, reference)?;
     all.push(Ins {
         op,
         operand: Operand::Field(reference),

@@ -211,7 +211,7 @@ fn push_type(
         IfOk result (λ _. all.new ≡ all.old ++ instruction_with op (operand.Of (the_owner s a f)) ∷ []) }
 {
     let owner = place.first_owner(alloc, nodes)?;
-    push_owner(all, op, owner)
+    push_owner(all, alloc, op, owner)
 }
 
 // Adds one that takes the first reference to a method, of which there is one.
@@ -228,7 +228,7 @@ fn push_method(
         IfOk result (λ _. all.new ≡ all.old ++ instruction_with op (operand.Method (method_ref s a (the METHOD_REF f))) ∷ []) }
 {
     let reference = place.method_ref(alloc, the(nodes, METHOD_REF))?;
-    push_method_ref(all, op, reference)
+    push_method_ref(all, alloc, op, reference)
 }
 
 // Adds one that takes the first reference to a field, of which there is one.
@@ -244,5 +244,5 @@ fn push_field(
         IfOk result (λ _. all.new ≡ all.old ++ instruction_with op (operand.Field (field_ref s a (the FIELD_REF f))) ∷ []) }
 {
     let reference = place.field_ref(alloc, the(nodes, FIELD_REF))?;
-    push_field_ref(all, op, reference)
+    push_field_ref(all, alloc, op, reference)
 }

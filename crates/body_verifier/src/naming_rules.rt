@@ -111,8 +111,8 @@ fn misfits_operand(w: &World, a: &Assembly, does: Operation, operand: &Operand) 
     ensures { (f : Frame) → f.image ≡ a.now → (IsTrue result ↔ MisfitsMember f does operand.now) }
 {
     match operand {
-        Operand::Method(m) => misfits_method(does, m),
-        Operand::Field(r) => misfits_declared(w, a, does, r),
+        Operand::Method(m) => misfits_method(does, m.get()),
+        Operand::Field(r) => misfits_declared(w, a, does, r.get()),
         Operand::Nothing => false,
         Operand::Var(_) => false,
         Operand::Int(_) => false,

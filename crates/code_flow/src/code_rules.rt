@@ -65,7 +65,7 @@ fn states_this(operand: &Operand) -> bool
     ensures { result ≡ states_this operand.now }
 {
     match operand {
-        Operand::Method(method) => method.sig.explicit_this,
+        Operand::Method(method) => method.get().sig.explicit_this,
         _ => false,
     }
 }

@@ -83,15 +83,15 @@ fn note_operand<'a>(
 {
     match operand {
         Operand::Method(method) => {
-            refer_method(alloc, refs, method)?;
+            refer_method(alloc, refs, method.get())?;
             Ok(())
         }
         Operand::Field(field) => {
-            refer_field(alloc, refs, field)?;
+            refer_field(alloc, refs, field.get())?;
             Ok(())
         }
         Operand::Of(owner) => {
-            refer_owner(alloc, refs, owner)?;
+            refer_owner(alloc, refs, owner.get())?;
             Ok(())
         }
         Operand::Text(units) => {

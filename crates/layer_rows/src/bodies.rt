@@ -3,7 +3,7 @@
 use crate::changes::{Change, all_hold, all_weigh};
 use crate::parts::{letters, method, numbers, outside};
 use assembly_tree::{Assembly, Body, Clause, ClauseKind, Clauses, Code, Ins, Operand};
-use il_lists::{Items, NoMemory, Text};
+use il_lists::{Boxed, Items, NoMemory, Text};
 use opcode_table::Op;
 use std::alloc::Global;
 use std::test::Fail;
@@ -118,11 +118,13 @@ fn push_of_field(a: &mut Assembly, alloc: Global, op: Op) -> Result<(), NoMemory
     let name = Text::new(alloc, "f")?;
     let owner = outside(alloc, "X")?;
     let of = SigType::Prim(Prim::I4);
-    push_body(a, alloc, op, Operand::Field(FieldRef { owner, name, of }))
+    let field = Boxed::new(alloc, FieldRef { owner, name, of })?;
+    push_body(a, alloc, op, Operand::Field(field))
 }
 
 fn push_of_type(a: &mut Assembly, alloc: Global, op: Op, name: &str) -> Result<(), NoMemory> {
     let of = outside(alloc, name)?;
+    let of = Boxed::new(alloc, of)?;
     push_body(a, alloc, op, Operand::Of(of))
 }
 

@@ -4,7 +4,7 @@ use crate::bodies::push_body;
 use crate::changes::{Change, all_hold, all_weigh};
 use crate::parts::{method, named, numbers, signature};
 use assembly_tree::{Assembly, Attribute, Operand};
-use il_lists::{Items, NoMemory, Text};
+use il_lists::{Boxed, Items, NoMemory, Text};
 use opcode_table::Op;
 use std::alloc::Global;
 use std::test::Fail;
@@ -89,6 +89,7 @@ fn push_call(
 ) -> Result<(), NoMemory> {
     let args = arguments(alloc, args)?;
     let called = reference(alloc, sig, args)?;
+    let called = Boxed::new(alloc, called)?;
     push_body(a, alloc, Op::Call, Operand::Method(called))
 }
 

@@ -195,7 +195,7 @@ fn method_in(operand: &Operand) -> Option<&MethodRef>
     ensures { option_copied result ≡ method_in operand.now }
 {
     match operand {
-        Operand::Method(m) => Some(m),
+        Operand::Method(m) => Some(m.get()),
         Operand::Nothing => None,
         Operand::Var(_) => None,
         Operand::Int(_) => None,

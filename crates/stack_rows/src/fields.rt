@@ -115,7 +115,7 @@ fn field_in(operand: &Operand) -> Option<&FieldRef>
     ensures { option_copied result ≡ field_in operand.now }
 {
     match operand {
-        Operand::Field(r) => Some(r),
+        Operand::Field(r) => Some(r.get()),
         Operand::Nothing => None,
         Operand::Var(_) => None,
         Operand::Int(_) => None,

@@ -26,7 +26,7 @@ pub fn named_key(w: &mut World, operand: &Operand) -> Result<TypeKey, NoMemory>
     ensures stays { Stays w.old w.new }
 {
     match operand {
-        Operand::Of(owner) => owner_key(w, owner),
+        Operand::Of(owner) => owner_key(w, owner.get()),
         Operand::Nothing => primitive_key(w, Prim::Void),
         Operand::Var(_) => primitive_key(w, Prim::Void),
         Operand::Int(_) => primitive_key(w, Prim::Void),

@@ -82,9 +82,9 @@ impl Formed for Operand {
 
     fn is_formed(&self, a: &Assembly) -> bool {
         match self {
-            Operand::Method(method) => method.is_formed(a),
-            Operand::Field(field) => field.is_formed(a),
-            Operand::Of(owner) => owner.is_formed(a),
+            Operand::Method(method) => method.get().is_formed(a),
+            Operand::Field(field) => field.get().is_formed(a),
+            Operand::Of(owner) => owner.get().is_formed(a),
             Operand::Nothing
             | Operand::Var(_)
             | Operand::Int(_)

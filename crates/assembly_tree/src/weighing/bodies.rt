@@ -16,9 +16,9 @@ impl Weighs for Operand {
             | Operand::Real(_)
             | Operand::Target(_) => left,
             Operand::Targets(targets) => charge_each(left, 4, targets.len()),
-            Operand::Method(method) => method.charge(left),
-            Operand::Field(field) => field.charge(left),
-            Operand::Of(owner) => owner.charge(left),
+            Operand::Method(method) => method.get().charge(left),
+            Operand::Field(field) => field.get().charge(left),
+            Operand::Of(owner) => owner.get().charge(left),
             Operand::Text(units) => charge_each(left, 2, units.len()),
         }
     }

@@ -15,7 +15,7 @@ use super::targets::{branch_target, switch_targets};
 use crate::BodyFault;
 use assembly_tree::{Code, Ins, Operand};
 use byteorder::{ByteOrder, LittleEndian};
-use il_lists::{Copies, Items, NoMemory};
+use il_lists::{Boxed, Copies, Items, NoMemory};
 use opcode_table::OperandKind;
 use sig_codec::Namer;
 use std::alloc::Global;
@@ -143,6 +143,7 @@ fn method_of<N: Namer>(alloc: Global, token: u32, map: &N) -> Result<Option<Oper
         None => Ok(None),
         Some(method) => {
             let method = method.copy(alloc)?;
+            let method = Boxed::new(alloc, method)?;
             Ok(Some(Operand::Method(method)))
         }
     }
@@ -156,6 +157,7 @@ fn field_of<N: Namer>(alloc: Global, token: u32, map: &N) -> Result<Option<Opera
         None => Ok(None),
         Some(field) => {
             let field = field.copy(alloc)?;
+            let field = Boxed::new(alloc, field)?;
             Ok(Some(Operand::Field(field)))
         }
     }
@@ -169,6 +171,7 @@ fn type_of<N: Namer>(alloc: Global, token: u32, map: &N) -> Result<Option<Operan
         None => Ok(None),
         Some(owner) => {
             let owner = owner.copy(alloc)?;
+            let owner = Boxed::new(alloc, owner)?;
             Ok(Some(Operand::Of(owner)))
         }
     }

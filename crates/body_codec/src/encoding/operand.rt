@@ -22,9 +22,9 @@ pub(crate) fn operand_token<N: Numberer>(operand: &Operand, map: &N) -> u32
     ensures { result ≡ or_zero (token_of (token_map (N.owner_tokens map.now) (N.method_tokens map.now) (N.field_tokens map.now) (N.locals_tokens map.now) (N.text_tokens map.now)) operand.now) }
 {
     let token = match operand {
-        Operand::Method(method) => map.token_of_method(method),
-        Operand::Field(field) => map.token_of_field(field),
-        Operand::Of(owner) => map.token_of_owner(owner),
+        Operand::Method(method) => map.token_of_method(method.get()),
+        Operand::Field(field) => map.token_of_field(field.get()),
+        Operand::Of(owner) => map.token_of_owner(owner.get()),
         Operand::Text(units) => map.token_of_text(units),
         Operand::Nothing
         | Operand::Var(_)

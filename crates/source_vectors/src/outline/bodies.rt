@@ -53,9 +53,9 @@ fn push_ins(out: &mut String, ins: &Ins) -> Result<(), NoMemory> {
 fn push_reference(out: &mut String, operand: &Operand) -> Result<(), NoMemory> {
     out.push(' ')?;
     match operand {
-        Operand::Method(method) => push_method(out, method),
-        Operand::Field(field) => push_field(out, field),
-        Operand::Of(owner) => push_owner(out, owner),
+        Operand::Method(method) => push_method(out, method.get()),
+        Operand::Field(field) => push_field(out, field.get()),
+        Operand::Of(owner) => push_owner(out, owner.get()),
         Operand::Text(units) => push_units(out, units.as_slice()),
         _ => Ok(()),
     }
@@ -66,7 +66,7 @@ fn push_clause(out: &mut String, clause: &Clause) -> Result<(), NoMemory> {
     match &clause.kind {
         ClauseKind::Catch(owner) => {
             out.push_str(" catch ")?;
-            push_owner(out, owner)?;
+            push_owner(out, owner.get())?;
         }
         ClauseKind::Filter(start) => push_number(out, " filter ", u64::from(*start))?,
         ClauseKind::Finally => out.push_str(" finally")?,

@@ -13,9 +13,9 @@ impl NamesValues for Operand {
     #[tactic(auto, using(crate::proofs::Gathering::none_in), unfolding(crate::specs::ValueNames::in_operand))]
     fn gather(&self, alloc: Global, means: &Meanings, into: &mut Names) -> Result<(), NoMemory> {
         match self {
-            Operand::Method(method) => method.gather(alloc, means, into),
-            Operand::Field(field) => field.gather(alloc, means, into),
-            Operand::Of(owner) => owner.gather(alloc, means, into),
+            Operand::Method(method) => method.get().gather(alloc, means, into),
+            Operand::Field(field) => field.get().gather(alloc, means, into),
+            Operand::Of(owner) => owner.get().gather(alloc, means, into),
             Operand::Nothing
             | Operand::Var(_)
             | Operand::Int(_)
@@ -42,7 +42,7 @@ impl NamesValues for ClauseKind {
     #[tactic(auto, using(crate::proofs::Gathering::none_in), unfolding(crate::specs::ValueNames::in_handled))]
     fn gather(&self, alloc: Global, means: &Meanings, into: &mut Names) -> Result<(), NoMemory> {
         match self {
-            ClauseKind::Catch(owner) => owner.gather(alloc, means, into),
+            ClauseKind::Catch(owner) => owner.get().gather(alloc, means, into),
             ClauseKind::Filter(_) | ClauseKind::Finally | ClauseKind::Fault => Ok(()),
         }
     }
