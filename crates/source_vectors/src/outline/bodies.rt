@@ -66,7 +66,7 @@ fn push_clause(out: &mut String, clause: &Clause) -> Result<(), NoMemory> {
     match &clause.kind {
         ClauseKind::Catch(owner) => {
             out.push_str(" catch ")?;
-            push_owner(out, owner.get())?;
+            push_owner(out, owner)?;
         }
         ClauseKind::Filter(start) => push_number(out, " filter ", u64::from(*start))?,
         ClauseKind::Finally => out.push_str(" finally")?,

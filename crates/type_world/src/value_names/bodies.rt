@@ -42,7 +42,7 @@ impl NamesValues for ClauseKind {
     #[tactic(auto, using(crate::proofs::Gathering::none_in), unfolding(crate::specs::ValueNames::in_handled))]
     fn gather(&self, alloc: Global, means: &Meanings, into: &mut Names) -> Result<(), NoMemory> {
         match self {
-            ClauseKind::Catch(owner) => owner.get().gather(alloc, means, into),
+            ClauseKind::Catch(owner) => owner.gather(alloc, means, into),
             ClauseKind::Filter(_) | ClauseKind::Finally | ClauseKind::Fault => Ok(()),
         }
     }
