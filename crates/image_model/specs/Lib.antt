@@ -3,7 +3,6 @@ pub mod Cells
 pub mod Columns
 pub mod Constants
 pub mod Faults
-pub mod FirstReading
 pub mod Laws
 pub mod Members
 pub mod Naming
