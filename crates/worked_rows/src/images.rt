@@ -62,23 +62,36 @@ fn number_at(bytes: &[u8], at: usize) -> Result<usize, Fail> {
     }
 }
 
-/// The stream of tables (II.24.2.6), which the header of the metadata at the signature `BSJB` tells.
-fn tables(image: &[u8]) -> Result<TableView<'_>, Fail> {
+/// The stream with this name, which ends in zero bytes, by the header of the metadata at the signature `BSJB` (II.24.2.2).
+fn stream<'a>(image: &'a [u8], name: &[u8]) -> Result<&'a [u8], Fail> {
     let root = image
         .get(place_of(image, b"BSJB").ok_or("no metadata")?..)
         .ok_or("no metadata")?;
-    let name = place_of(root, b"#~\0\0").ok_or("no tables")?;
+    let name = place_of(root, name).ok_or("no stream")?;
     let at = number_at(root, name.checked_sub(8).ok_or("cut")?)?;
     let size = number_at(root, name.checked_sub(4).ok_or("cut")?)?;
     let rest = root.get(at..).ok_or("cut")?;
-    match TableView::open(rest.get(..size).ok_or("cut")?) {
+    Ok(rest.get(..size).ok_or("cut")?)
+}
+
+/// The stream of tables (II.24.2.6).
+pub(crate) fn tables(image: &[u8]) -> Result<TableView<'_>, Fail> {
+    match TableView::open(stream(image, b"#~\0\0")?) {
         Ok(view) => Ok(view),
         Err(_) => Err("no tables".into()),
     }
 }
 
+/// The text at an index of the heap of texts (II.24.2.3).
+pub(crate) fn text_at(image: &[u8], index: u32) -> Result<&[u8], Fail> {
+    let texts = stream(image, b"#Strings\0")?;
+    let rest = texts.get(index as usize..).ok_or("no text")?;
+    let end = rest.iter().position(|byte| *byte == 0).ok_or("no end")?;
+    Ok(&rest[..end])
+}
+
 /// A cell, or None where there is no such row or column.
-fn cell(view: &TableView<'_>, table: u8, row: u32, column: u8) -> Option<u32> {
+pub(crate) fn cell(view: &TableView<'_>, table: u8, row: u32, column: u8) -> Option<u32> {
     if row == 0 || row > view.rows(table) || usize::from(column) >= columns(table).len() {
         return None;
     }
@@ -119,6 +132,27 @@ fn a_program(rt: HostRuntime) -> Result<(), Fail> {
             "table {table} row {row} column {column}"
         );
     }
+    let index = |table, row, column| cell(&view, table, row, column).ok_or("no cell");
+    let base = index(0x02, 2, 3)?;
+    assert_eq!(rt; base & 3, 1);
+    let console = index(0x0A, 1, 0)?;
+    assert_eq!(rt; console & 7, 1);
+    for (table, row, column, name) in [
+        (0x00, 1, 1, "Hello.exe"),
+        (0x01, base / 4, 1, "Object"),
+        (0x01, base / 4, 2, "System"),
+        (0x01, console / 8, 1, "Console"),
+        (0x01, console / 8, 2, "System"),
+        (0x02, 1, 1, "<Module>"),
+        (0x02, 2, 1, "Program"),
+        (0x06, 1, 3, "Main"),
+        (0x0A, 1, 1, "WriteLine"),
+        (0x20, 1, 7, "Hello"),
+        (0x23, 1, 6, "mscorlib"),
+    ] {
+        let text = text_at(image, index(table, row, column)?)?;
+        assert_eq!(rt; text, name.as_bytes(), "table {table} row {row} column {column}");
+    }
     // the header of the code, `ldstr`, `call` and `ret`; the entry point; the text; the library's key token
     for bytes in [
         b"\x2E\x72\x01\x00\x00\x70\x28\x01\x00\x00\x0A\x2A".as_slice(),
@@ -153,7 +187,7 @@ fn identifiers_and_kinds(rt: HostRuntime) -> Result<(), Fail> {
 
 /// Bodies of a method, and bytes that stand in the image: the header of the code, the code, clauses in small and in fat
 /// form, and texts (II.24.2.4, II.25.4, III).
-static BODIES: [(&str, u32, &str, &[u8]); 9] = [
+static BODIES: [(&str, u32, &str, &[u8]); 10] = [
     ("nop ", 62, "ret", b"\xFE\x00\x00"),
     (
         "nop ",
@@ -178,6 +212,12 @@ static BODIES: [(&str, u32, &str, &[u8]); 9] = [
         1,
         "pop ret",
         b"\x00\x03\x00\xD8\x01",
+    ),
+    (
+        "ldstr bytearray (00 DC 00 D8) ",
+        1,
+        "pop ret",
+        b"\x00\x05\x00\xDC\x00\xD8\x01",
     ),
     (
         "ldstr \"\" ",
@@ -262,24 +302,58 @@ fn assemblies_that_are_too_large(rt: HostRuntime) -> Result<(), Fail> {
     Ok(())
 }
 
-/// Indexes of methods have two bytes up to 65,535 methods: the index behind the last is spelled 0 then (II.22.37).
+/// A source of so many classes with a method each, each class below one of the classes before it.
+fn made(alloc: Global, classes: u32) -> Result<String, Fail> {
+    let mut source = String::new(alloc);
+    source.push_str(".assembly extern mscorlib { .ver 4:0:0:0 }\n.assembly Made { .ver 1:0:0:0 }\n")?;
+    for class in 0..classes {
+        let below = class.saturating_sub(1) / 2;
+        let base = match class {
+            0 => format!(in alloc; "[mscorlib]System.Object")?,
+            _ => format!(in alloc; "C{below}")?,
+        };
+        let line = format!(in alloc;
+            ".class public C{class} extends {base} {{ .method public static object M(bool) cil managed {{ ldarg.0 brtrue.s L ldnull castclass C{class} br.s J L: ldnull castclass C{below} J: ret }} }}\n"
+        )?;
+        source.push_str(line.as_str())?;
+    }
+    Ok(source)
+}
+
+/// Indexes of methods have two bytes up to 65,535 methods, where the index behind the last is spelled 0, and then four
+/// (II.22.37, II.24.2.6). The bytes are those of the last type's row from its base on, and of the first method's RVA.
 #[test]
 fn many_methods(rt: HostRuntime) -> Result<(), Fail> {
-    for (count, behind) in [(65_535, 0), (65_536, 65_537)] {
-        let mut source = String::new(rt.alloc());
-        source.push_str(".assembly extern mscorlib { }\n.assembly A { }\n.class C0 {\n")?;
-        for number in 0..count {
-            let method = format!(in rt.alloc();
-                ".method static void M{number}() cil managed {{ ret }}\n"
-            )?;
-            source.push_str(method.as_str())?;
-        }
-        source.push_str("}\n.class Z extends C0 { }\n")?;
+    let cases = [
+        (
+            65_535,
+            "",
+            65_535,
+            b"\x00\x00\x02\x00\x01\x00\xFF\xFF\x50\x20\x00\x00".as_slice(),
+        ),
+        (
+            65_535,
+            ".class Z extends C0 { }\n",
+            0,
+            b"\x08\x00\x00\x00\x01\x00\x00\x00\x50\x20\x00\x00",
+        ),
+        (
+            65_536,
+            "",
+            65_536,
+            b"\x04\x00\x02\x00\x01\x00\x00\x00\x01\x00\x50\x20\x00\x00",
+        ),
+    ];
+    for (classes, more, last, bytes) in cases {
+        let mut source = made(rt.alloc(), classes)?;
+        source.push_str(more)?;
         let shelf = assembled(rt.alloc(), "ilasm a.il -dll", source.as_bytes())?;
-        let view = tables(shelf.file("a.dll").ok_or("no image")?)?;
-        assert_eq!(rt; view.rows(0x06), count);
+        let image = shelf.file("a.dll").ok_or("no image")?;
+        let view = tables(image)?;
+        assert_eq!(rt; view.rows(0x06), classes);
         assert_eq!(rt; cell(&view, 0x02, 2, 5), Some(1));
-        assert_eq!(rt; cell(&view, 0x02, 3, 5), Some(behind), "{count}");
+        assert_eq!(rt; cell(&view, 0x02, view.rows(0x02), 5), Some(last), "{classes}{more}");
+        assert!(rt; place_of(image, bytes).is_some(), "{classes}{more}");
     }
     Ok(())
 }

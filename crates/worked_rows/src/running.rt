@@ -1,6 +1,7 @@
 //! The program over a shelf and a console in memory.
 
-use il_base::{MemConsole, MemShelf, NoMemory, Text, Words};
+use crate::images::{cell, tables, text_at};
+use il_base::{Bytes, MemConsole, MemShelf, NoMemory, Text, Words};
 use il_tools::run;
 use std::alloc::Global;
 use std::test::Fail;
@@ -272,23 +273,28 @@ fn a_manifest(rt: HostRuntime) -> Result<(), Fail> {
         .windows(16)
         .position(|bytes| bytes == header)
         .ok_or("no tables")?;
-    assert!(rt; at < image.len() && image.len() < 1 << 20 && image.len() - at > 82);
+    assert!(rt; at < image.len() && image.len() < 1 << 20 && image.len() - at > 84);
     assert_eq!(rt; &image[at + 24..at + 36], rows);
     assert_eq!(rt;
-        &image[at + 60..at + 72],
-        b"\x04\x80\x00\x00\x01\x00\x02\x00\x03\x00\x04\x00".as_slice()
+        &image[at + 60..at + 78],
+        b"\x04\x80\x00\x00\x01\x00\x02\x00\x03\x00\x04\x00\x00\x00\x00\x00\x00\x00".as_slice()
     );
-    assert!(rt;
-        image
-            .windows(9)
-            .any(|bytes| bytes == b"Hello.dll".as_slice())
-    );
+    // behind the name: no culture, what fills up the stream, and the next stream, of texts, which begins with the empty one
+    assert_eq!(rt; &image[at + 80..at + 85], b"\x00\x00\x00\x00\x00".as_slice());
+    let view = tables(image)?;
+    for (table, column, name) in [(0x00, 1, "Hello.dll"), (0x20, 7, "Hello"), (0x20, 8, "")] {
+        let index = cell(&view, table, 1, column).ok_or("no cell")?;
+        assert_eq!(rt; text_at(image, index)?, name.as_bytes());
+    }
     Ok(())
 }
 
 /// The nth call of the shelf fails, n counting up until a run ends with no failure.
 #[test]
 fn failing_calls(rt: HostRuntime) -> Result<(), Fail> {
+    let mut shelf = shelf_with(rt.alloc(), MANIFEST)?;
+    outcome(rt.alloc(), "ilasm a.il -dll", &mut shelf)?;
+    let whole = Bytes::from_slice(rt.alloc(), shelf.file("a.dll").ok_or("no image")?)?;
     for (call, status) in [(1, 3), (2, 3), (3, 4), (4, 4), (5, 4), (6, 4)] {
         let mut shelf = shelf_with(rt.alloc(), MANIFEST)?;
         shelf.fail_at(call)?;
@@ -301,14 +307,13 @@ fn failing_calls(rt: HostRuntime) -> Result<(), Fail> {
             ""
         };
         assert_eq!(rt; said.as_str(), text, "at {call}");
-        let stands = shelf.file("a.dll").map(|file| file.len());
         let wanted = match call {
-            4 => Some(0),
-            5 => Some(512),
-            6 => Some(1024),
+            4 => whole.as_slice().get(..0),
+            5 => whole.as_slice().get(..512),
+            6 => whole.as_slice().get(..1024),
             _ => None,
         };
-        assert_eq!(rt; stands, wanted, "at {call}");
+        assert_eq!(rt; shelf.file("a.dll"), wanted, "at {call}");
     }
     let mut shelf = shelf_with(rt.alloc(), MANIFEST)?;
     shelf.at_most(0);
