@@ -151,7 +151,11 @@ fn a_program(rt: HostRuntime) -> Result<(), Fail> {
         (0x23, 1, 6, "mscorlib"),
     ] {
         let text = text_at(image, index(table, row, column)?)?;
-        assert_eq!(rt; text, name.as_bytes(), "table {table} row {row} column {column}");
+        assert_eq!(rt;
+            text,
+            name.as_bytes(),
+            "table {table} row {row} column {column}"
+        );
     }
     // the header of the code, `ldstr`, `call` and `ret`; the entry point; the text; the library's key token
     for bytes in [
@@ -305,7 +309,9 @@ fn assemblies_that_are_too_large(rt: HostRuntime) -> Result<(), Fail> {
 /// A source of so many classes with a method each, each class below one of the classes before it.
 fn made(alloc: Global, classes: u32) -> Result<String, Fail> {
     let mut source = String::new(alloc);
-    source.push_str(".assembly extern mscorlib { .ver 4:0:0:0 }\n.assembly Made { .ver 1:0:0:0 }\n")?;
+    source.push_str(
+        ".assembly extern mscorlib { .ver 4:0:0:0 }\n.assembly Made { .ver 1:0:0:0 }\n",
+    )?;
     for class in 0..classes {
         let below = class.saturating_sub(1) / 2;
         let base = match class {
@@ -352,7 +358,11 @@ fn many_methods(rt: HostRuntime) -> Result<(), Fail> {
         let view = tables(image)?;
         assert_eq!(rt; view.rows(0x06), classes);
         assert_eq!(rt; cell(&view, 0x02, 2, 5), Some(1));
-        assert_eq!(rt; cell(&view, 0x02, view.rows(0x02), 5), Some(last), "{classes}{more}");
+        assert_eq!(rt;
+            cell(&view, 0x02, view.rows(0x02), 5),
+            Some(last),
+            "{classes}{more}"
+        );
         assert!(rt; place_of(image, bytes).is_some(), "{classes}{more}");
     }
     Ok(())

@@ -280,7 +280,10 @@ fn a_manifest(rt: HostRuntime) -> Result<(), Fail> {
         b"\x04\x80\x00\x00\x01\x00\x02\x00\x03\x00\x04\x00\x00\x00\x00\x00\x00\x00".as_slice()
     );
     // behind the name: no culture, what fills up the stream, and the next stream, of texts, which begins with the empty one
-    assert_eq!(rt; &image[at + 80..at + 85], b"\x00\x00\x00\x00\x00".as_slice());
+    assert_eq!(rt;
+        &image[at + 80..at + 85],
+        b"\x00\x00\x00\x00\x00".as_slice()
+    );
     let view = tables(image)?;
     for (table, column, name) in [(0x00, 1, "Hello.dll"), (0x20, 7, "Hello"), (0x20, 8, "")] {
         let index = cell(&view, table, 1, column).ok_or("no cell")?;
