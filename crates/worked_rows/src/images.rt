@@ -132,10 +132,9 @@ fn a_program(rt: HostRuntime) -> Result<(), Fail> {
             "table {table} row {row} column {column}"
         );
     }
-    let index = |table, row, column| cell(&view, table, row, column).ok_or("no cell");
-    let base = index(0x02, 2, 3)?;
+    let base = cell(&view, 0x02, 2, 3).ok_or("no base")?;
     assert_eq!(rt; base & 3, 1);
-    let console = index(0x0A, 1, 0)?;
+    let console = cell(&view, 0x0A, 1, 0).ok_or("no owner")?;
     assert_eq!(rt; console & 7, 1);
     for (table, row, column, name) in [
         (0x00, 1, 1, "Hello.exe"),
@@ -150,7 +149,8 @@ fn a_program(rt: HostRuntime) -> Result<(), Fail> {
         (0x20, 1, 7, "Hello"),
         (0x23, 1, 6, "mscorlib"),
     ] {
-        let text = text_at(image, index(table, row, column)?)?;
+        let index = cell(&view, table, row, column).ok_or("no cell")?;
+        let text = text_at(image, index)?;
         assert_eq!(rt;
             text,
             name.as_bytes(),
