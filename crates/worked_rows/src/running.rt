@@ -1,7 +1,7 @@
 //! The program over a shelf and a console in memory.
 
 use crate::images::{cell, tables, text_at};
-use il_base::{Bytes, MemConsole, MemShelf, NoMemory, Text, Words};
+use il_base::{MemConsole, MemShelf, NoMemory, Text, Words};
 use il_tools::run;
 use std::alloc::Global;
 use std::test::Fail;
@@ -292,12 +292,22 @@ fn a_manifest(rt: HostRuntime) -> Result<(), Fail> {
     Ok(())
 }
 
+/// Whether a file holds so many bytes, the first of the image of `MANIFEST`, or is absent where none are wanted.
+fn is_front(alloc: Global, file: Option<&[u8]>, wanted: Option<usize>) -> Result<bool, Fail> {
+    let (file, wanted) = match (file, wanted) {
+        (Some(file), Some(wanted)) => (file, wanted),
+        (None, None) => return Ok(true),
+        _ => return Ok(false),
+    };
+    let mut shelf = shelf_with(alloc, MANIFEST)?;
+    outcome(alloc, "ilasm a.il -dll", &mut shelf)?;
+    let image = shelf.file("a.dll").ok_or("no image")?;
+    Ok(file.len() == wanted && image.starts_with(file))
+}
+
 /// The nth call of the shelf fails, n counting up until a run ends with no failure.
 #[test]
 fn failing_calls(rt: HostRuntime) -> Result<(), Fail> {
-    let mut shelf = shelf_with(rt.alloc(), MANIFEST)?;
-    outcome(rt.alloc(), "ilasm a.il -dll", &mut shelf)?;
-    let whole = Bytes::from_slice(rt.alloc(), shelf.file("a.dll").ok_or("no image")?)?;
     for (call, status) in [(1, 3), (2, 3), (3, 4), (4, 4), (5, 4), (6, 4)] {
         let mut shelf = shelf_with(rt.alloc(), MANIFEST)?;
         shelf.fail_at(call)?;
@@ -311,12 +321,13 @@ fn failing_calls(rt: HostRuntime) -> Result<(), Fail> {
         };
         assert_eq!(rt; said.as_str(), text, "at {call}");
         let wanted = match call {
-            4 => whole.as_slice().get(..0),
-            5 => whole.as_slice().get(..512),
-            6 => whole.as_slice().get(..1024),
+            4 => Some(0),
+            5 => Some(512),
+            6 => Some(1024),
             _ => None,
         };
-        assert_eq!(rt; shelf.file("a.dll"), wanted, "at {call}");
+        let front = is_front(rt.alloc(), shelf.file("a.dll"), wanted)?;
+        assert!(rt; front, "at {call}");
     }
     let mut shelf = shelf_with(rt.alloc(), MANIFEST)?;
     shelf.at_most(0);
