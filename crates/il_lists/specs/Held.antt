@@ -5,4 +5,4 @@ use Rattle.il_lists.specs.declared.text.Held.TheVariants.{Short, Long}
 
 abbrev pub held_bytes : Held → List ℕ
 held_bytes (Short text alloc) = text
-held_bytes (Long text) = string_bytes text
+held_bytes (Long text) = string_bytes text.value

@@ -4,6 +4,7 @@ ghost use Rattle.std.specs.Option.{option_copied};
 use crate::{Copies, NoMemory};
 use std::alloc::Global;
 use std::marker::Model;
+use std::mem::replace;
 
 /// A list that contracts see as the list of its items.
 #[derive(Debug, Drop)]
@@ -100,6 +101,19 @@ fn grow_by_one<T>(items: &mut Vec<T>) -> Result<(), NoMemory>
     Ok(())
 }
 
+// The items with room for one more, and whether there was memory for it. They are handed over and back, so that the
+// place of a list that is only pushed to isn't lent, and it may stay in registers.
+#[cold]
+#[inline(never)]
+fn roomier<T>(items: Vec<T>) -> (Vec<T>, bool)
+    ensures items { result.0.items ≡ items.items }
+    ensures room { IsTrue result.1 → vec_len result.0 < vec_capacity result.0 }
+{
+    let mut grown = items;
+    let has_room = grown.reserve(1).is_ok();
+    (grown, has_room)
+}
+
 impl<T: Drop> Items<T> {
     /// Adds an item at the end. A first item gets room for itself alone, since many lists of a tree
     /// have one item.
@@ -110,6 +124,25 @@ impl<T: Drop> Items<T> {
     {
         if self.items.len() == self.items.capacity() {
             grow_by_one(&mut self.items)?;
+        }
+        self.items.push_reserved(item);
+        Ok(())
+    }
+
+    /// Adds an item at the end, as `push` does, where many are added and room seldom runs out: between the
+    /// pushes of a loop the list stays in registers.
+    #[inline(always)]
+    pub fn push_long(&mut self, item: T) -> Result<(), NoMemory>
+        ensures ok { OnOk result (self.new ≡ self.old ++ item ∷ []) }
+        ensures err { OnErr result (self.new ≡ self.old) }
+    {
+        if self.items.len() == self.items.capacity() {
+            let none = Vec::new(*self.items.allocator());
+            let (items, has_room) = roomier(replace(&mut self.items, none));
+            self.items = items;
+            if !has_room {
+                return Err(NoMemory);
+            }
         }
         self.items.push_reserved(item);
         Ok(())

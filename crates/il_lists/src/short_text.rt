@@ -3,8 +3,8 @@ ghost use Rattle.std.specs.Prelude.{◌≡◌, ◌≤◌, length, take, IsUtf8};
 use std::marker::Model;
 use std::str;
 
-/// The most bytes that a short text holds: as many as fit beside its length and a tag where a `String` fits.
-pub(crate) const MOST: usize = 30;
+/// The most bytes that a short text holds: as many as fit in three words beside its length and a tag.
+pub(crate) const MOST: usize = 22;
 
 /// A UTF-8 text of at most `MOST` bytes, which lie in the value itself. Contracts see it as the list of its bytes.
 #[derive(Debug, Drop)]
@@ -20,16 +20,19 @@ impl Model for ShortText {
 
     ghost view = { λ t. take t.len t.bytes };
 
-    ghost invariant = { λ t. (t.len ≤ 30) × ∥ IsUtf8 (take t.len t.bytes) ∥₁ };
+    ghost invariant = { λ t. (t.len ≤ 22) × ∥ IsUtf8 (take t.len t.bytes) ∥₁ };
 }
 
 impl ShortText {
     /// A copy of `s`, which must fit.
     pub(crate) fn new(s: &str) -> ShortText
-        requires { length s.now ≤ 30 }
+        requires { length s.now ≤ 22 }
         ensures { result ≡ s.now }
     {
         let mut bytes = [0; MOST];
+        if s.is_empty() {
+            return ShortText { len: 0, bytes };
+        }
         bytes[..s.len()].copy_from_slice(s.as_bytes());
         ShortText {
             len: s.len() as u8,

@@ -5,7 +5,7 @@ use crate::{Copies, NoMemory};
 use std::alloc::Global;
 use std::marker::Model;
 
-/// A UTF-8 text that contracts see as the list of its bytes. A text of up to 30 bytes, as most names are, takes no
+/// A UTF-8 text that contracts see as the list of its bytes. A text of up to 22 bytes, as most names are, takes no
 /// memory of its own.
 #[derive(Debug, Drop)]
 pub struct Text {
@@ -16,7 +16,7 @@ pub struct Text {
 #[derive(Debug, Drop)]
 enum Held {
     Short { text: ShortText, alloc: Global },
-    Long(String),
+    Long(Box<String>),
 }
 
 impl Model for Text {
@@ -40,6 +40,7 @@ impl Text {
             });
         }
         let text = String::from_str(alloc, s)?;
+        let text = Box::new(alloc, text)?;
         Ok(Text {
             held: Held::Long(text),
         })
@@ -86,6 +87,7 @@ impl Text {
             Held::Short { text, alloc } => {
                 let mut long = String::from_str(*alloc, text.as_str())?;
                 long.push_str(more)?;
+                let long = Box::new(*alloc, long)?;
                 self.held = Held::Long(long);
             }
         }
