@@ -25,7 +25,7 @@ parts_agree k = same (reaches 2 k) (is_id_part k)
 abbrev gaps_agree : ℕ → Bool
 gaps_agree k = same (nat_eq (get_or CLASSES k 0) 0) (is_gap_start k)
 
-abbrev all_below : (ℕ → Bool) → ℕ → Bool
+abbrev pub all_below : (ℕ → Bool) → ℕ → Bool
 all_below test zero = true
 all_below test (suc n) = elim (test n) [ true ↦ all_below test n | false ↦ false ]
 
@@ -39,7 +39,7 @@ split zero (suc n) lt = inr (omega arith)
 split (suc k) zero lt = absurd (omega arith)
 split (suc k) (suc n) lt = elim (split k n (omega arith)) [ inl e ↦ inl (ap suc e) | inr h ↦ inr (omega arith) ]
 
-below : (test : ℕ → Bool) (n k : ℕ) → all_below test n ≡ true → k < n → test k ≡ true
+pub below : (test : ℕ → Bool) (n k : ℕ) → all_below test n ≡ true → k < n → test k ≡ true
 below test zero k e lt = absurd (omega arith)
 below test (suc n) k e lt =
     let h = all-parts (test n) (all_below test n) e in

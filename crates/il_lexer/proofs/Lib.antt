@@ -3,6 +3,7 @@ mod BlockLemmas
 mod FirstBytes
 mod FoundTokens
 mod FrontLemmas
+mod IdFronts
 mod IdParts
 mod Fronts
 mod GapFronts
@@ -12,6 +13,7 @@ pub mod LineLemmas
 mod LongestLemmas
 mod Marks
 mod Named
+mod OneMarks
 mod Outcomes
 mod PlainNames
 mod PlaceLemmas

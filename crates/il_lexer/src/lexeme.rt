@@ -1,13 +1,13 @@
 //! The token at the front of some bytes.
 
-ghost use Rattle.std.specs.Prelude.{◌≡◌, ◌+◌, ◌<◌, ◌≤◌, true, false, length, take, drop, IfSome, IfOk};
+ghost use Rattle.std.specs.Prelude.{ℕ, List, ◌∷◌, ◌≡◌, ◌+◌, ◌<◌, ◌≤◌, true, false, length, take, drop, IfSome, IfOk};
 ghost use Rattle.il_lexer.specs.Classes.{first_is, first_passes, is_id_start};
 ghost use Rattle.il_lexer.specs.WordKeys.{key_from};
 ghost use Rattle.il_lexer.specs.Tokens.{token, word_of, longer_word, bytearray_token, name_or_word, named, id_token, quoted_name_token, string_token, digits_token, minus_token, dot_token, hash_token, bracket_token, equals_token, paren_token, slash_token, doubled_token, mark_token, token_at};
 
 use crate::bytes::{behind, digit_at, stands_at};
 use crate::classes::{is_digit, is_id_start};
-use crate::names::{Front, first_id, id_at, id_behind, keyed_name, longer};
+use crate::names::{Front, first_id, id_at, id_from, keyed_name, longer};
 use crate::pairs::{bytes_length, pairs_in};
 use crate::quotes::{quote_fault, quoted_length};
 use crate::spellings::{id_length, int_length, name_length};
@@ -203,6 +203,7 @@ fn minus_token(rest: &[u8]) -> Result<Lexeme, u8>
 }
 
 // At a dot: a directive or `...`.
+#[inline(always)]
 #[tactic(auto, unfolding(crate::specs::Tokens::dot_token))]
 fn dot_token(rest: &[u8]) -> Result<Lexeme, u8>
     requires { 0 < length rest.now }
@@ -210,7 +211,7 @@ fn dot_token(rest: &[u8]) -> Result<Lexeme, u8>
     ensures fits { IfOk result (λ l. (0 < l.length) × (l.length ≤ length rest.now)) }
 {
     if id_at(rest, 1) {
-        let word = id_behind(rest, longer(rest, Front { length: 0, key: 0 }));
+        let word = id_from(rest, longer(rest, Front { length: 0, key: 0 }));
         let kind = match number_of_key(&rest[..word.length], word.key) {
             Some(number) => TokenKind::Word(number),
             None => TokenKind::Unused,
@@ -270,6 +271,7 @@ fn equals_token(rest: &[u8]) -> Result<Lexeme, u8>
 }
 
 // At a `(`.
+#[inline(always)]
 #[tactic(auto, unfolding(crate::specs::Tokens::paren_token))]
 fn paren_token(rest: &[u8]) -> Result<Lexeme, u8>
     requires { 0 < length rest.now }
@@ -299,6 +301,7 @@ fn slash_token(rest: &[u8]) -> Result<Lexeme, u8>
 }
 
 // At a mark that may be doubled.
+#[inline(always)]
 fn doubled_token(byte: u8, one: u16, two: u16, rest: &[u8]) -> Result<Lexeme, u8>
     requires { 0 < length rest.now }
     ensures value { result ≡ doubled_token byte one two rest.now }
@@ -332,6 +335,29 @@ fn mark_token(byte: u8) -> Result<Lexeme, u8>
     }
 }
 
+// The number of each mark of one byte that begins no longer token, and 0 for all other bytes.
+static MARKS: [u16; 256] = [
+    0, 0, 0, 0, 0, 0, 0, 0, 0, 0, 0, 0, 0, 0, 0, 0, 0, 0, 0, 0, 0, 0, 0, 0, 0, 0, 0, 0, 0, 0, 0, 0,
+    0, 0, 0, 0, 0, 0, 2, 0, 0, 4, 5, 6, 7, 0, 0, 0, 0, 0, 0, 0, 0, 0, 0, 0, 0, 0, 0, 0, 63, 0, 65,
+    0, 0, 0, 0, 0, 0, 0, 0, 0, 0, 0, 0, 0, 0, 0, 0, 0, 0, 0, 0, 0, 0, 0, 0, 0, 0, 0, 0, 0, 0, 70,
+    0, 0, 0, 0, 0, 0, 0, 0, 0, 0, 0, 0, 0, 0, 0, 0, 0, 0, 0, 0, 0, 0, 0, 0, 0, 0, 0, 0, 0, 399, 0,
+    400, 0, 0, 0, 0, 0, 0, 0, 0, 0, 0, 0, 0, 0, 0, 0, 0, 0, 0, 0, 0, 0, 0, 0, 0, 0, 0, 0, 0, 0, 0,
+    0, 0, 0, 0, 0, 0, 0, 0, 0, 0, 0, 0, 0, 0, 0, 0, 0, 0, 0, 0, 0, 0, 0, 0, 0, 0, 0, 0, 0, 0, 0, 0,
+    0, 0, 0, 0, 0, 0, 0, 0, 0, 0, 0, 0, 0, 0, 0, 0, 0, 0, 0, 0, 0, 0, 0, 0, 0, 0, 0, 0, 0, 0, 0, 0,
+    0, 0, 0, 0, 0, 0, 0, 0, 0, 0, 0, 0, 0, 0, 0, 0, 0, 0, 0, 0, 0, 0, 0, 0, 0, 0, 0, 0, 0, 0, 0, 0,
+    0, 0, 0, 0,
+];
+
+// The number of a mark of one byte that begins no longer token: found without a jump by the byte's value, which is foreseen
+// badly.
+#[tactic(auto, using(crate::proofs::OneMarks::one_mark))]
+fn single_mark(byte: u8) -> Option<u16>
+    ensures { IfSome result (λ k. (bs : List ℕ) → token_at (byte ∷ bs) ≡ token (TokenKind.Word k) 1) }
+{
+    let number = MARKS[byte as usize];
+    if number == 0 { None } else { Some(number) }
+}
+
 /// The token at the front: the longest spelling that begins there, a word before a name of equal length. The error is the
 /// number of the rule that is broken where no token begins.
 #[tactic(auto, unfolding(crate::specs::Tokens::token_at))]
@@ -343,6 +369,9 @@ pub fn token_at(rest: &[u8]) -> Result<Lexeme, u8>
     let byte = rest[0];
     if is_id_start(byte) {
         return id_token(rest);
+    }
+    if let Some(number) = single_mark(byte) {
+        return mark(number);
     }
     if is_digit(byte) {
         return digits_token(rest);

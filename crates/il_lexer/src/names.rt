@@ -25,7 +25,60 @@ pub(crate) fn first_id(rest: &[u8]) -> Front
     ensures fits { (0 < result.length) × (result.length ≤ length rest.now) }
     ensures key { result.key ≡ key_from 0 (take result.length rest.now) }
 {
-    id_behind(rest, longer(rest, Front { length: 0, key: 0 }))
+    id_from(rest, longer(rest, Front { length: 0, key: 0 }))
+}
+
+/// A front of one byte with the bytes behind it that go on in an identifier. Most identifiers end within eight bytes, which
+/// are looked at in turn without a loop.
+#[inline(always)]
+pub(crate) fn id_from(rest: &[u8], one: Front) -> Front
+    requires within { one.length ≤ length rest.now }
+    requires key { one.key ≡ key_from 0 (take one.length rest.now) }
+    ensures long { result.length ≡ one.length + front is_id_part (drop one.length rest.now) }
+    ensures fits { result.length ≤ length rest.now }
+    ensures key { result.key ≡ key_from 0 (take result.length rest.now) }
+{
+    if rest.len() < 9 {
+        return id_behind(rest, one);
+    }
+    let Some(two) = one_on(rest, one) else {
+        return one;
+    };
+    let Some(three) = one_on(rest, two) else {
+        return two;
+    };
+    let Some(four) = one_on(rest, three) else {
+        return three;
+    };
+    let Some(five) = one_on(rest, four) else {
+        return four;
+    };
+    let Some(six) = one_on(rest, five) else {
+        return five;
+    };
+    let Some(seven) = one_on(rest, six) else {
+        return six;
+    };
+    let Some(eight) = one_on(rest, seven) else {
+        return seven;
+    };
+    id_behind(rest, eight)
+}
+
+// A front with the byte behind it, where that goes on in an identifier.
+#[tactic(auto, using(crate::proofs::IdFronts::part_more, crate::proofs::IdFronts::part_none))]
+fn one_on(rest: &[u8], start: Front) -> Option<Front>
+    requires within { start.length ≤ length rest.now }
+    requires key { start.key ≡ key_from 0 (take start.length rest.now) }
+    ensures long { MatchOption result (front is_id_part (drop start.length rest.now) ≡ 0) (λ f. f.length + front is_id_part (drop f.length rest.now) ≡ start.length + front is_id_part (drop start.length rest.now)) }
+    ensures fits { IfSome result (λ f. f.length ≤ length rest.now) }
+    ensures key { IfSome result (λ f. f.key ≡ key_from 0 (take f.length rest.now)) }
+{
+    if part_at(rest, start.length) {
+        Some(longer(rest, start))
+    } else {
+        None
+    }
 }
 
 /// The name that begins with an identifier, of which `first` is the whole.
@@ -49,6 +102,7 @@ pub(crate) fn keyed_name(rest: &[u8], first: Front) -> Option<Front>
 }
 
 // An identifier with those behind it that dots join to it.
+#[inline(never)]
 fn dotted_ids(rest: &[u8], first: Front) -> Front
     requires starts { first_passes is_id_start rest.now ≡ true }
     requires long { first.length ≡ front is_id_part rest.now }
@@ -78,8 +132,8 @@ pub(crate) fn longer(rest: &[u8], start: Front) -> Front
     }
 }
 
-/// A front with the bytes behind it that go on in an identifier.
-pub(crate) fn id_behind(rest: &[u8], start: Front) -> Front
+// A front with the bytes behind it that go on in an identifier.
+fn id_behind(rest: &[u8], start: Front) -> Front
     requires within { start.length ≤ length rest.now }
     requires key { start.key ≡ key_from 0 (take start.length rest.now) }
     ensures long { result.length ≡ start.length + front is_id_part (drop start.length rest.now) }

@@ -55,6 +55,7 @@ pub fn pairs_in(rest: &[u8]) -> Option<Pairs>
 }
 
 /// A gap, and bytes in parentheses.
+#[inline(never)]
 pub fn bytes_length(rest: &[u8]) -> Option<usize>
     ensures value { result ≡ bytes_length rest.now }
     ensures fits { IfSome result (λ n. n ≤ length rest.now) }

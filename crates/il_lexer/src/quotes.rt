@@ -124,6 +124,7 @@ impl Piece for AnyChar {
 }
 
 /// After an opening `quote`, the length of the allowed text up to the closing quote, and that quote.
+#[inline(never)]
 pub fn quoted_length(quote: u8, rest: &[u8]) -> Option<usize>
     ensures value { result ≡ quoted_length quote rest.now }
     ensures fits { IfSome result (λ n. (0 < n) × (n ≤ length rest.now)) }
@@ -145,6 +146,7 @@ fn ends(quote: u8, rest: &[u8]) -> bool
 }
 
 /// The rule that a quote breaks which begins no token: 3 where it ends, else 2.
+#[inline(never)]
 pub fn quote_fault(quote: u8, rest: &[u8]) -> u8
     ensures { result ≡ quote_fault quote rest.now }
 {

@@ -163,7 +163,7 @@ fn scan(alloc: Global, source: &[u8]) -> Result<Tokens, LexFault>
         };
         depth = after;
         at = start + found.length;
-        tokens.push(Token {
+        tokens.push_long(Token {
             kind: found.kind,
             start: start as u32,
             end: at as u32,

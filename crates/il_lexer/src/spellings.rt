@@ -19,6 +19,7 @@ fn id_parts(rest: &[u8]) -> usize
 }
 
 /// An identifier.
+#[inline(never)]
 pub fn id_length(rest: &[u8]) -> Option<usize>
     ensures value { result ≡ id_length rest.now }
     ensures fits { IfSome result (λ n. (0 < n) × (n ≤ length rest.now)) }
@@ -95,6 +96,7 @@ impl Piece for DottedPart {
 }
 
 /// A name: parts joined by single dots.
+#[inline(never)]
 pub fn name_length(rest: &[u8]) -> Option<usize>
     ensures value { result ≡ name_length rest.now }
     ensures fits { IfSome result (λ n. (0 < n) × (n ≤ length rest.now)) }
@@ -183,6 +185,7 @@ fn decimal_length(rest: &[u8]) -> Option<usize>
 }
 
 /// An integer without its sign.
+#[inline(never)]
 pub fn int_length(rest: &[u8]) -> Option<usize>
     ensures value { result ≡ int_length rest.now }
     ensures fits { IfSome result (λ n. (0 < n) × (n ≤ length rest.now)) }

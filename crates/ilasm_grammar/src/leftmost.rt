@@ -115,7 +115,7 @@ fn advance(
                 if symbol != terminal {
                     return Ok(Turn::Stops);
                 }
-                nodes.push(TreeNode::Leaf { token: at })?;
+                nodes.push_long(TreeNode::Leaf { token: at })?;
                 drop_first(next, behind);
                 return Ok(Turn::Takes);
             }
@@ -194,7 +194,7 @@ fn descend(
 fn push_branch(nodes: &mut Tree, production: u16) -> Result<(), NoMemory>
     ensures { OnOk result (nodes.new ≡ nodes.old ++ Branch production 0 ∷ []) }
 {
-    nodes.push(TreeNode::Branch {
+    nodes.push_long(TreeNode::Branch {
         production,
         nodes: 0,
     })

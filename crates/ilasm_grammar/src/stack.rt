@@ -48,7 +48,7 @@ pub(crate) fn replace_first(
 {
     let rest = place_behind(*next);
     if rest < NOWHERE {
-        behind.push(rest as u16)?;
+        behind.push_long(rest as u16)?;
     }
     *next = begin as usize;
     Ok(())

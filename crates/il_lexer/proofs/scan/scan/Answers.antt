@@ -32,7 +32,7 @@ loop-line-preserved c =
     let within : l.length ≤ length source - c.past_gap-start.result = subst (λ n. l.length ≤ n) c.behind.ensures.len c.in-Ok.ensures.fits.1 in
     record {
       scanned = scanned-push source _ _ c.loop-line.at 0 c.loop-line.depth _ _ _ token c.loop-line.invariant.scanned l found
-          is (omega arith) (omega arith) c.in-Some.ensures.0 c.in-Some.ensures.1 c.in_ok-push.ensures.ok refl;
+          is (omega arith) (omega arith) c.in-Some.ensures.0 c.in-Some.ensures.1 c.in_ok-push_long.ensures.ok refl;
       line = c.place_on-pos.ensures.is;
       order = omega (arith, c.place_on-pos.ensures.starts);
     }

@@ -48,6 +48,6 @@ returns-in-Terminal-clause-turned c kinds next under =
     let first = first_is c.loop-symbol.next c.loop-symbol.behind (Terminal c.args.terminal) c.loop-symbol.invariant.some
     (sym c.symbol_at.ensures.is ∙ c.in-Terminal.is ∙ ap (λ (x : ℕ). Terminal x) same) in
     leaf_made kinds c.args.terminal c.args.at (symbols_at c.loop-symbol.next c.loop-symbol.behind)
-    (symbols_at c.drop_first.new.next c.drop_first.new.behind) c.loop-symbol.nodes c.push.new.self low
-    (first ∙ ap (λ (s : List Symbol). Terminal c.args.terminal ∷ s) (sym c.drop_first.ensures.is)) c.in_ok-push-in-Terminal.ensures.ok next
+    (symbols_at c.drop_first.new.next c.drop_first.new.behind) c.loop-symbol.nodes c.push_long.new.self low
+    (first ∙ ap (λ (s : List Symbol). Terminal c.args.terminal ∷ s) (sym c.drop_first.ensures.is)) c.in_ok-push_long-in-Terminal.ensures.ok next
     (c.loop-symbol.invariant.extended.keeps kinds c.args.at next under)
