@@ -4,4 +4,5 @@ pub mod FormedFacts
 pub mod FormedTerms
 pub mod FormedTypes
 pub mod Prefixes
+pub mod TextLists
 pub mod TypeWeights

@@ -1,4 +1,5 @@
 pub mod DataSize
+pub mod Loading
 pub mod Nesting
 pub mod Room
 pub mod Weight

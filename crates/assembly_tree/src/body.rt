@@ -36,11 +36,11 @@ pub enum Operand {
     /// The bit pattern of a real number, in the instruction's width.
     Real(u64),
     Target(u32),
-    Targets(Numbers),
+    Targets(Boxed<Numbers>),
     Method(Boxed<MethodRef>),
     Field(Boxed<FieldRef>),
     Of(Boxed<Owner>),
-    Text(Units),
+    Text(Boxed<Units>),
 }
 
 /// An exception clause (II.19, II.25.4.6): ranges of instruction numbers, the end not included.

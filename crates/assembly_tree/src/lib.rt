@@ -21,4 +21,4 @@ pub use members::{
 };
 pub use sizes::data_size;
 pub use typedef::{Layout, MethodPath, TypeDef, TypeDefs};
-pub use weighing::{MAX_WEIGHT, weight};
+pub use weighing::{MAX_WEIGHT, Weighed, weigh, weight};

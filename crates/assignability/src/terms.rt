@@ -27,10 +27,12 @@ pub fn term_at(alloc: Global, pool: &SigPool, id: SigId) -> Result<SigType, NoMe
         Node::Inst { value, name, args } => {
             let name = name.copy(alloc)?;
             let args = all_terms_at(alloc, pool, args.as_slice())?;
+            let named = Boxed::new(alloc, name)?;
+            let given = Boxed::new(alloc, args)?;
             Ok(SigType::Inst {
                 value: *value,
-                name,
-                args,
+                name: named,
+                args: given,
             })
         }
         Node::Var(number) => Ok(SigType::Var(*number)),
@@ -48,11 +50,13 @@ pub fn term_at(alloc: Global, pool: &SigPool, id: SigId) -> Result<SigType, NoMe
             let sizes = sizes.copy(alloc)?;
             let lower = lower.copy(alloc)?;
             let of = boxed_term_at(alloc, pool, *of)?;
+            let extents = Boxed::new(alloc, sizes)?;
+            let bounds = Boxed::new(alloc, lower)?;
             Ok(SigType::Array {
                 of,
                 rank: *rank,
-                sizes,
-                lower,
+                sizes: extents,
+                lower: bounds,
             })
         }
         Node::ByRef(of) => {

@@ -1,4 +1,4 @@
-//! Instructions with their operands, each made where it is added, since an operand is large (ECMA-335 III.1.7).
+//! Instructions with their operands, each made where it is added (ECMA-335 III.1.7).
 
 ghost use Rattle.std.specs.Prelude.{◌≡◌, ◌++◌, ◌∷◌, [], OnOk};
 ghost use Rattle.assembly_tree.specs.declared.body.Operand.TheVariants as operand;
@@ -67,9 +67,10 @@ pub fn push_target(all: &mut Code, op: Op, number: u32) -> Result<(), NoMemory>
 
 /// Adds one that takes those of some instructions.
 #[inline(never)]
-pub fn push_targets(all: &mut Code, op: Op, numbers: Numbers) -> Result<(), NoMemory>
+pub fn push_targets(all: &mut Code, alloc: Global, op: Op, numbers: Numbers) -> Result<(), NoMemory>
     ensures { OnOk result (all.new ≡ all.old ++ instruction_with op (operand.Targets numbers) ∷ []) }
 {
+    let numbers = Boxed::new(alloc, numbers)?;
     all.push(Ins {
         op,
         operand: Operand::Targets(numbers),
@@ -78,9 +79,10 @@ pub fn push_targets(all: &mut Code, op: Op, numbers: Numbers) -> Result<(), NoMe
 
 /// Adds one that takes a string.
 #[inline(never)]
-pub fn push_text(all: &mut Code, op: Op, units: Units) -> Result<(), NoMemory>
+pub fn push_text(all: &mut Code, alloc: Global, op: Op, units: Units) -> Result<(), NoMemory>
     ensures { OnOk result (all.new ≡ all.old ++ instruction_with op (operand.Text units) ∷ []) }
 {
+    let units = Boxed::new(alloc, units)?;
     all.push(Ins {
         op,
         operand: Operand::Text(units),

@@ -116,11 +116,11 @@ fn push_other(
         }
         INSTRUCTION_SWITCH => {
             let numbers = target_numbers(alloc, &at.code, production, nodes)?;
-            push_targets(all, op, numbers)
+            push_targets(all, alloc, op, numbers)
         }
         INSTRUCTION_LDSTR => {
             let units = string_units(alloc, &at.place.reader, nodes)?;
-            push_text(all, op, units)
+            push_text(all, alloc, op, units)
         }
         _ => push_reference(all, alloc, &at.place, op, production, nodes),
     }

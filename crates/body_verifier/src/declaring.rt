@@ -18,7 +18,7 @@ fn type_name(t: &SigType) -> Option<&TypeName>
     match t {
         SigType::Class(name) => Some(name),
         SigType::Value(name) => Some(name),
-        SigType::Inst { name, .. } => Some(name),
+        SigType::Inst { name, .. } => Some(name.get()),
         SigType::Prim(_) => None,
         SigType::Var(_) => None,
         SigType::MVar(_) => None,

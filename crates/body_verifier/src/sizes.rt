@@ -22,7 +22,7 @@ fn targets_size(operand: &Operand) -> u32
     ensures { result ≡ targets_size operand.now }
 {
     match operand {
-        Operand::Targets(targets) => 4 + 4 * targets.len() as u32,
+        Operand::Targets(targets) => 4 + 4 * targets.get().len() as u32,
         Operand::Nothing
         | Operand::Var(_)
         | Operand::Int(_)

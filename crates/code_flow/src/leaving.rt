@@ -52,7 +52,7 @@ pub fn targets_of(operand: &Operand) -> &[u32]
 {
     match operand {
         Operand::Target(to) => std::slice::from_ref(to),
-        Operand::Targets(all) => all.as_slice(),
+        Operand::Targets(all) => all.get().as_slice(),
         _ => &[],
     }
 }

@@ -95,7 +95,7 @@ fn note_operand<'a>(
             Ok(())
         }
         Operand::Text(units) => {
-            refer_loaded(alloc, refs, units)?;
+            refer_loaded(alloc, refs, units.get())?;
             Ok(())
         }
         Operand::Nothing

@@ -106,7 +106,10 @@ pub fn mix_type(hash: u64, t: &SigType) -> u64
         SigType::Class(name) => mix_name(mix(hash, 0x201), name),
         SigType::Value(name) => mix_name(mix(hash, 0x202), name),
         SigType::Inst { name, args, .. } => {
-            mix_types(mix_name(mix(hash, 0x203), name), args.as_slice())
+            mix_types(
+                mix_name(mix(hash, 0x203), name.get()),
+                args.get().as_slice(),
+            )
         }
         SigType::Var(number) => mix(mix(hash, 0x204), u64::from(*number)),
         SigType::MVar(number) => mix(mix(hash, 0x205), u64::from(*number)),

@@ -58,8 +58,8 @@ pub fn note_type<'a>(
             Ok(())
         }
         SigType::Inst { name, args, .. } => {
-            refer_name(refs, name)?;
-            note_types(alloc, refs, args.as_slice())
+            refer_name(refs, name.get())?;
+            note_types(alloc, refs, args.get().as_slice())
         }
         SigType::SzArray(of) => note_type(alloc, refs, of.get()),
         SigType::Array { of, .. } => note_type(alloc, refs, of.get()),

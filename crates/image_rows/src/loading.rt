@@ -1,6 +1,6 @@
 //! The heap of user strings, filled with each text that the assembly's instructions load (ECMA-335
 //! II.24.2.4, III.4.16).
-ghost use Rattle.std.specs.Prelude.{◌≡◌, ◌+◌, ◌^◌, ◌≤◌, length, IfOk, OnOk};
+ghost use Rattle.std.specs.Prelude.{◌≡◌, ◌+◌, ◌^◌, ◌≤◌, [], false, length, IfOk, OnOk};
 ghost use Rattle.std.specs.List.{flat_map};
 ghost use Rattle.assembly_tree.specs.Room.{operand_texts, instruction_texts, body_texts, method_texts, typedef_texts, texts};
 ghost use Rattle.assembly_tree.specs.Weight.{weight_of};
@@ -12,12 +12,16 @@ use il_base::NoMemory;
 use image_references::user_texts::add_units;
 use std::alloc::Global;
 
-/// The heap with each text that the assembly loads.
-pub fn load_texts(alloc: Global, a: &Assembly) -> Result<UserHeap, NoMemory>
-    requires { weight_of a.now ≤ 2 ^ 26 }
+/// The heap with each text that the assembly loads; none where `loads` is unset.
+pub fn load_texts(alloc: Global, a: &Assembly, loads: bool) -> Result<UserHeap, NoMemory>
+    requires weight { weight_of a.now ≤ 2 ^ 26 }
+    requires loads { loads ≡ false → texts a.now ≡ [] }
     ensures { IfOk result (λ user. AreLoaded user (texts a.now)) }
 {
     let mut user = UserHeap::new(alloc)?;
+    if !loads {
+        return Ok(user);
+    }
     load_methods(alloc, &mut user, a.methods.as_slice())?;
     load_types(alloc, &mut user, a.types.as_slice())?;
     Ok(user)
@@ -73,7 +77,7 @@ fn load_operand(alloc: Global, user: &mut UserHeap, operand: &Operand) -> Result
 {
     match operand {
         Operand::Text(units) => {
-            add_units(alloc, user, units)?;
+            add_units(alloc, user, units.get())?;
             Ok(())
         }
         Operand::Nothing

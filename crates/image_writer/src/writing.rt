@@ -10,7 +10,7 @@ ghost use Rattle.image_writer.specs.declared.fault.WriteFault.TheVariants.{TooLa
 
 use crate::fault::WriteFault;
 use crate::finishing::write_loaded;
-use assembly_tree::{Assembly, Attributes, Generics, weight};
+use assembly_tree::{Assembly, Attributes, Generics, weigh};
 use il_base::Bytes;
 use image_filling::owned_part::Nothing;
 use image_rows::loading::load_texts;
@@ -39,11 +39,12 @@ pub fn write(alloc: Global, a: &Assembly, id: [u8; 16], kind: Kind) -> Result<By
     ensures strings_full { weight_of a.now ≤ 2 ^ 26 → 2 ^ 24 < room a.now →
         (result ≡ Err (StringsFull (room a.now))) ⊎ (result ≡ Err NoMemory) }
 {
-    let weight = weight(a);
+    let weighed = weigh(a);
+    let weight = weighed.weight;
     if weight > LIMIT {
         return Err(WriteFault::TooLarge { weight });
     }
-    let user = load_texts(alloc, a)?;
+    let user = load_texts(alloc, a, weighed.loads)?;
     let room = user.bytes().len() as u64;
     if room > ROOM {
         return Err(WriteFault::StringsFull { room });

@@ -111,6 +111,7 @@ pub fn push_body(
 
 fn push_switch(a: &mut Assembly, alloc: Global, to: u32) -> Result<(), NoMemory> {
     let targets = Items::from_slice(alloc, &[0, to])?;
+    let targets = Boxed::new(alloc, targets)?;
     push_body(a, alloc, Op::Switch, Operand::Targets(targets))
 }
 
@@ -130,6 +131,7 @@ fn push_of_type(a: &mut Assembly, alloc: Global, op: Op, name: &str) -> Result<(
 
 fn push_of_text(a: &mut Assembly, alloc: Global, count: usize) -> Result<(), NoMemory> {
     let units = letters(alloc, count)?;
+    let units = Boxed::new(alloc, units)?;
     push_body(a, alloc, Op::Ldstr, Operand::Text(units))
 }
 

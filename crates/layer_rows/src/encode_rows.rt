@@ -9,7 +9,7 @@ ghost use Rattle.layer_rows.specs.Plain.{IsPlain, IsPlainCode};
 use crate::nameless::Nameless;
 use assembly_tree::{Body, Code, Ins, Operand};
 use body_codec::{BodyFault, encode};
-use il_lists::{Items, NoMemory};
+use il_lists::{Boxed, Items, NoMemory};
 use opcode_table::Op;
 use std::alloc::Global;
 
@@ -99,12 +99,13 @@ fn switch(code: &mut Code, count: u32, alloc: Global, targets: &[u32]) -> Result
     ensures more { OnOk result (length code.new ≡ length code.old + 1) }
 {
     let targets = Items::from_slice(alloc, targets)?;
+    let boxed = Boxed::new(alloc, targets)?;
     add(
         code,
         count,
         Ins {
             op: Op::Switch,
-            operand: Operand::Targets(targets),
+            operand: Operand::Targets(boxed),
         },
     )
 }

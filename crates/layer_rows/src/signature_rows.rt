@@ -39,8 +39,8 @@ fn two_bounds(alloc: Global) -> Result<SigType, NoMemory>
     Ok(SigType::Array {
         of: Boxed::new(alloc, SigType::Prim(Prim::I4))?,
         rank: 2,
-        sizes: Numbers::new(alloc),
-        lower,
+        sizes: Boxed::new(alloc, Numbers::new(alloc))?,
+        lower: Boxed::new(alloc, lower)?,
     })
 }
 

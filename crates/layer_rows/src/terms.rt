@@ -85,8 +85,8 @@ fn push_array(
     let array = SigType::Array {
         of: Boxed::new(alloc, SigType::Prim(Prim::I4))?,
         rank,
-        sizes: all_sizes,
-        lower: bounds,
+        sizes: Boxed::new(alloc, all_sizes)?,
+        lower: Boxed::new(alloc, bounds)?,
     };
     push_field(a, alloc, array)
 }
@@ -96,8 +96,8 @@ fn push_instance(a: &mut Assembly, alloc: Global, count: usize) -> Result<(), No
     let args = numbers(alloc, count)?;
     let instance = SigType::Inst {
         value: false,
-        name,
-        args,
+        name: Boxed::new(alloc, name)?,
+        args: Boxed::new(alloc, args)?,
     };
     push_field(a, alloc, instance)
 }

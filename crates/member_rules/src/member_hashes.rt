@@ -31,8 +31,8 @@ fn type_hash(t: &SigType) -> u64
         SigType::Value(name) => with_name(2, name),
         SigType::Inst { value, name, args } => {
             with_types(
-                with_name(mix(3, flag_number(*value)), name),
-                args.as_slice(),
+                with_name(mix(3, flag_number(*value)), name.get()),
+                args.get().as_slice(),
             )
         }
         SigType::Var(k) => mix(4, u64::from(*k)),
@@ -44,7 +44,7 @@ fn type_hash(t: &SigType) -> u64
             sizes,
             lower,
         } => mix(
-            shape_hash(*rank, sizes.as_slice(), lower.as_slice()),
+            shape_hash(*rank, sizes.get().as_slice(), lower.get().as_slice()),
             type_hash(of.get()),
         ),
         SigType::ByRef(of) => mix(8, type_hash(of.get())),

@@ -29,7 +29,7 @@ fn after_type(t: &SigType, limit: u32, nodes: u32) -> Option<u32>
         | SigType::Value(_)
         | SigType::Var(_)
         | SigType::MVar(_) => Some(nodes - 1),
-        SigType::Inst { args, .. } => after_types(args.as_slice(), limit - 1, nodes - 1),
+        SigType::Inst { args, .. } => after_types(args.get().as_slice(), limit - 1, nodes - 1),
         SigType::SzArray(of)
         | SigType::ByRef(of)
         | SigType::Pointer(of)

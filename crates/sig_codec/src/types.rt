@@ -110,11 +110,13 @@ fn array_at<'a, N: Namer>(
 {
     let (of, left) = boxed_at(alloc, names, depth, left)?;
     let (shape, bytes) = shape_at(alloc, left.bytes)?;
+    let sizes = Boxed::new(alloc, shape.sizes)?;
+    let lower = Boxed::new(alloc, shape.lower)?;
     let array = SigType::Array {
         of,
         rank: shape.rank,
-        sizes: shape.sizes,
-        lower: shape.lower,
+        sizes,
+        lower,
     };
     Ok((array, Left { bytes, ..left }))
 }
@@ -133,9 +135,11 @@ fn inst_at<'a, N: Namer>(
     let (generic, bytes) = generic_at(alloc, names, left.bytes)?;
     let left = Left { bytes, ..left };
     let (args, left) = all_types_at(alloc, names, depth, generic.count, left)?;
+    let name = Boxed::new(alloc, generic.name)?;
+    let args = Boxed::new(alloc, args)?;
     let inst = SigType::Inst {
         value: generic.value,
-        name: generic.name,
+        name,
         args,
     };
     Ok((inst, left))

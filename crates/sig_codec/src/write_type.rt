@@ -35,7 +35,8 @@ pub(crate) fn push_type<N: Numberer>(
         SigType::Inst { value, name, args } => {
             out.push(0x15)?;
             out.push(kind_byte(*value))?;
-            push_name(alloc, out, name, map)?;
+            let args = args.get();
+            push_name(alloc, out, name.get(), map)?;
             push_packed(out, args.len() as u32)?;
             push_each(alloc, out, args.as_slice(), map)
         }
@@ -59,7 +60,7 @@ pub(crate) fn push_type<N: Numberer>(
         } => {
             out.push(0x14)?;
             push_type(alloc, out, of.get(), map)?;
-            push_shape(out, *rank, sizes.as_slice(), lower.as_slice())
+            push_shape(out, *rank, sizes.get().as_slice(), lower.get().as_slice())
         }
         SigType::ByRef(of) => {
             out.push(0x10)?;

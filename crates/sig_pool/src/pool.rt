@@ -109,10 +109,10 @@ impl SigPool {
             SigType::Class(name) => self.place(&Shape::Class(name)),
             SigType::Value(name) => self.place(&Shape::Value(name)),
             SigType::Inst { value, name, args } => {
-                let args = self.intern_all(args.as_slice())?;
+                let args = self.intern_all(args.get().as_slice())?;
                 self.place(&Shape::Inst {
                     value: *value,
-                    name,
+                    name: name.get(),
                     args: &args,
                 })
             }
@@ -132,8 +132,8 @@ impl SigPool {
                 self.place(&Shape::Array {
                     of,
                     rank: *rank,
-                    sizes,
-                    lower,
+                    sizes: sizes.get(),
+                    lower: lower.get(),
                 })
             }
             SigType::ByRef(of) => {

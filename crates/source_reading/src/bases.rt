@@ -21,7 +21,7 @@ use crate::declared::Declared;
 use crate::narrowing::word_of;
 use crate::place::Place;
 use crate::walk::{has, leaf_at, the};
-use il_base::NoMemory;
+use il_base::{Boxed, NoMemory};
 use ilasm_grammar::TreeNode;
 use ilasm_grammar::productions::{
     INDEX_INT, INDEX_NAME, INT_TYPE_INT8, INT_TYPE_INT16, INT_TYPE_INT32, INT_TYPE_INT64,
@@ -71,11 +71,11 @@ impl<'a> Place<'a> {
             TYPE_BASE_NATIVE => Ok(SigType::Prim(native_type(nodes))),
             TYPE_BASE_CLASS => {
                 let name = self.type_name(alloc, nodes)?;
-                Ok(named_type(false, name, args))
+                named_type(alloc, false, name, args)
             }
             TYPE_BASE_VALUETYPE => {
                 let name = self.type_name(alloc, nodes)?;
-                Ok(named_type(true, name, args))
+                named_type(alloc, true, name, args)
             }
             TYPE_BASE_BANG => {
                 let number = self.variable(alloc, self.class, nodes)?;
@@ -170,14 +170,16 @@ pub fn int_type(nodes: &[TreeNode]) -> Prim
 }
 
 /// A class or a value type, with generic arguments where it has some.
-fn named_type(value: bool, name: TypeName, args: Types) -> SigType
-    ensures { result ≡ named_type value name args }
+fn named_type(alloc: Global, value: bool, name: TypeName, args: Types) -> Result<SigType, NoMemory>
+    ensures { IfOk result (λ of. of ≡ named_type value name args) }
 {
     if !args.is_empty() {
-        SigType::Inst { value, name, args }
+        let name = Boxed::new(alloc, name)?;
+        let args = Boxed::new(alloc, args)?;
+        Ok(SigType::Inst { value, name, args })
     } else if value {
-        SigType::Value(name)
+        Ok(SigType::Value(name))
     } else {
-        SigType::Class(name)
+        Ok(SigType::Class(name))
     }
 }

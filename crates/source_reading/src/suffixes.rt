@@ -87,6 +87,8 @@ fn shaped(
 {
     let sizes = reader.sizes(alloc, dimensions)?;
     let lower = reader.lower_bounds(alloc, dimensions)?;
+    let sizes = Boxed::new(alloc, sizes)?;
+    let lower = Boxed::new(alloc, lower)?;
     Ok(SigType::Array {
         of,
         rank: word_of(dimensions.len()),

@@ -41,6 +41,8 @@ fn own_class(alloc: Global, path: &Path, parameters: u32) -> Result<SigType, NoM
         return Ok(SigType::Class(name));
     }
     let args = own_parameters(alloc, parameters)?;
+    let name = Boxed::new(alloc, name)?;
+    let args = Boxed::new(alloc, args)?;
     Ok(SigType::Inst {
         value: false,
         name,

@@ -1,3 +1,4 @@
 pub mod Depth
+pub mod HeldIds
 pub mod Nodes
 pub mod Order

@@ -72,8 +72,11 @@ fn compare_fields(a: &SigType, b: &SigType) -> Ordering
                 args: other_args,
             },
         ) => {
-            match value.cmp(other_value).then(compare_names(name, other_name)) {
-                Ordering::Equal => compare_all(args.as_slice(), other_args.as_slice()),
+            match value
+                .cmp(other_value)
+                .then(compare_names(name.get(), other_name.get()))
+            {
+                Ordering::Equal => compare_all(args.get().as_slice(), other_args.get().as_slice()),
                 head => head,
             }
         }
@@ -97,8 +100,8 @@ fn compare_fields(a: &SigType, b: &SigType) -> Ordering
             },
         ) => compare_types(of.get(), other_of.get())
             .then(rank.cmp(other_rank))
-            .then(sizes.as_slice().cmp(other_sizes.as_slice()))
-            .then(lower.as_slice().cmp(other_lower.as_slice())),
+            .then(sizes.get().as_slice().cmp(other_sizes.get().as_slice()))
+            .then(lower.get().as_slice().cmp(other_lower.get().as_slice())),
         (
             SigType::Mod { required, by, of },
             SigType::Mod {

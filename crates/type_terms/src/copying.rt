@@ -52,7 +52,8 @@ impl SigType {
             }
             SigType::Inst { value, name, args } => {
                 let name = name.copy(alloc)?;
-                let args = SigType::copied_all(args.as_slice(), alloc)?;
+                let args = SigType::copied_all(args.get().as_slice(), alloc)?;
+                let args = Boxed::new(alloc, args)?;
                 Ok(SigType::Inst {
                     value: *value,
                     name,

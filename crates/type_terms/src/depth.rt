@@ -28,7 +28,7 @@ fn is_within(t: &SigType, limit: u32) -> bool
         | SigType::Value(_)
         | SigType::Var(_)
         | SigType::MVar(_) => true,
-        SigType::Inst { args, .. } => are_within(args.as_slice(), limit - 1),
+        SigType::Inst { args, .. } => are_within(args.get().as_slice(), limit - 1),
         SigType::SzArray(of)
         | SigType::ByRef(of)
         | SigType::Pointer(of)

@@ -4,22 +4,32 @@ use crate::TypeId;
 use il_lists::{Copies, Items, NoMemory};
 use std::alloc::Global;
 use std::marker::Model;
+use std::slice;
 
-/// A path of nested classes, outermost first, that is never empty. Contracts see it as the list of its ids.
+/// A path of nested classes, outermost first, that is never empty. Contracts see it as the list of its ids. The path of
+/// a class that is nested in none takes no memory of its own.
 #[derive(Drop)]
 pub struct Path {
-    ids: Items<TypeId>,
+    held: Held,
+}
+
+/// The ids of a path, in the value itself where there is one.
+#[derive(Drop)]
+enum Held {
+    One { id: TypeId, alloc: Global },
+    Nested(Items<TypeId>),
 }
 
 impl Model for Path {
     ghost use Rattle.std.specs.Prelude.{List, ◌<◌, length};
     ghost use Rattle.type_terms.specs.declared.name.TypeId.{TypeId};
+    ghost use Rattle.type_terms.specs.HeldIds.{held_ids};
 
     ghost Value = { List TypeId };
 
-    ghost view = { λ p. p.ids };
+    ghost view = { λ p. held_ids p.held };
 
-    ghost invariant = { λ p. 0 < length p.ids };
+    ghost invariant = { λ p. 0 < length (held_ids p.held) };
 }
 
 impl Path {
@@ -27,9 +37,9 @@ impl Path {
     pub fn new(alloc: Global, first: TypeId) -> Result<Path, NoMemory>
         ensures { IfOk result (λ p. p ≡ first ∷ []) }
     {
-        let mut ids = Items::new(alloc);
-        ids.push(first)?;
-        Ok(Path { ids })
+        Ok(Path {
+            held: Held::One { id: first, alloc },
+        })
     }
 
     /// Adds the class `id` that the last one of the path nests.
@@ -37,7 +47,16 @@ impl Path {
         ensures ok { OnOk result (self.new ≡ self.old ++ id ∷ []) }
         ensures err { OnErr result (self.new ≡ self.old) }
     {
-        self.ids.push(id)?;
+        match &mut self.held {
+            Held::Nested(ids) => ids.push(id)?,
+            Held::One { id: first, alloc } => {
+                let mut ids = Items::with_capacity(*alloc, 2)?;
+                let first = first.copy(*alloc)?;
+                ids.push(first)?;
+                ids.push(id)?;
+                self.held = Held::Nested(ids);
+            }
+        }
         Ok(())
     }
 
@@ -46,7 +65,7 @@ impl Path {
         ensures len { result ≡ length self.now }
         ensures some { 0 < result }
     {
-        self.ids.len()
+        self.as_slice().len()
     }
 
     /// The class at place `k`, counted from 0.
@@ -54,7 +73,7 @@ impl Path {
         requires { k < length self.now }
         ensures { slice_get self.now k ≡ Some result.now }
     {
-        self.ids.at(k)
+        &self.as_slice()[k]
     }
 
     /// Lends the classes, outermost first.
@@ -62,13 +81,26 @@ impl Path {
         ensures ids { result.now ≡ self.now }
         ensures some { 0 < length result.now }
     {
-        self.ids.as_slice()
+        match &self.held {
+            Held::One { id, .. } => slice::from_ref(id),
+            Held::Nested(ids) => ids.as_slice(),
+        }
     }
 }
 
 impl Copies for Path {
     fn copy(&self, alloc: Global) -> Result<Path, NoMemory> {
-        let ids = self.ids.copy(alloc)?;
-        Ok(Path { ids })
+        match &self.held {
+            Held::One { id, .. } => {
+                let id = id.copy(alloc)?;
+                Path::new(alloc, id)
+            }
+            Held::Nested(ids) => {
+                let ids = ids.copy(alloc)?;
+                Ok(Path {
+                    held: Held::Nested(ids),
+                })
+            }
+        }
     }
 }

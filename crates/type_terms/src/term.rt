@@ -36,8 +36,8 @@ pub enum SigType {
     /// A generic type with its arguments; a value type where `value` is set (ECMA-335 II.23.2.12).
     Inst {
         value: bool,
-        name: TypeName,
-        args: Types,
+        name: Boxed<TypeName>,
+        args: Boxed<Types>,
     },
     /// The generic parameter of the class with this number, `!n`.
     Var(u32),
@@ -49,8 +49,8 @@ pub enum SigType {
     Array {
         of: Boxed<SigType>,
         rank: u32,
-        sizes: Numbers,
-        lower: Signed,
+        sizes: Boxed<Numbers>,
+        lower: Boxed<Signed>,
     },
     /// `T&`
     ByRef(Boxed<SigType>),

@@ -48,8 +48,8 @@ pub fn normalised(
         SigType::Class(name) => named_type(alloc, values, means, name),
         SigType::Value(name) => named_type(alloc, values, means, name),
         SigType::Inst { name, args, .. } => {
-            let args = normalised_all(alloc, values, means, args.as_slice())?;
-            instance(alloc, values, means, name, args)
+            let args = normalised_all(alloc, values, means, args.get().as_slice())?;
+            instance(alloc, values, means, name.get(), args)
         }
         SigType::Var(number) => Ok(SigType::Var(*number)),
         SigType::MVar(number) => Ok(SigType::MVar(*number)),
@@ -129,11 +129,9 @@ fn instance(
     let scope = means.of(name.scope);
     let value = values.has(scope, name.path.as_slice());
     let path = name.path.copy(alloc)?;
-    Ok(SigType::Inst {
-        value,
-        name: TypeName { scope, path },
-        args,
-    })
+    let name = Boxed::new(alloc, TypeName { scope, path })?;
+    let args = Boxed::new(alloc, args)?;
+    Ok(SigType::Inst { value, name, args })
 }
 
 /// What a name means, as a type.

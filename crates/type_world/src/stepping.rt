@@ -199,7 +199,10 @@ fn type_landing(
     match to {
         SigType::Class(name) => Ok(landing(tables, tops, name.scope, name.path.as_slice())),
         SigType::Value(name) => Ok(landing(tables, tops, name.scope, name.path.as_slice())),
-        SigType::Inst { name, .. } => Ok(landing(tables, tops, name.scope, name.path.as_slice())),
+        SigType::Inst { name, .. } => {
+            let name = name.get();
+            Ok(landing(tables, tops, name.scope, name.path.as_slice()))
+        }
         SigType::Prim(prim) => class_place(alloc, tables, tops, *prim),
         _ => Ok(None),
     }

@@ -23,7 +23,7 @@ fn take_targets(left: u64, operand: &Operand) -> u64
 {
     let left = left.saturating_sub(4);
     match operand {
-        Operand::Targets(targets) => charge_each(left, 4, targets.len()),
+        Operand::Targets(targets) => charge_each(left, 4, targets.get().len()),
         Operand::Nothing
         | Operand::Var(_)
         | Operand::Int(_)

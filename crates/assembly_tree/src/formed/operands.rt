@@ -45,7 +45,7 @@ fn are_targets(count: usize, operand: &Operand) -> bool
 {
     match operand {
         Operand::Target(at) => (*at as usize) < count,
-        Operand::Targets(targets) => are_below(count, targets),
+        Operand::Targets(targets) => are_below(count, targets.get()),
         Operand::Nothing
         | Operand::Var(_)
         | Operand::Int(_)

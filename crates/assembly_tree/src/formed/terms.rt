@@ -44,7 +44,8 @@ fn is_made_well(a: &Assembly, t: &SigType) -> bool
     match t {
         SigType::Prim(_) => true,
         SigType::Class(name) | SigType::Value(name) => name.is_formed(a),
-        SigType::Inst { name, args, .. } => name.is_formed(a) && are_made_well(a, args.as_slice()),
+        SigType::Inst { name, args, .. } => name.get().is_formed(a)
+            && are_made_well(a, args.get().as_slice()),
         SigType::Var(n) | SigType::MVar(n) => is_variable(*n),
         SigType::SzArray(of) | SigType::ByRef(of) | SigType::Pointer(of) | SigType::Pinned(of) => {
             is_made_well(a, of.get())
@@ -54,7 +55,7 @@ fn is_made_well(a: &Assembly, t: &SigType) -> bool
             rank,
             sizes,
             lower,
-        } => is_shape(*rank, sizes, lower) && is_made_well(a, of.get()),
+        } => is_shape(*rank, sizes.get(), lower.get()) && is_made_well(a, of.get()),
         SigType::Mod { by, of, .. } => {
             is_owner_made_well(a, by.get()) && is_made_well(a, of.get())
         }

@@ -15,11 +15,11 @@ impl Weighs for Operand {
             | Operand::Int(_)
             | Operand::Real(_)
             | Operand::Target(_) => left,
-            Operand::Targets(targets) => charge_each(left, 4, targets.len()),
+            Operand::Targets(targets) => charge_each(left, 4, targets.get().len()),
             Operand::Method(method) => method.get().charge(left),
             Operand::Field(field) => field.get().charge(left),
             Operand::Of(owner) => owner.get().charge(left),
-            Operand::Text(units) => charge_each(left, 2, units.len()),
+            Operand::Text(units) => charge_each(left, 2, units.get().len()),
         }
     }
 }

@@ -52,7 +52,10 @@ fn charge_type(t: &SigType, left: u64) -> u64
     match t {
         SigType::Prim(_) | SigType::Var(_) | SigType::MVar(_) => left,
         SigType::Class(name) | SigType::Value(name) => name.charge(left),
-        SigType::Inst { name, args, .. } => charge_types(args.as_slice(), name.charge(left)),
+        SigType::Inst { name, args, .. } => charge_types(
+            args.get().as_slice(),
+            name.get().charge(left),
+        ),
         SigType::SzArray(of) | SigType::ByRef(of) | SigType::Pointer(of) | SigType::Pinned(of) =>
             charge_type(of.get(), left),
         SigType::Array {
@@ -61,8 +64,8 @@ fn charge_type(t: &SigType, left: u64) -> u64
             lower,
             ..
         } => {
-            let left = charge_each(left, 8, sizes.len());
-            let left = charge_each(left, 8, lower.len());
+            let left = charge_each(left, 8, sizes.get().len());
+            let left = charge_each(left, 8, lower.get().len());
             charge_type(of.get(), left)
         }
         SigType::Mod { by, of, .. } => charge_type(of.get(), charge_owner(by.get(), left)),

@@ -1,9 +1,12 @@
-ghost use Rattle.std.specs.Prelude.{◌≡◌, ◌-◌, sum_by};
+ghost use Rattle.std.specs.Prelude.{◌≡◌, ◌-◌, [], false, sum_by};
+ghost use Rattle.assembly_tree.specs.Loading.{TypesLoadNone};
+ghost use Rattle.assembly_tree.specs.Room.{texts};
 ghost use Rattle.assembly_tree.specs.Weight.{own_weight, typedef_weight, extern_weight, manifest_weight, weight_of};
 ghost use Rattle.assembly_tree.specs.declared.typedef.TypeDef.TheViews.{out-TypeDef};
 
 use super::members::charge_present;
 use super::terms::charge_bounds;
+use super::texts::load_more;
 use super::weighs::{Weighs, charge_length};
 use crate::{Assembly, ExternAssembly, Manifest, TypeDef};
 
@@ -28,14 +31,17 @@ impl TypeDef {
     }
 }
 
-/// Takes off the weight of each type, with those that it nests.
-fn charge_types(types: &[TypeDef], left: u64) -> u64
-    ensures { result ≡ left - sum_by typedef_weight types.now }
+/// Takes off the weight of each type, with those that it nests, and looks whether they load texts.
+fn charge_types(types: &[TypeDef], left: u64, loads: &mut bool) -> u64
+    ensures left { result ≡ left - sum_by typedef_weight types.now }
+    ensures loads { loads.new ≡ false → (loads.old ≡ false) × TypesLoadNone types.now }
 {
     let mut left = left;
     for of in types {
         left = of.charge_own(left);
-        left = charge_types(of.inner(), left);
+        // What has just been weighed is still in the cache.
+        *loads = load_more(*loads, of.methods.as_slice());
+        left = charge_types(of.inner(), left, loads);
     }
     left
 }
@@ -67,16 +73,17 @@ impl Weighs for Manifest {
     }
 }
 
-impl Weighs for Assembly {
-    ghost weight = { weight_of };
-
-    #[tactic(auto, using(crate::proofs::Charging::both_off), unfolding(crate::specs::Weight::weight_of))]
-    fn charge(&self, left: u64) -> u64 {
-        let left = left.saturating_sub(32_768);
-        let left = self.manifest.charge(left);
-        let left = self.externs.charge(left);
-        let left = self.fields.charge(left);
-        let left = self.methods.charge(left);
-        charge_types(self.types.as_slice(), left)
-    }
+/// Takes off the weight of the assembly, and looks whether it loads texts.
+#[tactic(auto, using(crate::proofs::Charging::both_off), unfolding(crate::specs::Weight::weight_of))]
+pub fn charge_assembly(a: &Assembly, left: u64, loads: &mut bool) -> u64
+    ensures left { result ≡ left - weight_of a.now }
+    ensures loads { loads.new ≡ false → texts a.now ≡ [] }
+{
+    let left = left.saturating_sub(32_768);
+    let left = a.manifest.charge(left);
+    let left = a.externs.charge(left);
+    let left = a.fields.charge(left);
+    let left = a.methods.charge(left);
+    *loads = load_more(*loads, a.methods.as_slice());
+    charge_types(a.types.as_slice(), left, loads)
 }

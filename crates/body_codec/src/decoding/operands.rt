@@ -74,6 +74,7 @@ fn read_operand<N: Namer>(
         }
         OperandKind::Switch => {
             let targets = switch_targets(alloc, layout, mark)?;
+            let targets = Boxed::new(alloc, targets)?;
             Ok(Operand::Targets(targets))
         }
         kind => {
@@ -185,6 +186,7 @@ fn text_of<N: Namer>(alloc: Global, token: u32, map: &N) -> Result<Option<Operan
         None => Ok(None),
         Some(units) => {
             let units = units.copy(alloc)?;
+            let units = Boxed::new(alloc, units)?;
             Ok(Some(Operand::Text(units)))
         }
     }

@@ -25,7 +25,7 @@ pub(crate) fn operand_token<N: Numberer>(operand: &Operand, map: &N) -> u32
         Operand::Method(method) => map.token_of_method(method.get()),
         Operand::Field(field) => map.token_of_field(field.get()),
         Operand::Of(owner) => map.token_of_owner(owner.get()),
-        Operand::Text(units) => map.token_of_text(units),
+        Operand::Text(units) => map.token_of_text(units.get()),
         Operand::Nothing
         | Operand::Var(_)
         | Operand::Int(_)
@@ -74,7 +74,7 @@ impl Draft {
             Operand::Int(number) => push_signed(&mut self.bytes, width(kind), *number),
             Operand::Real(bits) => push_number(&mut self.bytes, width(kind), *bits),
             Operand::Target(to) => self.push_branch(at, kind, *to),
-            Operand::Targets(targets) => self.push_switch(at, targets.as_slice()),
+            Operand::Targets(targets) => self.push_switch(at, targets.get().as_slice()),
             Operand::Method(_) | Operand::Field(_) | Operand::Of(_) | Operand::Text(_) => {
                 push_number(&mut self.bytes, 4, u64::from(token))
             }

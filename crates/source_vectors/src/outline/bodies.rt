@@ -40,7 +40,7 @@ fn push_ins(out: &mut String, ins: &Ins) -> Result<(), NoMemory> {
         Operand::Real(bits) => write!(out, " {bits:x}")?,
         Operand::Target(number) => push_number(out, " to ", u64::from(*number))?,
         Operand::Targets(numbers) => {
-            for number in numbers.as_slice() {
+            for number in numbers.get().as_slice() {
                 push_number(out, " to ", u64::from(*number))?;
             }
         }
@@ -56,7 +56,7 @@ fn push_reference(out: &mut String, operand: &Operand) -> Result<(), NoMemory> {
         Operand::Method(method) => push_method(out, method.get()),
         Operand::Field(field) => push_field(out, field.get()),
         Operand::Of(owner) => push_owner(out, owner.get()),
-        Operand::Text(units) => push_units(out, units.as_slice()),
+        Operand::Text(units) => push_units(out, units.get().as_slice()),
         _ => Ok(()),
     }
 }

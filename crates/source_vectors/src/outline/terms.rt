@@ -45,9 +45,9 @@ pub(super) fn push_type(out: &mut String, of: &SigType) -> Result<(), NoMemory> 
         }
         SigType::Inst { value, name, args } => {
             out.push_str(if *value { "valuetype " } else { "class " })?;
-            push_name(out, name)?;
+            push_name(out, name.get())?;
             out.push('<')?;
-            push_types(out, args.as_slice())?;
+            push_types(out, args.get().as_slice())?;
             out.push('>')?;
         }
         SigType::Var(number) => push_number(out, "!", u64::from(*number))?,
@@ -60,7 +60,7 @@ pub(super) fn push_type(out: &mut String, of: &SigType) -> Result<(), NoMemory> 
             lower,
         } => {
             push_boxed(out, of, "[")?;
-            push_shape(out, *rank, sizes, lower)?;
+            push_shape(out, *rank, sizes.get(), lower.get())?;
         }
         SigType::ByRef(of) => push_boxed(out, of, "&")?,
         SigType::Pointer(of) => push_boxed(out, of, "*")?,

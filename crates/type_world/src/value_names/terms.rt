@@ -38,8 +38,8 @@ fn gather_type(
     match t {
         SigType::Value(name) => gather_name(alloc, means, name, into),
         SigType::Inst { value, name, args } => {
-            gather_if(alloc, means, *value, name, into)?;
-            gather_types(alloc, means, args.as_slice(), into)
+            gather_if(alloc, means, *value, name.get(), into)?;
+            gather_types(alloc, means, args.get().as_slice(), into)
         }
         SigType::SzArray(of) => gather_type(alloc, means, of.get(), into),
         SigType::Array { of, .. } => gather_type(alloc, means, of.get(), into),

@@ -1,4 +1,4 @@
-use Rattle.std.proofs.Common.{◌≡◌, sym, subst, ℕ, ◌+◌, ◌*◌, ◌<◌, length, map, IfOk, arith}
+use Rattle.std.proofs.Common.{◌≡◌, ◌∙◌, sym, subst, ℕ, ◌+◌, ◌*◌, ◌<◌, length, map, IfOk, arith}
 use Rattle.type_terms.specs.Depth.{largest}
 use Rattle.type_terms.specs.declared.term.Owner.{Owner}
 use Rattle.sig_pool.specs.Terms.{AllBelow}
@@ -51,11 +51,11 @@ term_at-returns-in_ok-of-in-Pointer t c = is_Pointer c.args.pool.now c.args.id _
 pub term_at-returns-in_ok-of-in-Pinned : goal.term_at-returns-in_ok-of-in-Pinned
 term_at-returns-in_ok-of-in-Pinned t c = is_Pinned c.args.pool.now c.args.id _ c.node.ensures.term c.in-Pinned.of c.in_ok-of-in-Pinned.of c.in-Pinned.is c.in_ok-of-in-Pinned.ensures
 
-pub term_at-returns-in_ok-of-in-Array : goal.term_at-returns-in_ok-of-in-Array
-term_at-returns-in_ok-of-in-Array t c = is_Array c.args.pool.now c.args.id _ c.node.ensures.term c.in-Array.of c.in-Array.rank c.in-Array.sizes c.in_ok-sizes-in-Array.sizes c.in-Array.lower c.in_ok-lower-in-Array.lower c.in_ok-of-in-Array.of c.in-Array.is c.in_ok-of-in-Array.ensures c.in_ok-sizes-in-Array.ensures c.in_ok-lower-in-Array.ensures
+pub term_at-returns-in_ok-bounds-in-Array : goal.term_at-returns-in_ok-bounds-in-Array
+term_at-returns-in_ok-bounds-in-Array t c = is_Array c.args.pool.now c.args.id _ c.node.ensures.term c.in-Array.of c.in-Array.rank c.in-Array.sizes c.in_ok-extents-in-Array.extents c.in-Array.lower c.in_ok-bounds-in-Array.bounds c.in_ok-of-in-Array.of c.in-Array.is c.in_ok-of-in-Array.ensures (c.in_ok-extents-in-Array.ensures ∙ c.in_ok-sizes-in-Array.ensures) (c.in_ok-bounds-in-Array.ensures ∙ c.in_ok-lower-in-Array.ensures)
 
-pub term_at-returns-in_ok-args-in-Inst : goal.term_at-returns-in_ok-args-in-Inst
-term_at-returns-in_ok-args-in-Inst t c = is_Inst c.args.pool.now c.args.id _ c.node.ensures.term c.in-Inst.value c.in_ok-name-in-Inst.name c.in-Inst.name c.in-Inst.args c.in_ok-args-in-Inst.args c.in-Inst.is c.in_ok-name-in-Inst.ensures (rw c.as_slice.ensures at c.in_ok-args-in-Inst.ensures)
+pub term_at-returns-in_ok-given-in-Inst : goal.term_at-returns-in_ok-given-in-Inst
+term_at-returns-in_ok-given-in-Inst t c = is_Inst c.args.pool.now c.args.id _ c.node.ensures.term c.in-Inst.value c.in_ok-named-in-Inst.named c.in-Inst.name c.in-Inst.args c.in_ok-given-in-Inst.given c.in-Inst.is (c.in_ok-named-in-Inst.ensures ∙ c.in_ok-name-in-Inst.ensures) (c.in_ok-given-in-Inst.ensures ∙ (rw c.as_slice.ensures at c.in_ok-args-in-Inst.ensures))
 
 pub term_at-returns-in_ok-of-in-Mod : goal.term_at-returns-in_ok-of-in-Mod
 term_at-returns-in_ok-of-in-Mod t c = is_Mod c.args.pool.now c.args.id _ c.node.ensures.term c.in-Mod.required c.in-Mod.by c.in-Mod.of c.in_ok-by-in-Mod.by c.in_ok-of-in-Mod.of c.in-Mod.is c.in_ok-by-in-Mod.ensures c.in_ok-of-in-Mod.ensures

@@ -35,11 +35,11 @@ returns-in_ok-refer_owner-in-Of c =
     of_noted c.args.refs.now c.refer_owner.new.refs c.args.operand.now c.get-in-Of.result.now c.in_ok-refer_owner-in-Of.field-0 (c.in-Of.is ∙ ap operand.Of (sym c.get-in-Of.ensures)) c.in_ok-refer_owner-in-Of.ensures
 
 pub refer_loaded-requires-clause-loadable : goal.refer_loaded-requires-clause-loadable
-refer_loaded-requires-clause-loadable c = subst (IsOperandWritable c.args.refs.now) c.in-Text.is c.requires.writable
+refer_loaded-requires-clause-loadable c = subst (IsOperandWritable c.args.refs.now) (c.in-Text.is ∙ ap operand.Text (sym c.get-in-Text.ensures)) c.requires.writable
 
 pub refer_loaded-requires-clause-room : goal.refer_loaded-requires-clause-room
 refer_loaded-requires-clause-room c = let room = c.requires.room in omega arith
 
 pub returns-in_ok-refer_loaded-in-Text : goal.returns-in_ok-refer_loaded-in-Text
 returns-in_ok-refer_loaded-in-Text c =
-    text_noted c.args.refs.now c.refer_loaded.new.refs c.args.operand.now c.in-Text.units c.in_ok-refer_loaded-in-Text.field-0 c.in-Text.is c.in_ok-refer_loaded-in-Text.ensures
+    text_noted c.args.refs.now c.refer_loaded.new.refs c.args.operand.now c.get-in-Text.result.now c.in_ok-refer_loaded-in-Text.field-0 (c.in-Text.is ∙ ap operand.Text (sym c.get-in-Text.ensures)) c.in_ok-refer_loaded-in-Text.ensures

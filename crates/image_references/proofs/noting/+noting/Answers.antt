@@ -9,7 +9,7 @@ use Rattle.type_terms.specs.declared.term.Owner.TheVariants as owners
 use Rattle.type_terms.specs.declared.term.Owner.TheOpen as layer
 use Rattle.type_terms.specs.declared.term.SigType.{SigType}
 use Rattle.type_terms.specs.declared.term.SigType.TheVariants as type
-use Rattle.assembly_tree.specs.Weight.{type_weight, owner_weight}
+use Rattle.assembly_tree.specs.Weight.{name_weight, type_weight, owner_weight}
 use Rattle.sig_codec.specs.Spellable as spellable
 use Rattle.image_references.specs.References.{size}
 use Rattle.image_references.specs.Writable.{IsWritable, IsOwnerWritable, AreWritable}
@@ -61,54 +61,55 @@ note_type-returns-in_ok-refer_name-in-Value t c =
 
 pub note_type-refer_name-requires-in-Inst-clause-nameable : goal.note_type-refer_name-requires-in-Inst-clause-nameable
 note_type-refer_name-requires-in-Inst-clause-nameable t c =
-    (of_inst c.args.refs.now c.in-Inst.value c.in-Inst.name c.in-Inst.args (parts_at c.args.refs.now c.args.t.now (type.Inst c.in-Inst.value c.in-Inst.name c.in-Inst.args) (layer.Inst c.in-Inst.value c.in-Inst.name c.in-Inst.args) c.in-Inst.is (type.outs-Inst c.in-Inst.value c.in-Inst.name c.in-Inst.args) c.requires.writable)).0
+    (of_inst c.args.refs.now c.in-Inst.value c.get.result.now c.in-Inst.args (parts_at c.args.refs.now c.args.t.now (type.Inst c.in-Inst.value c.get.result.now c.in-Inst.args) (layer.Inst c.in-Inst.value c.get.result.now c.in-Inst.args) (c.in-Inst.is ∙ ap (λ n. type.Inst c.in-Inst.value n c.in-Inst.args) (sym c.get.ensures)) (type.outs-Inst c.in-Inst.value c.get.result.now c.in-Inst.args) c.requires.writable)).0
 
 pub note_type-refer_name-requires-in-Inst-clause-room : goal.note_type-refer_name-requires-in-Inst-clause-room
 note_type-refer_name-requires-in-Inst-clause-room t c =
     let heavy = weight_at c.args.t.now (type.Inst c.in-Inst.value c.in-Inst.name c.in-Inst.args) (layer.Inst c.in-Inst.value c.in-Inst.name c.in-Inst.args) c.in-Inst.is (type.outs-Inst c.in-Inst.value c.in-Inst.name c.in-Inst.args) in
+    let same = ap name_weight c.get.ensures in
     let room = c.requires.room in
     omega arith
 
 pub note_type-note_types-requires : goal.note_type-note_types-requires
 note_type-note_types-requires t c =
     let n = c.in_ok-refer_name-in-Inst.ensures in
-    let h = of_inst c.args.refs.now c.in-Inst.value c.in-Inst.name c.in-Inst.args (parts_at c.args.refs.now c.args.t.now (type.Inst c.in-Inst.value c.in-Inst.name c.in-Inst.args) (layer.Inst c.in-Inst.value c.in-Inst.name c.in-Inst.args) c.in-Inst.is (type.outs-Inst c.in-Inst.value c.in-Inst.name c.in-Inst.args) c.requires.writable) in
+    let h = of_inst c.args.refs.now c.in-Inst.value c.get.result.now c.in-Inst.args (parts_at c.args.refs.now c.args.t.now (type.Inst c.in-Inst.value c.get.result.now c.in-Inst.args) (layer.Inst c.in-Inst.value c.get.result.now c.in-Inst.args) (c.in-Inst.is ∙ ap (λ n. type.Inst c.in-Inst.value n c.in-Inst.args) (sym c.get.ensures)) (type.outs-Inst c.in-Inst.value c.get.result.now c.in-Inst.args) c.requires.writable) in
     let refs = c.refer_name-in-Inst.new.refs in
     let known = n.known in
-    let k : AreWritable refs c.as_slice.result.now = still_writable_each c.args.refs.now refs n.grows c.as_slice.result.now (subst (λ (x : List SigType). AreWritable c.args.refs.now x) (sym c.as_slice.ensures) h.3) in
-    let heavy = weight_at c.args.t.now (type.Inst c.in-Inst.value c.in-Inst.name c.in-Inst.args) (layer.Inst c.in-Inst.value c.in-Inst.name c.in-Inst.args) c.in-Inst.is (type.outs-Inst c.in-Inst.value c.in-Inst.name c.in-Inst.args) in
+    let k : AreWritable refs c.as_slice.result.now = still_writable_each c.args.refs.now refs n.grows c.as_slice.result.now (subst (λ (x : List SigType). AreWritable c.args.refs.now x) (sym (c.as_slice.ensures ∙ c.get-in-Inst.ensures)) h.3) in
+    let heavy = weight_at c.args.t.now (type.Inst c.in-Inst.value c.get.result.now c.in-Inst.args) (layer.Inst c.in-Inst.value c.get.result.now c.in-Inst.args) (c.in-Inst.is ∙ ap (λ n. type.Inst c.in-Inst.value n c.in-Inst.args) (sym c.get.ensures)) (type.outs-Inst c.in-Inst.value c.get.result.now c.in-Inst.args) in
     let room = c.requires.room in
     let first = n.room in
     let q = weight-args c.in-Inst.args in
-    let j = ap (sum_by type_weight) c.as_slice.ensures in
+    let j = ap (sum_by type_weight) (c.as_slice.ensures ∙ c.get-in-Inst.ensures) in
     let fits : size refs + sum_by type_weight c.as_slice.result.now ≤ 2 ^ 26 = omega arith in
-    let deep = depth_at c.args.t.now (type.Inst c.in-Inst.value c.in-Inst.name c.in-Inst.args) (layer.Inst c.in-Inst.value c.in-Inst.name c.in-Inst.args) c.in-Inst.is (type.outs-Inst c.in-Inst.value c.in-Inst.name c.in-Inst.args) in
-    let same : largest (map depth c.as_slice.result.now) ≡ largest (map depth c.in-Inst.args) = ap (λ (x : List SigType). largest (map depth x)) c.as_slice.ensures in
+    let deep = depth_at c.args.t.now (type.Inst c.in-Inst.value c.get.result.now c.in-Inst.args) (layer.Inst c.in-Inst.value c.get.result.now c.in-Inst.args) (c.in-Inst.is ∙ ap (λ n. type.Inst c.in-Inst.value n c.in-Inst.args) (sym c.get.ensures)) (type.outs-Inst c.in-Inst.value c.get.result.now c.in-Inst.args) in
+    let same : largest (map depth c.as_slice.result.now) ≡ largest (map depth c.in-Inst.args) = ap (λ (x : List SigType). largest (map depth x)) (c.as_slice.ensures ∙ c.get-in-Inst.ensures) in
     let smaller : 3 * largest (map depth c.as_slice.result.now) + 1 < 3 * depth c.args.t.now = omega arith in
     search rules
 
 pub note_type-returns-in_ok-refer_name-in-Inst : goal.note_type-returns-in_ok-refer_name-in-Inst
 note_type-returns-in_ok-refer_name-in-Inst t c =
-    let h = of_inst c.args.refs.now c.in-Inst.value c.in-Inst.name c.in-Inst.args (parts_at c.args.refs.now c.args.t.now (type.Inst c.in-Inst.value c.in-Inst.name c.in-Inst.args) (layer.Inst c.in-Inst.value c.in-Inst.name c.in-Inst.args) c.in-Inst.is (type.outs-Inst c.in-Inst.value c.in-Inst.name c.in-Inst.args) c.requires.writable) in
-    on_ok_weaker c.note_types.result (λ each. noted_inst c.args.refs.now c.refer_name-in-Inst.new.refs c.note_types.new.refs c.args.t.now c.in-Inst.value c.in-Inst.name c.in-Inst.args c.as_slice.result.now c.in_ok-refer_name-in-Inst.field-0 c.in-Inst.is c.as_slice.ensures
+    let h = of_inst c.args.refs.now c.in-Inst.value c.get.result.now c.in-Inst.args (parts_at c.args.refs.now c.args.t.now (type.Inst c.in-Inst.value c.get.result.now c.in-Inst.args) (layer.Inst c.in-Inst.value c.get.result.now c.in-Inst.args) (c.in-Inst.is ∙ ap (λ n. type.Inst c.in-Inst.value n c.in-Inst.args) (sym c.get.ensures)) (type.outs-Inst c.in-Inst.value c.get.result.now c.in-Inst.args) c.requires.writable) in
+    on_ok_weaker c.note_types.result (λ each. noted_inst c.args.refs.now c.refer_name-in-Inst.new.refs c.note_types.new.refs c.args.t.now c.in-Inst.value c.get.result.now c.in-Inst.args c.as_slice.result.now c.in_ok-refer_name-in-Inst.field-0 (c.in-Inst.is ∙ ap (λ n. type.Inst c.in-Inst.value n c.in-Inst.args) (sym c.get.ensures)) (c.as_slice.ensures ∙ c.get-in-Inst.ensures)
     c.in_ok-refer_name-in-Inst.ensures h.1 h.2 each) c.note_types.ensures
 
 pub note_type-note_type-requires : goal.note_type-note_type-requires
 note_type-note_type-requires t c =
     let known = c.requires.known in
-    let k : IsWritable c.args.refs.now c.get.result.now = subst (λ (x : SigType). IsWritable c.args.refs.now x) (sym c.get.ensures) (of_sz_array c.args.refs.now c.in-SzArray.of (parts_at c.args.refs.now c.args.t.now (type.SzArray c.in-SzArray.of) (layer.SzArray c.in-SzArray.of) c.in-SzArray.is (type.outs-SzArray c.in-SzArray.of) c.requires.writable)) in
+    let k : IsWritable c.args.refs.now c.get-in-SzArray.result.now = subst (λ (x : SigType). IsWritable c.args.refs.now x) (sym c.get-in-SzArray.ensures) (of_sz_array c.args.refs.now c.in-SzArray.of (parts_at c.args.refs.now c.args.t.now (type.SzArray c.in-SzArray.of) (layer.SzArray c.in-SzArray.of) c.in-SzArray.is (type.outs-SzArray c.in-SzArray.of) c.requires.writable)) in
     let heavy = weight_at c.args.t.now (type.SzArray c.in-SzArray.of) (layer.SzArray c.in-SzArray.of) c.in-SzArray.is (type.outs-SzArray c.in-SzArray.of) in
     let room = c.requires.room in
-    let j = ap type_weight c.get.ensures in
-    let fits : size c.args.refs.now + type_weight c.get.result.now ≤ 2 ^ 26 = omega arith in
+    let j = ap type_weight c.get-in-SzArray.ensures in
+    let fits : size c.args.refs.now + type_weight c.get-in-SzArray.result.now ≤ 2 ^ 26 = omega arith in
     let deep = depth_at c.args.t.now (type.SzArray c.in-SzArray.of) (layer.SzArray c.in-SzArray.of) c.in-SzArray.is (type.outs-SzArray c.in-SzArray.of) in
-    let i = ap depth c.get.ensures in
-    let smaller : 3 * depth c.get.result.now < 3 * depth c.args.t.now = omega arith in
+    let i = ap depth c.get-in-SzArray.ensures in
+    let smaller : 3 * depth c.get-in-SzArray.result.now < 3 * depth c.args.t.now = omega arith in
     search rules
 
 pub note_type-returns-in-SzArray : goal.note_type-returns-in-SzArray
 note_type-returns-in-SzArray t c =
-    on_ok_weaker c.note_type.result (λ h. noted_round c.args.refs.now c.note_type.new.refs c.args.t.now (type.SzArray c.in-SzArray.of) c.in-SzArray.of c.get.result.now (layer.SzArray c.in-SzArray.of) c.in-SzArray.is (type.outs-SzArray c.in-SzArray.of) c.get.ensures h spellable.sz_array (omega arith)) c.note_type.ensures
+    on_ok_weaker c.note_type.result (λ h. noted_round c.args.refs.now c.note_type.new.refs c.args.t.now (type.SzArray c.in-SzArray.of) c.in-SzArray.of c.get-in-SzArray.result.now (layer.SzArray c.in-SzArray.of) c.in-SzArray.is (type.outs-SzArray c.in-SzArray.of) c.get-in-SzArray.ensures h spellable.sz_array (omega arith)) c.note_type.ensures
 
 pub note_type-note_type-requires-in-Array : goal.note_type-note_type-requires-in-Array
 note_type-note_type-requires-in-Array t c =

@@ -8,13 +8,17 @@ use Rattle.image_rows.proofs.TextLemmas.{whole_texts, none_loaded}
 use Rattle.image_rows.proofs.TextWeights.{texts_fit}
 use Rattle.image_rows.proofs.loading.load_texts.Goals as goal
 
+pub returns-then-not-loads : goal.returns-then-not-loads
+returns-then-not-loads c =
+    subst (λ (xs : List (List ℕ)). AreLoaded c.in_ok-user.user xs) (sym (c.requires.loads c.if-not-loads.true)) (none_loaded c.in_ok-user.user c.in_ok-user.ensures)
+
 pub load_methods-requires : goal.load_methods-requires
 load_methods-requires c =
     let a = c.args.a.now in
     let whole = ap entry_sizes (whole_texts a) ∙ sizes_both (flat_map method_texts a.methods) (flat_map typedef_texts a.types) in
     let lent = ap (λ xs. entry_sizes (flat_map method_texts xs)) c.as_slice.ensures in
     let begun = ap (λ (h : Heap). length h.bytes) c.in_ok-user.ensures in
-    let room = c.requires in
+    let room = c.requires.weight in
     let fits = texts_fit a in
     omega arith
 
@@ -26,7 +30,7 @@ load_types-requires c =
     let also = ap (λ xs. entry_sizes (flat_map typedef_texts xs)) c.as_slice-2.ensures in
     let begun = ap (λ (h : Heap). length h.bytes) c.in_ok-user.ensures in
     let first = c.in_ok-load_methods.ensures.size in
-    let room = c.requires in
+    let room = c.requires.weight in
     let fits = texts_fit a in
     omega arith
 

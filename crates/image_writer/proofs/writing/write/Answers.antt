@@ -7,7 +7,7 @@ pub returns-then-room-gt-ROOM-clause-refused : goal.returns-then-room-gt-ROOM-cl
 returns-then-room-gt-ROOM-clause-refused c =
     let light = c.if-weight-gt-LIMIT.false in
     let full = c.if-room-gt-ROOM.true in
-    has_full c.args.a.now c.in_ok-user.user c.bytes.result.now c.weight-weight.result c.bytes.ensures.bytes c.in_ok-user.ensures c.weight-weight.ensures (omega arith) (omega arith)
+    has_full c.args.a.now c.in_ok-user.user c.bytes.result.now c.weigh-weighed.result.weight c.bytes.ensures.bytes c.in_ok-user.ensures c.weigh-weighed.ensures.weight (omega arith) (omega arith)
 
 pub returns-then-room-gt-ROOM-clause-strings_full : goal.returns-then-room-gt-ROOM-clause-strings_full
 returns-then-room-gt-ROOM-clause-strings_full c =

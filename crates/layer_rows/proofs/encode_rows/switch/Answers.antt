@@ -6,4 +6,5 @@ use Rattle.layer_rows.proofs.encode_rows.switch.Goals as goal
 pub add-requires-clause-new : goal.add-requires-clause-new
 add-requires-clause-new c =
     let P : List ℕ → Type 0 = λ ts. All (λ t. t < c.args.count) ts in
-    switch_plain c.args.count c.in_ok-targets.targets (subst P (sym c.in_ok-targets.ensures) c.requires.to) (ap length c.in_ok-targets.ensures ∙ c.requires.three)
+    let is = c.in_ok-boxed.ensures ∙ c.in_ok-targets.ensures in
+    switch_plain c.args.count c.in_ok-boxed.boxed (subst P (sym is) c.requires.to) (ap length is ∙ c.requires.three)

@@ -8,7 +8,7 @@ use Rattle.sig_codec.proofs.measure.+measure.Goals as goal
 pub after_type-returns-in-Inst : goal.after_type-returns-in-Inst
 after_type-returns-in-Inst t c =
     let args = c.in-Inst.args in
-    let e : c.as_slice.result.now ≡ args = c.as_slice.ensures in
+    let e : c.as_slice.result.now ≡ args = c.as_slice.ensures ∙ c.get.ensures in
     rw (c.after_types.ensures, e, c.in-Inst.is, depth-Inst c.in-Inst.value c.in-Inst.name args, nodes-Inst c.in-Inst.value c.in-Inst.name args)
     (after_more (largest (map depth args)) (total (map nodes args)) c.args.limit c.args.nodes c.if-limit-eq0.false c.if-nodes-eq0.false)
 
@@ -17,8 +17,8 @@ after_type-returns-in_ok-left-in-Mod t c =
     let by = c.in-Mod.by in
     let of = c.in-Mod.of in
     let left = c.in_ok-left-in-Mod.left in
-    let both = after_both (owner_depth by) (owner_nodes by) (depth of) (nodes of) (c.args.limit - 1) (c.args.nodes - 1) left (rw c.get.ensures at c.in_ok-left-in-Mod.ensures) in
-    rw (c.after_type.ensures, c.get-in-Mod.ensures, c.in-Mod.is, depth-Mod c.in-Mod.required by of, nodes-Mod c.in-Mod.required by of)
+    let both = after_both (owner_depth by) (owner_nodes by) (depth of) (nodes of) (c.args.limit - 1) (c.args.nodes - 1) left (rw c.get-in-Mod.ensures at c.in_ok-left-in-Mod.ensures) in
+    rw (c.after_type.ensures, c.get-in-Mod-2.ensures, c.in-Mod.is, depth-Mod c.in-Mod.required by of, nodes-Mod c.in-Mod.required by of)
     (both ∙ after_more (max (owner_depth by) (depth of)) (owner_nodes by + nodes of) c.args.limit c.args.nodes c.if-limit-eq0.false c.if-nodes-eq0.false)
 
 pub after_type-returns-in-SzArray : goal.after_type-returns-in-SzArray

@@ -83,17 +83,17 @@ push_type-push_type-requires g t c =
     let tokens = g.N.Numberer.owner_tokens c.args.map.now in
     let w = writing tokens in
     let h = of_sz_array tokens c.in-SzArray.of (parts_at tokens c.args.t.now (type.SzArray c.in-SzArray.of) (layer.SzArray c.in-SzArray.of) c.in-SzArray.is (type.outs-SzArray c.in-SzArray.of) c.requires) in
-    let k = subst (λ (x : SigType). HasSpelling tokens x) (sym c.get.ensures) h in
+    let k = subst (λ (x : SigType). HasSpelling tokens x) (sym c.get-in-SzArray.ensures) h in
     let round = IsRound-from c.args.t.now c.in-SzArray.of (inl c.in-SzArray.is) in
-    let smaller : depth c.get.result.now < depth c.args.t.now = omega (arith, round.depth_is, ap depth c.get.ensures) in
+    let smaller : depth c.get-in-SzArray.result.now < depth c.args.t.now = omega (arith, round.depth_is, ap depth c.get-in-SzArray.ensures) in
     search rules
 
 pub push_type-returns-in_ok-push-in-SzArray : goal.push_type-returns-in_ok-push-in-SzArray
 push_type-returns-in_ok-push-in-SzArray g t c =
     let tokens = g.N.Numberer.owner_tokens c.args.map.now in
     let w = writing tokens in
-    let of = c.get.result.now in
-    let is = c.in-SzArray.is ∙ ap type.SzArray (sym c.get.ensures) in
+    let of = c.get-in-SzArray.result.now in
+    let is = c.in-SzArray.is ∙ ap type.SzArray (sym c.get-in-SzArray.ensures) in
     then_more c.push_type.result c.args.out.now c.push-in-SzArray.new.self c.push_type.new.out (0x1D ∷ []) (SpellsType w c.args.t.now) (SpellsType w of) c.in_ok-push-in-SzArray.ensures.ok
     (λ a h. rw is (written tokens (layer.SzArray of) (type.SzArray of) (0x1D ∷ a) (type.outs-SzArray of) (spelling.sz_array refl h))) c.push_type.ensures
 
@@ -166,31 +166,31 @@ pub push_type-push_name-requires : goal.push_type-push_name-requires
 push_type-push_name-requires g t c =
     let tokens = g.N.Numberer.owner_tokens c.args.map.now in
     let w = writing tokens in
-    (of_inst tokens c.in-Inst.value c.in-Inst.name c.in-Inst.args (parts_at tokens c.args.t.now (type.Inst c.in-Inst.value c.in-Inst.name c.in-Inst.args) (layer.Inst c.in-Inst.value c.in-Inst.name c.in-Inst.args) c.in-Inst.is (type.outs-Inst c.in-Inst.value c.in-Inst.name c.in-Inst.args) c.requires)).0
+    (of_inst tokens c.in-Inst.value c.get.result.now c.in-Inst.args (parts_at tokens c.args.t.now (type.Inst c.in-Inst.value c.get.result.now c.in-Inst.args) (layer.Inst c.in-Inst.value c.get.result.now c.in-Inst.args) (c.in-Inst.is ∙ ap (λ n. type.Inst c.in-Inst.value n c.in-Inst.args) (sym c.get.ensures)) (type.outs-Inst c.in-Inst.value c.get.result.now c.in-Inst.args) c.requires)).0
 
 pub push_type-overflow_cast-len : goal.push_type-overflow_cast-len
 push_type-overflow_cast-len g t c =
     let tokens = g.N.Numberer.owner_tokens c.args.map.now in
     let w = writing tokens in
-    let h = of_inst tokens c.in-Inst.value c.in-Inst.name c.in-Inst.args (parts_at tokens c.args.t.now (type.Inst c.in-Inst.value c.in-Inst.name c.in-Inst.args) (layer.Inst c.in-Inst.value c.in-Inst.name c.in-Inst.args) c.in-Inst.is (type.outs-Inst c.in-Inst.value c.in-Inst.name c.in-Inst.args) c.requires) in
-    let low : c.len.result < 2 ^ 29 = omega (arith, h.2, c.len.ensures) in
+    let h = of_inst tokens c.in-Inst.value c.get.result.now c.in-Inst.args (parts_at tokens c.args.t.now (type.Inst c.in-Inst.value c.get.result.now c.in-Inst.args) (layer.Inst c.in-Inst.value c.get.result.now c.in-Inst.args) (c.in-Inst.is ∙ ap (λ n. type.Inst c.in-Inst.value n c.in-Inst.args) (sym c.get.ensures)) (type.outs-Inst c.in-Inst.value c.get.result.now c.in-Inst.args) c.requires) in
+    let low : c.len.result < 2 ^ 29 = omega (arith, h.2, (c.len.ensures ∙ ap length c.get-args.ensures)) in
     search rules
 
 pub push_type-push_packed-requires : goal.push_type-push_packed-requires
 push_type-push_packed-requires g t c =
     let tokens = g.N.Numberer.owner_tokens c.args.map.now in
     let w = writing tokens in
-    let h = of_inst tokens c.in-Inst.value c.in-Inst.name c.in-Inst.args (parts_at tokens c.args.t.now (type.Inst c.in-Inst.value c.in-Inst.name c.in-Inst.args) (layer.Inst c.in-Inst.value c.in-Inst.name c.in-Inst.args) c.in-Inst.is (type.outs-Inst c.in-Inst.value c.in-Inst.name c.in-Inst.args) c.requires) in
-    omega (arith, h.2, c.len.ensures)
+    let h = of_inst tokens c.in-Inst.value c.get.result.now c.in-Inst.args (parts_at tokens c.args.t.now (type.Inst c.in-Inst.value c.get.result.now c.in-Inst.args) (layer.Inst c.in-Inst.value c.get.result.now c.in-Inst.args) (c.in-Inst.is ∙ ap (λ n. type.Inst c.in-Inst.value n c.in-Inst.args) (sym c.get.ensures)) (type.outs-Inst c.in-Inst.value c.get.result.now c.in-Inst.args) c.requires) in
+    omega (arith, h.2, (c.len.ensures ∙ ap length c.get-args.ensures))
 
 pub push_type-push_each-requires : goal.push_type-push_each-requires
 push_type-push_each-requires g t c =
     let tokens = g.N.Numberer.owner_tokens c.args.map.now in
     let w = writing tokens in
-    let h = of_inst tokens c.in-Inst.value c.in-Inst.name c.in-Inst.args (parts_at tokens c.args.t.now (type.Inst c.in-Inst.value c.in-Inst.name c.in-Inst.args) (layer.Inst c.in-Inst.value c.in-Inst.name c.in-Inst.args) c.in-Inst.is (type.outs-Inst c.in-Inst.value c.in-Inst.name c.in-Inst.args) c.requires) in
-    let k = subst (λ (x : List SigType). HaveSpellings tokens x) (sym c.as_slice.ensures) h.3 in
-    let deep : depth c.args.t.now ≡ largest (map depth c.in-Inst.args) + 1 = ap depth c.in-Inst.is ∙ depth-Inst c.in-Inst.value c.in-Inst.name c.in-Inst.args in
-    let same : largest (map depth c.as_slice.result.now) ≡ largest (map depth c.in-Inst.args) = ap (λ (x : List SigType). largest (map depth x)) c.as_slice.ensures in
+    let h = of_inst tokens c.in-Inst.value c.get.result.now c.in-Inst.args (parts_at tokens c.args.t.now (type.Inst c.in-Inst.value c.get.result.now c.in-Inst.args) (layer.Inst c.in-Inst.value c.get.result.now c.in-Inst.args) (c.in-Inst.is ∙ ap (λ n. type.Inst c.in-Inst.value n c.in-Inst.args) (sym c.get.ensures)) (type.outs-Inst c.in-Inst.value c.get.result.now c.in-Inst.args) c.requires) in
+    let k = subst (λ (x : List SigType). HaveSpellings tokens x) (sym (c.as_slice.ensures ∙ c.get-args.ensures)) h.3 in
+    let deep : depth c.args.t.now ≡ largest (map depth c.in-Inst.args) + 1 = ap depth (c.in-Inst.is ∙ ap (λ n. type.Inst c.in-Inst.value n c.in-Inst.args) (sym c.get.ensures)) ∙ depth-Inst c.in-Inst.value c.get.result.now c.in-Inst.args in
+    let same : largest (map depth c.as_slice.result.now) ≡ largest (map depth c.in-Inst.args) = ap (λ (x : List SigType). largest (map depth x)) (c.as_slice.ensures ∙ c.get-args.ensures) in
     let smaller : 2 * largest (map depth c.as_slice.result.now) + 1 < 2 * depth c.args.t.now = omega (arith, deep, same) in
     search rules
 
@@ -198,14 +198,14 @@ pub push_type-returns-in_ok-push_packed-in-Inst : goal.push_type-returns-in_ok-p
 push_type-returns-in_ok-push_packed-in-Inst g t c =
     let tokens = g.N.Numberer.owner_tokens c.args.map.now in
     let w = writing tokens in
-    let h = of_inst tokens c.in-Inst.value c.in-Inst.name c.in-Inst.args (parts_at tokens c.args.t.now (type.Inst c.in-Inst.value c.in-Inst.name c.in-Inst.args) (layer.Inst c.in-Inst.value c.in-Inst.name c.in-Inst.args) c.in-Inst.is (type.outs-Inst c.in-Inst.value c.in-Inst.name c.in-Inst.args) c.requires) in
+    let h = of_inst tokens c.in-Inst.value c.get.result.now c.in-Inst.args (parts_at tokens c.args.t.now (type.Inst c.in-Inst.value c.get.result.now c.in-Inst.args) (layer.Inst c.in-Inst.value c.get.result.now c.in-Inst.args) (c.in-Inst.is ∙ ap (λ n. type.Inst c.in-Inst.value n c.in-Inst.args) (sym c.get.ensures)) (type.outs-Inst c.in-Inst.value c.get.result.now c.in-Inst.args) c.requires) in
     let n = c.in_ok-push_name-in-Inst.ensures in
     let b = packed_bytes c.len.result in
     let k = c.kind_byte.result in
     let front : List ℕ = 0x15 ∷ k ∷ (n.0 ++ b) in
     let added = four_added c.args.out.now c.push-in-Inst.new.self c.push-in-Inst-2.new.self c.push_name.new.out c.push_packed.new.out k n.0 b c.in_ok-push-in-Inst.ensures.ok c.in_ok-push-in-Inst-2.ensures.ok n.1 c.in_ok-push_packed-in-Inst.ensures.ok in
     then_more c.push_each.result c.args.out.now c.push_packed.new.out c.push_each.new.out front (SpellsType w c.args.t.now) (SpellsEach w c.as_slice.result.now) added
-    (λ a each. rw c.in-Inst.is (inst_written tokens c.in-Inst.value c.in-Inst.name c.in-Inst.args k n.0 b a c.len.result c.kind_byte.ensures n.2 c.len.ensures (c.in_ok-push_packed-in-Inst.ensures.spells, c.in_ok-push_packed-in-Inst.ensures.shortest) h.1 (subst (λ (x : List SigType). SpellsEach w x a) c.as_slice.ensures each)))
+    (λ a each. rw (c.in-Inst.is ∙ ap (λ n. type.Inst c.in-Inst.value n c.in-Inst.args) (sym c.get.ensures)) (inst_written tokens c.in-Inst.value c.get.result.now c.in-Inst.args k n.0 b a c.len.result c.kind_byte.ensures n.2 (c.len.ensures ∙ ap length c.get-args.ensures) (c.in_ok-push_packed-in-Inst.ensures.spells, c.in_ok-push_packed-in-Inst.ensures.shortest) h.1 (subst (λ (x : List SigType). SpellsEach w x a) (c.as_slice.ensures ∙ c.get-args.ensures) each)))
     c.push_each.ensures
 
 pub push_type-push_type-requires-in-Array : goal.push_type-push_type-requires-in-Array
@@ -223,7 +223,7 @@ push_type-push_shape-requires g t c =
     let tokens = g.N.Numberer.owner_tokens c.args.map.now in
     let w = writing tokens in
     let h = of_array tokens c.in-Array.of c.in-Array.rank c.in-Array.sizes c.in-Array.lower (parts_at tokens c.args.t.now (type.Array c.in-Array.of c.in-Array.rank c.in-Array.sizes c.in-Array.lower) (layer.Array c.in-Array.of c.in-Array.rank c.in-Array.sizes c.in-Array.lower) c.in-Array.is (type.outs-Array c.in-Array.of c.in-Array.rank c.in-Array.sizes c.in-Array.lower) c.requires) in
-    shape_of c.in-Array.rank c.in-Array.sizes c.as_slice-in-Array.result.now c.in-Array.lower c.as_slice-in-Array-2.result.now c.as_slice-in-Array.ensures c.as_slice-in-Array-2.ensures h.1
+    shape_of c.in-Array.rank c.in-Array.sizes c.as_slice-in-Array.result.now c.in-Array.lower c.as_slice-in-Array-2.result.now (c.as_slice-in-Array.ensures ∙ c.get-in-Array-2.ensures) (c.as_slice-in-Array-2.ensures ∙ c.get-in-Array-3.ensures) h.1
 
 pub push_type-returns-in_ok-push_type-in-Array : goal.push_type-returns-in_ok-push_type-in-Array
 push_type-returns-in_ok-push_type-in-Array g t c =
@@ -234,7 +234,7 @@ push_type-returns-in_ok-push_type-in-Array g t c =
     let r = c.in-Array.rank in
     let s = c.as_slice-in-Array.result.now in
     let l = c.as_slice-in-Array-2.result.now in
-    let is = c.in-Array.is ∙ array_is c.in-Array.of of r c.in-Array.sizes s c.in-Array.lower l c.get-in-Array.ensures c.as_slice-in-Array.ensures c.as_slice-in-Array-2.ensures in
+    let is = c.in-Array.is ∙ array_is c.in-Array.of of r c.in-Array.sizes s c.in-Array.lower l c.get-in-Array.ensures (c.as_slice-in-Array.ensures ∙ c.get-in-Array-2.ensures) (c.as_slice-in-Array-2.ensures ∙ c.get-in-Array-3.ensures) in
     then_more c.push_shape.result c.args.out.now c.push_type-in-Array.new.out c.push_shape.new.out (0x14 ∷ n.0) (SpellsType w c.args.t.now) (SpellsShape w r s l)
     (two_added c.args.out.now c.push-in-Array.new.self c.push_type-in-Array.new.out (0x14 ∷ []) n.0 c.in_ok-push-in-Array.ensures.ok n.1)
     (λ b h. rw is (written tokens (layer.Array of r s l) (type.Array of r s l) ((0x14 ∷ n.0) ++ b) (type.outs-Array of r s l) (spelling.array refl n.2 h)))

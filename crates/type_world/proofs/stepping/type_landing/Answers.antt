@@ -1,4 +1,4 @@
-use Rattle.std.proofs.Common.{ap, refl, ℕ, Option}
+use Rattle.std.proofs.Common.{◌∙◌, ap, sym, refl, ℕ, Option}
 use Rattle.type_terms.specs.declared.term.SigType.TheVariants as type
 use Rattle.type_world.specs.Hierarchy.{core_name}
 use Rattle.type_world.specs.Landings.{IsLanding, IsTypeLanding}
@@ -25,8 +25,9 @@ returns-in-Value c =
 pub returns-in-Inst : goal.returns-in-Inst
 returns-in-Inst c =
     let w = hierarchy_in c.args.tables.now in
-    let name = c.in-Inst.name in
-    known_landing w c.args.tables.now.names c.args.to.now (type.Inst c.in-Inst.value name c.in-Inst.args) name (full_name name.scope c.as_slice-in-Inst.result.now) c.landing-in-Inst.result c.in-Inst.is
+    let name = c.get-name.result.now in
+    known_landing w c.args.tables.now.names c.args.to.now (type.Inst c.in-Inst.value name c.in-Inst.args) name (full_name name.scope c.as_slice-in-Inst.result.now) c.landing-in-Inst.result
+    (c.in-Inst.is ∙ ap (λ n. type.Inst c.in-Inst.value n c.in-Inst.args) (sym c.get-name.ensures))
     (instance_named w c.in-Inst.value name c.in-Inst.args) (ap (full_name name.scope) c.as_slice-in-Inst.ensures.ids) c.landing-in-Inst.ensures
 
 pub returns-in-Prim : goal.returns-in-Prim

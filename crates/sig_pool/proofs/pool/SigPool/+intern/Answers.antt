@@ -9,7 +9,7 @@ use Rattle.sig_pool.proofs.pool.SigPool.+intern.Goals as goal
 pub intern-returns-in_ok-of-in-SzArray-clause-ok : goal.intern-returns-in_ok-of-in-SzArray-clause-ok
 intern-returns-in_ok-of-in-SzArray-clause-ok t c =
     subst (λ x. IfOk c.place-in-SzArray.result (λ id. Has c.place-in-SzArray.new.self id x))
-    (built_SzArray c.intern.new.self c.in_ok-of-in-SzArray.of c.get.result.now c.args.t.now c.in_ok-of-in-SzArray.ensures.ok (c.in-SzArray.is ∙ ap type.SzArray (sym c.get.ensures)))
+    (built_SzArray c.intern.new.self c.in_ok-of-in-SzArray.of c.get-in-SzArray.result.now c.args.t.now c.in_ok-of-in-SzArray.ensures.ok (c.in-SzArray.is ∙ ap type.SzArray (sym c.get-in-SzArray.ensures)))
     c.place-in-SzArray.ensures.ok
 
 pub intern-returns-in_ok-of-in-ByRef-clause-ok : goal.intern-returns-in_ok-of-in-ByRef-clause-ok
@@ -34,8 +34,8 @@ pub intern-returns-in_ok-of-in-Array-clause-ok : goal.intern-returns-in_ok-of-in
 intern-returns-in_ok-of-in-Array-clause-ok t c =
     let a = c.in-Array in
     subst (λ x. IfOk c.place-in-Array.result (λ id. Has c.place-in-Array.new.self id x))
-    (built_Array c.intern-in-Array.new.self c.in_ok-of-in-Array.of c.get-in-Array.result.now c.args.t.now a.rank a.sizes a.lower c.in_ok-of-in-Array.ensures.ok
-    (a.is ∙ ap (λ x. type.Array x a.rank a.sizes a.lower) (sym c.get-in-Array.ensures)))
+    (built_Array c.intern-in-Array.new.self c.in_ok-of-in-Array.of c.get-in-Array.result.now c.args.t.now a.rank c.get-in-Array-2.result.now c.get-in-Array-3.result.now c.in_ok-of-in-Array.ensures.ok
+    (a.is ∙ (λ i. type.Array (sym c.get-in-Array.ensures i) a.rank (sym c.get-in-Array-2.ensures i) (sym c.get-in-Array-3.ensures i))))
     c.place-in-Array.ensures.ok
 
 pub intern_modified-returns-in-Name-clause-ok : goal.intern_modified-returns-in-Name-clause-ok
@@ -53,11 +53,11 @@ intern_modified-returns-in_ok-inner-in-Spec-clause-ok t c =
 
 pub intern-returns-in_err-args-in-Inst-clause-bound : goal.intern-returns-in_err-args-in-Inst-clause-bound
 intern-returns-in_err-args-in-Inst-clause-bound t c =
-    omega (arith, nodes_Inst c.args.t.now c.in-Inst.value c.in-Inst.name c.in-Inst.args c.in-Inst.is, ap list_nodes c.as_slice.ensures, c.in_err-args-in-Inst.ensures.bound)
+    omega (arith, nodes_Inst c.args.t.now c.in-Inst.value c.in-Inst.name c.in-Inst.args c.in-Inst.is, ap list_nodes (c.as_slice.ensures ∙ c.get.ensures), c.in_err-args-in-Inst.ensures.bound)
 
 pub intern-returns-in_ok-args-in-Inst-clause-bound : goal.intern-returns-in_ok-args-in-Inst-clause-bound
 intern-returns-in_ok-args-in-Inst-clause-bound t c =
-    omega (arith, nodes_Inst c.args.t.now c.in-Inst.value c.in-Inst.name c.in-Inst.args c.in-Inst.is, ap list_nodes c.as_slice.ensures, c.in_ok-args-in-Inst.ensures.bound, c.place-in-Inst.ensures.bound)
+    omega (arith, nodes_Inst c.args.t.now c.in-Inst.value c.in-Inst.name c.in-Inst.args c.in-Inst.is, ap list_nodes (c.as_slice.ensures ∙ c.get.ensures), c.in_ok-args-in-Inst.ensures.bound, c.place-in-Inst.ensures.bound)
 
 pub intern_all-returns-in_err-id-clause-bound : goal.intern_all-returns-in_err-id-clause-bound
 intern_all-returns-in_err-id-clause-bound t c =

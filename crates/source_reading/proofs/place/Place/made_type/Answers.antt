@@ -1,5 +1,6 @@
 use Rattle.std.proofs.Common.{◌≡◌, ◌<◌, ◌^◌, ap, sym, subst, ◌∙◌, arith, length, false, true}
-use Rattle.type_terms.specs.declared.term.SigType.{Var, MVar}
+use Rattle.std.proofs.lemmas.Result.{IfOk-weaker}
+use Rattle.type_terms.specs.declared.term.SigType.{SigType, Var, MVar}
 use Rattle.ilasm_grammar.specs.declared.productions.TheConstants.{TYPE_BASE_DOUBLE_BANG}
 use Rattle.source_model.specs.Types.{named_type, variable_number}
 use Rattle.source_reading.specs.BaseTypes.{made_type}
@@ -10,13 +11,19 @@ use Rattle.source_reading.proofs.place.Place.made_type.Goals as goal
 
 pub returns-in_ok-name-in-64 : goal.returns-in_ok-name-in-64
 returns-in_ok-name-in-64 c s a x f e head low sound each =
-    c.named_type.ensures ∙ ap (λ n. named_type false n c.args.args) (c.in_ok-name-in-64.ensures s a x f e (has_bodies s f each))
-    ∙ ap (λ p. made_type s a p f c.args.args) (sym c.in-64.is)
+    let made : named_type false c.in_ok-name-in-64.name c.args.args ≡ made_type s a c.args.production f c.args.args =
+    ap (λ n. named_type false n c.args.args) (c.in_ok-name-in-64.ensures s a x f e (has_bodies s f each))
+    ∙ ap (λ p. made_type s a p f c.args.args) (sym c.in-64.is) in
+    IfOk-weaker c.named_type.result (λ (of : SigType). of ≡ named_type false c.in_ok-name-in-64.name c.args.args)
+    (λ (of : SigType). of ≡ made_type s a c.args.production f c.args.args) (λ of is. is ∙ made) c.named_type.ensures
 
 pub returns-in_ok-name-in-65 : goal.returns-in_ok-name-in-65
 returns-in_ok-name-in-65 c s a x f e head low sound each =
-    c.named_type-in-65.ensures ∙ ap (λ n. named_type true n c.args.args) (c.in_ok-name-in-65.ensures s a x f e (has_bodies s f each))
-    ∙ ap (λ p. made_type s a p f c.args.args) (sym c.in-65.is)
+    let made : named_type true c.in_ok-name-in-65.name c.args.args ≡ made_type s a c.args.production f c.args.args =
+    ap (λ n. named_type true n c.args.args) (c.in_ok-name-in-65.ensures s a x f e (has_bodies s f each))
+    ∙ ap (λ p. made_type s a p f c.args.args) (sym c.in-65.is) in
+    IfOk-weaker c.named_type-in-65.result (λ (of : SigType). of ≡ named_type true c.in_ok-name-in-65.name c.args.args)
+    (λ (of : SigType). of ≡ made_type s a c.args.production f c.args.args) (λ of is. is ∙ made) c.named_type-in-65.ensures
 
 pub returns-in_ok-number-in-66 : goal.returns-in_ok-number-in-66
 returns-in_ok-number-in-66 c s a x f e head low sound each =

@@ -38,13 +38,15 @@ gather_type-returns-in_ok-gather_if-in-Inst t c =
     let into = c.args.into.now in
     let mid = c.gather_if.new.into in
     let arm = c.in-Inst in
-    let head = if_value arm.value arm.name in
+    let name = c.get.result.now in
+    let head = if_value arm.value name in
     let e : gathered m into (in_type c.args.t.now) ≡ gathered m mid (flat_map in_type c.as_slice.result.now) =
     ap (λ (of : SigType). gathered m into (in_type of)) arm.is
     ∙ ap (gathered m into) (in_instance arm.value arm.name arm.args)
+    ∙ (λ i. gathered m into (if_value arm.value (sym c.get.ensures i) ++ flat_map in_type arm.args))
     ∙ sym (both_in m into head (flat_map in_type arm.args))
     ∙ ap (λ ns. gathered m ns (flat_map in_type arm.args)) (sym c.in_ok-gather_if-in-Inst.ensures)
-    ∙ ap (λ ts. gathered m mid (flat_map in_type ts)) (sym c.as_slice.ensures) in
+    ∙ ap (λ ts. gathered m mid (flat_map in_type ts)) (sym (c.as_slice.ensures ∙ c.get-in-Inst.ensures)) in
     rw e c.gather_types.ensures
 
 pub gather_type-returns-in_ok-gather_owner-in-Mod : goal.gather_type-returns-in_ok-gather_owner-in-Mod

@@ -28,7 +28,7 @@ pub returns-in-Targets-clause-draft : goal.returns-in-Targets-clause-draft
 returns-in-Targets-clause-draft c = λ code done want d short.
     let old : Draft = c.args.self.now in
     let e : c.args.operand.now ≡ operand.TheVariants.Targets c.in-Targets.targets = c.in-Targets.is in
-    let same : c.as_slice.result.now ≡ c.in-Targets.targets = c.as_slice.ensures in
+    let same : c.as_slice.result.now ≡ c.in-Targets.targets = c.as_slice.ensures ∙ c.get.ensures in
     let f : c.args.operand.now ≡ operand.TheVariants.Targets c.as_slice.result.now = e ∙ ap operand.TheVariants.Targets (sym same) in
     let P : operand.Operand → Type 0 = λ v. IsDraft (from_on (length old.offsets)) code done
     (want ++ tail_of c.args.token (offsets_of code) (length old.bytes + size_of c.args.kind v) c.args.kind v) c.push_switch.new.self in
