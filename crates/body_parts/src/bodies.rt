@@ -37,7 +37,11 @@ use ilasm_grammar::productions::INSTRUCTION_OP_VAR;
 use source_reading::labels::names_at;
 use source_reading::pieces::Piece;
 use source_reading::place::Place;
+use source_reading::reader::Reader;
 use std::alloc::Global;
+
+/// How long, in bytes, each of two labels may be that are compared one by one.
+const SHORT: usize = 64;
 
 /// The body of a method, from the nodes below its production and what was found in them; a method whose braces hold no instruction
 /// has none.
@@ -68,8 +72,8 @@ pub fn body(
     Ok(Some(one))
 }
 
-// The body of a method that has these instructions, and labels with these names. One label is compared by itself, few are found by
-// their slots.
+// The body of a method that has these instructions, and labels with these names: compared one by one, or found by their slots
+// where they are few, or by a table.
 fn body_with(
     alloc: Global,
     place: &Place,
@@ -84,7 +88,7 @@ fn body_with(
     ensures { (s : Source) (a : Around) (f : Forest) → IsAt place.now s a → preorder f ≡ nodes.now → IsMethodInRange s f →
         ArePieces nodes.now found.now (instructions_of f) → named.now ≡ labels f → IsHeld held f → IfOk result (λ b. IsBodyOf s a f b) }
 {
-    if named.len() < 2 {
+    if are_compared(&place.reader, named) {
         return body_named(alloc, place, nodes, found, named, &Names::Each, held);
     }
     let mut slots = [0; SLOTS];
@@ -93,6 +97,19 @@ fn body_with(
         return body_named(alloc, place, nodes, found, named, &names, held);
     }
     body_of_many_labels(alloc, place, nodes, found, named, held)
+}
+
+// Whether what a branch names is compared with each of these labels: with one, which it is then, or with two that are short, so
+// that a long one isn't read again for each branch to the other.
+fn are_compared(reader: &Reader, named: &[u32]) -> bool {
+    match named {
+        [one, other] => is_short(reader, *one) && is_short(reader, *other),
+        _ => named.len() < 2,
+    }
+}
+
+fn is_short(reader: &Reader, label: u32) -> bool {
+    reader.spelling(label).len() <= SHORT
 }
 
 // The same of a method with labels that are found by their names.

@@ -29,7 +29,7 @@ use std::alloc::Global;
 /// How a label of a method is found by its name.
 #[derive(Clone, Copy)]
 pub enum Names<'a> {
-    /// Each is compared, where there is at most one.
+    /// Each is compared, where there is one or there are two short ones.
     Each,
     /// By its slot, where they are few.
     Slots(&'a [u8; SLOTS]),

@@ -109,6 +109,24 @@ fn naming_fault(
     if are_quiet(reader, method, code, names, plain) {
         return Ok(None);
     }
+    looked_up_fault(alloc, reader, method, code, names, plain)
+}
+
+// The same, with the labels looked up.
+#[inline(never)]
+fn looked_up_fault(
+    alloc: Global,
+    reader: &Reader,
+    method: &[TreeNode],
+    code: &[Piece],
+    names: &[u32],
+    plain: bool,
+) -> Result<Option<u32>, NoMemory>
+    requires forest { IsForest method.now }
+    requires parts { AreParts method.now code.now }
+    ensures { (s : Source) (n : Node) → Reads reader.now s → IsMethod s n → preorder n.below ≡ method.now → ArePieces method.now code.now (instructions_of n.below) →
+        names.now ≡ labels n.below → (plain ≡ true → IsPlain method.now n.below) → IfOk result (λ k. k ≡ least (naming_in s n)) }
+{
     let labels = labels_of(alloc, reader, method, code, names)?;
     let targets = all_targets(alloc, method, code)?;
     let tokens = targets.as_slice();
@@ -164,6 +182,22 @@ fn operand_faults(
             number: None,
         });
     }
+    ranged_faults(alloc, reader, method, code)
+}
+
+// The same where an instruction has such an operand.
+#[inline(never)]
+fn ranged_faults(
+    alloc: Global,
+    reader: &Reader,
+    method: &[TreeNode],
+    code: &[Piece],
+) -> Result<OperandFaults, NoMemory>
+    requires forest { IsForest method.now }
+    requires parts { AreParts method.now code.now }
+    ensures { (s : Source) (n : Node) → Reads reader.now s → IsMethod s n → preorder n.below ≡ method.now → ArePieces method.now code.now (instructions_of n.below) →
+        IfOk result (AreOperandFaults s n) }
+{
     let variables = Variables::read_for(alloc, reader, method, code)?;
     let variable = variable_fault(alloc, reader, method, code, &variables)?;
     let number = operand_fault(alloc, reader, method, code, &variables)?;

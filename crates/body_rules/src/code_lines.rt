@@ -27,6 +27,7 @@ pub struct Lines {
 
 /// Those of a method, from the nodes below its production. An instruction takes four nodes or more, and most take about eight, so
 /// there is room for most from the start. What stands in instructions, and before the braces, is gone past.
+#[inline(never)]
 pub fn lines_in(alloc: Global, nodes: &[TreeNode]) -> Result<Lines, NoMemory>
     requires { IsForest nodes.now }
     ensures parts { IfOk result (λ x. AreParts nodes.now x.instructions) }

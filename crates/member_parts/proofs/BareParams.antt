@@ -21,7 +21,11 @@ pub no_nodes : (xs : List TreeNode) → (length xs == 0) ≡ true → xs ≡ []
 no_nodes [] e = refl
 no_nodes (x ∷ xs) e = let none = (Decides-eqb (length (x ∷ xs)) 0).0 e in absurd (omega (arith, none))
 
-pub neither : (a b : Bool) → (a || b || false) ≡ false → (a ≡ false) × (b ≡ false)
+pub second_is : (a : Bool) → true ≡ (a || true)
+second_is true = refl
+second_is false = refl
+
+pub neither : (a b : Bool) → (a || b) ≡ false → (a ≡ false) × (b ≡ false)
 neither true b e = absurd cc
 neither false true e = absurd cc
 neither false false e = (refl, refl)

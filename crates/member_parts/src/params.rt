@@ -2,12 +2,13 @@
 
 ghost use Rattle.std.specs.Prelude.{◌≡◌, ◌<◌, ◌^◌, ◌++◌, ◌||◌, [], None, IfOk, List, fold, length};
 ghost use Rattle.std.specs.List.{AllByRecursion};
+ghost use Rattle.ilasm_grammar.specs.declared.productions.TheConstants.{NAME_OPT_SOME, PARAM_ATTR_STAR_MORE};
 ghost use Rattle.member_parts.specs.NumberedLines.{AreLines, AreRuns, IsLine, IsRun};
 ghost use Rattle.member_parts.specs.Parameters.{IsParameter, row_with};
 ghost use Rattle.source_flags.specs.InRange.{AllInRange};
 ghost use Rattle.source_model.specs.Constants.{constant_of};
 ghost use Rattle.source_model.specs.Flags.{flags_of, parameter_flags_in, parameter_words};
-ghost use Rattle.source_model.specs.Forest.{Forest, is_any_part, preorder};
+ghost use Rattle.source_model.specs.Forest.{Forest, has, is_any_part, preorder};
 ghost use Rattle.source_model.specs.Items.{Run, items_and_ends, runs};
 ghost use Rattle.source_model.specs.Manifests.{attributes};
 ghost use Rattle.source_model.specs.Nodes.{Around};
@@ -29,12 +30,13 @@ use ilasm_grammar::productions::{
 use source_flags::declared_flags::parameter_flags;
 use source_flags::gathering::{Kind, parts_of};
 use source_flags::naturals::natural_16;
+use source_model::{derivations_are_forests, forests_join, forests_open};
 use source_parts::attributes::attributes;
 use source_parts::runs::run_of;
 use source_reading::pieces::{Piece, nodes_of};
 use source_reading::place::Place;
 use source_reading::reader::Reader;
-use source_reading::walk::{child, has, leaf_at, the};
+use source_reading::walk::{child, has, leaf_at, next, the};
 use std::alloc::Global;
 
 /// The rows of a method's parameters, from what stands below its production and its items, with the ends of blocks among them.
@@ -84,8 +86,7 @@ pub fn params_without_lines(
     ensures { (s : Source) (a : Around) → IsAt place.now s a → (f : Forest) → preorder f ≡ nodes.now → AllInRange s f → IfOk result (λ all. all ≡ params s a f []) }
 {
     let below = child(nodes, DEF_ARGS_OPT_SOME);
-    let named = has(below, NAME_OPT_SOME);
-    if !any(named, has(below, PARAM_ATTR_STAR_MORE), false) {
+    if !has_more(below) {
         return Ok(Items::new(alloc));
     }
     let parameters = parts_of(alloc, below, Kind::One(DEF_ARG))?;
@@ -97,6 +98,32 @@ pub fn params_without_lines(
         add_row(&mut all, alloc, place, nodes, &[], number, of)?;
     }
     Ok(all)
+}
+
+// Whether there is a name or a flag among the parameters of a method.
+fn has_more(nodes: &[TreeNode]) -> bool
+    requires { IsForest nodes.now }
+    ensures { (f : Forest) → preorder f ≡ nodes.now → result ≡ (has NAME_OPT_SOME f || has PARAM_ATTR_STAR_MORE f) }
+{
+    derivations_are_forests();
+    forests_open();
+    forests_join();
+    let mut left = nodes;
+    while let Some((node, rest)) = next(left) {
+        match node {
+            TreeNode::Branch { production, .. } => {
+                if production == NAME_OPT_SOME {
+                    return true;
+                }
+                if production == PARAM_ATTR_STAR_MORE {
+                    return true;
+                }
+                left = rest;
+            }
+            TreeNode::Leaf { .. } => left = rest,
+        }
+    }
+    false
 }
 
 // Adds the row of a parameter, where more is said of it than its type.

@@ -1,24 +1,14 @@
 -- The parts of a method (ECMA-335 II.15.3, II.22.26).
 use Rattle.std.specs.Prelude.{◌≡◌, [], ◌∷◌, map}
 use Rattle.ilasm_grammar.specs.declared.productions.TheConstants.{OVERRIDDEN_METHOD, OVERRIDDEN_SPEC}
-use Rattle.source_model.specs.Flags.{implementation_flags, method_flags}
 use Rattle.source_model.specs.Forest.{Forest, parts}
 use Rattle.source_model.specs.Items.{items_and_ends, own_customs, runs}
 use Rattle.source_model.specs.Manifests.{attributes}
 use Rattle.source_model.specs.Members.{overridden}
 use Rattle.source_model.specs.Nodes.{Around}
 use Rattle.source_model.specs.Parameters.{generics, params}
-use Rattle.source_model.specs.References.{method_name, method_signature}
 use Rattle.source_model.specs.Source.{Source}
-use Rattle.method_parts.specs.declared.method_heads.Head.{Head}
 use Rattle.method_parts.specs.declared.method_rows.Rows.{Rows}
-
--- its name, flags and signature
-pub record IsHead (s : Source) (a : Around) (f : Forest) (x : Head) : Type 0 where
-  pub name-is : x.name ≡ method_name s f
-  pub flags-are : x.flags ≡ method_flags s f
-  pub implementation-is : x.impl_flags ≡ implementation_flags s f
-  pub signature-is : x.sig ≡ method_signature s a f
 
 -- its generic parameters and parameters, the methods that it overrides, and its attributes
 pub record AreRows (s : Source) (a : Around) (f : Forest) (x : Rows) : Type 0 where

@@ -4,7 +4,6 @@
 #![tactic(auto)]
 
 pub mod laws;
-pub mod method_heads;
 pub mod method_lists;
 pub mod method_rows;
 pub mod whole_methods;

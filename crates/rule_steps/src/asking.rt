@@ -1,7 +1,8 @@
 //! The productions of a source, each with what stands around its parts, and rules that are asked of each of them.
 
-ghost use Rattle.std.specs.Prelude.{◌≡◌, ◌<◌, ◌≤◌, ◌^◌, ℕ, ◌+◌, [], List, length, min, take, true, IfOk, MatchOption};
+ghost use Rattle.std.specs.Prelude.{◌≡◌, ◌==◌, ◌<◌, ◌≤◌, ◌^◌, ℕ, ◌+◌, [], List, false, length, min, take, true, IfOk, MatchOption};
 ghost use Rattle.std.specs.List.{AllByRecursion, flat_map};
+ghost use Rattle.ilasm_grammar.specs.declared.productions.TheConstants.{CLASS};
 ghost use Rattle.source_model.specs.Forest.{Forest, preorder};
 ghost use Rattle.source_model.specs.Nodes.{Around, Node, entered, nodes, nothing_around, typar_names};
 ghost use Rattle.source_model.specs.Parameters.{parameters};
@@ -13,7 +14,7 @@ ghost use Rattle.source_reading.specs.Readers.{Reads};
 ghost use Rattle.source_reading.specs.Walk.{IsForest};
 
 use crate::counts::count_each;
-use il_base::NoMemory;
+use il_base::{Boxed, NoMemory};
 use ilasm_grammar::{TreeNode, productions};
 use source_model::{derivations_are_forests, forests_join, forests_open};
 use source_reading::declared::Declared;
@@ -125,7 +126,7 @@ fn first_among<'n, R: Rule>(
                 let (below, after) = rest.split_at(count as usize);
                 if is_scope(production) {
                     let typars = own_typars(alloc, reader, below)?;
-                    let parameters = count_of_parameters(below);
+                    let parameters = parameters_in(production, below);
                     let own = Own {
                         class_typars: place.class_typars,
                         typars: names_or(&typars, none),
@@ -217,7 +218,7 @@ fn own_typars(
     alloc: Global,
     reader: &Reader,
     below: &[TreeNode],
-) -> Result<Option<Declared>, NoMemory>
+) -> Result<Option<Boxed<Declared>>, NoMemory>
     requires { IsForest below.now }
     ensures { (s : Source) (f : Forest) → Reads reader.now s → preorder f ≡ below.now → HasBodies s f →
         IfOk result (λ names. MatchOption names (typar_names s f ≡ []) (λ some. some ≡ typar_names s f)) }
@@ -226,16 +227,31 @@ fn own_typars(
     if child(below, productions::TYPARS_OPT_SOME).is_empty() {
         return Ok(None);
     }
-    let names = typar_names(alloc, reader, below)?;
+    let names = boxed_typars(alloc, reader, below)?;
     Ok(Some(names))
 }
 
+// The same in a box, since most classes and methods have none.
+#[inline(never)]
+fn boxed_typars(
+    alloc: Global,
+    reader: &Reader,
+    below: &[TreeNode],
+) -> Result<Boxed<Declared>, NoMemory>
+    requires { IsForest below.now }
+    ensures { (s : Source) (f : Forest) → Reads reader.now s → preorder f ≡ below.now → HasBodies s f → IfOk result (λ names. names ≡ typar_names s f) }
+{
+    let names = typar_names(alloc, reader, below)?;
+    let boxed = Boxed::new(alloc, names)?;
+    Ok(boxed)
+}
+
 // The names, or where there are none an empty list.
-fn names_or<'t>(names: &'t Option<Declared>, none: &'t Declared) -> &'t Declared
+fn names_or<'t>(names: &'t Option<Boxed<Declared>>, none: &'t Declared) -> &'t Declared
     ensures { (wanted : List (List ℕ)) → none.now ≡ [] → MatchOption names.now (wanted ≡ []) (λ some. some ≡ wanted) → result.now ≡ wanted }
 {
     match names {
-        Some(names) => names,
+        Some(names) => names.get(),
         None => none,
     }
 }
@@ -263,6 +279,17 @@ fn count_of_parameters(below: &[TreeNode]) -> usize
     count_each(parameters, productions::DEF_ARG)
 }
 
+// How many parameters a class or a method has, where it is a method; of a class this isn't asked.
+fn parameters_in(production: u16, below: &[TreeNode]) -> usize
+    requires { IsForest below.now }
+    ensures { (f : Forest) → preorder f ≡ below.now → (production == CLASS) ≡ false → result ≡ length (parameters f) }
+{
+    if production == productions::CLASS {
+        return 0;
+    }
+    count_of_parameters(below)
+}
+
 // What stands around the parts of a class or a method.
 fn entered<'n, 't>(
     place: &Surrounding<'n, '_>,
@@ -273,7 +300,7 @@ fn entered<'n, 't>(
     requires { is_scope production ≡ true }
     ensures around { (s : Source) (a : Around) (f : Forest) → IsSurrounding place.now a → preorder f ≡ below.now → IsSurrounding result (entered s a production f) }
     ensures parameters { (s : Source) (a : Around) (f : Forest) → HasParameters s place.now a → own.now.class_typars.now ≡ typar_names s a.class → own.now.typars.now ≡ typar_names s f → own.now.none.now ≡ [] →
-        own.now.parameters ≡ length (parameters f) → length (typar_names s f) < 2 ^ 32 → HasParameters s result (entered s a production f) }
+        ((production == CLASS) ≡ false → own.now.parameters ≡ length (parameters f)) → length (typar_names s f) < 2 ^ 32 → HasParameters s result (entered s a production f) }
 {
     if production == productions::CLASS {
         Surrounding {
@@ -338,6 +365,6 @@ pub fn first_outside<R: Rule>(
         method_typars: &none,
         parameters: 0,
     };
-    let first = first_in(rule, alloc, reader, &outside, nodes)?;
+    let first = first_among(rule, alloc, reader, &outside, &none, nodes)?;
     Ok(first)
 }

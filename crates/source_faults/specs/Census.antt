@@ -1,7 +1,7 @@
 -- How many nodes have each production that is asked for, and which nodes are types that may be deep.
 use Rattle.std.specs.Prelude.{◌≡◌, ℕ, ◌==◌, ◌&&◌, Bool, true, false, List, [], ◌∷◌, cond, count_by, nat_lt, slice_index_or}
 use Rattle.std.specs.List.{list_any}
-use Rattle.ilasm_grammar.specs.declared.productions.TheConstants.{ASSEMBLY_ASSEMBLY_ATTR_STAR, ASSEMBLY_EXTERN, AT_NAME, DATA, DECL_MODULE, EVENT, ITEM_ENTRYPOINT, MEMBER_SIZE, PROPERTY, TYPE}
+use Rattle.ilasm_grammar.specs.declared.productions.TheConstants.{ASSEMBLY_ASSEMBLY_ATTR_STAR, ASSEMBLY_EXTERN, AT_NAME, DATA, DECL_FIELD, DECL_METHOD, DECL_MODULE, EVENT, ITEM_ENTRYPOINT, MEMBER_SIZE, PROPERTY, TYPE}
 use Rattle.ilasm_grammar.specs.declared.tree.TreeNode.{TreeNode}
 use Rattle.ilasm_grammar.specs.declared.tree.TreeNode.TheVariants.{Branch, Leaf}
 use Rattle.source_model.specs.Forest.{is_among}
@@ -9,9 +9,11 @@ use Rattle.source_reading.specs.Walk.{is_of}
 use Rattle.source_faults.specs.declared.census.Census.{Census}
 
 -- the productions that are asked for: what names an assembly or this module, data and what stands at it, an entry, what has
--- accessors, and the size of a class
+-- accessors, the size of a class, and fields and methods outside of any class
 abbrev pub asked : List ℕ
-asked = DECL_MODULE ∷ ASSEMBLY_EXTERN ∷ ASSEMBLY_ASSEMBLY_ATTR_STAR ∷ AT_NAME ∷ ITEM_ENTRYPOINT ∷ PROPERTY ∷ EVENT ∷ DATA ∷ MEMBER_SIZE ∷ []
+asked =
+    DECL_MODULE ∷ ASSEMBLY_EXTERN ∷ ASSEMBLY_ASSEMBLY_ATTR_STAR ∷ AT_NAME ∷ ITEM_ENTRYPOINT ∷ PROPERTY ∷ EVENT ∷ DATA ∷ MEMBER_SIZE
+    ∷ DECL_FIELD ∷ DECL_METHOD ∷ []
 
 abbrev pub is_asked : ℕ → Bool
 is_asked p = is_among asked p

@@ -1,7 +1,7 @@
 -- The rules that are asked in one pass over a source: those of its methods' bodies, those of its productions, and that of members
 -- that are declared twice.
-use Rattle.std.specs.Prelude.{◌≡◌, ℕ, ◌==◌, ◌||◌, Bool, List, [], ◌++◌, None}
-use Rattle.ilasm_grammar.specs.declared.productions.TheConstants.{DECL_STAR_MORE, SOURCE}
+use Rattle.std.specs.Prelude.{◌≡◌, ℕ, ◌==◌, ◌||◌, Bool, List, [], ◌∷◌, ◌++◌, None}
+use Rattle.ilasm_grammar.specs.declared.productions.TheConstants.{DECL_FIELD, DECL_METHOD, DECL_STAR_MORE, SOURCE}
 use Rattle.source_model.specs.BodyFaults.{body_numbers_out_of_range, branches_to_the_end, branches_too_far, clauses_backwards, labels_twice, labels_undeclared, variables_undeclared}
 use Rattle.source_model.specs.DeclaredTwice.{members_twice}
 use Rattle.source_model.specs.Forest.{Forest}
@@ -48,3 +48,7 @@ broken_among s d f =
 -- the production of a source, or of a list of declarations: what stands below it stands in nothing else
 abbrev pub is_outer : ℕ → Bool
 is_outer p = p == SOURCE || p == DECL_STAR_MORE
+
+-- a field or a method outside of any class
+abbrev pub outer_members : List ℕ
+outer_members = DECL_FIELD ∷ DECL_METHOD ∷ []

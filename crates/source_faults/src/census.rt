@@ -21,6 +21,8 @@ const MARKS: u64 = 1 << (productions::DECL_MODULE & 63)
     | 1 << (productions::EVENT & 63)
     | 1 << (productions::DATA & 63)
     | 1 << (productions::MEMBER_SIZE & 63)
+    | 1 << (productions::DECL_FIELD & 63)
+    | 1 << (productions::DECL_METHOD & 63)
     | 1 << (productions::TYPE & 63);
 
 /// How many nodes have each production that is asked for.

@@ -1,29 +1,43 @@
 //! The rules that are asked together, in one pass over a source: of each declaration all of them, while its nodes and tokens are at
 //! hand.
 
-ghost use Rattle.std.specs.Prelude.{◌≡◌, ◌<◌, ◌^◌, IfOk, length};
+ghost use Rattle.std.specs.Prelude.{◌≡◌, ◌<◌, ◌^◌, IfOk, List, false, length};
+ghost use Rattle.std.specs.List.{list_any};
+ghost use Rattle.ilasm_grammar.specs.declared.tree.TreeNode.{TreeNode};
+ghost use Rattle.member_rules.specs.BrokenSignatures.{part_broken};
+ghost use Rattle.member_rules.specs.MemberKinds.{is_chosen};
+ghost use Rattle.source_model.specs.DeclaredTwice.{members_twice_in};
 ghost use Rattle.source_model.specs.Forest.{Forest, preorder};
+ghost use Rattle.source_model.specs.Items.{declarations};
+ghost use Rattle.source_model.specs.Nodes.{Node, nothing_around};
 ghost use Rattle.source_model.specs.Source.{Source};
+ghost use Rattle.source_model.specs.TypeRules.{breaks_signature, is_nothing};
 ghost use Rattle.source_reading.specs.Least.{least};
+ghost use Rattle.source_reading.specs.Namings.{AreNames};
 ghost use Rattle.source_reading.specs.Readers.{Reads};
 ghost use Rattle.source_reading.specs.Walk.{IsForest};
+ghost use Rattle.source_reading.specs.declared.name_lists.Naming.TheVariants as naming;
 ghost use Rattle.body_rules.specs.AmongNodes.{StandsIn};
 ghost use Rattle.source_faults.specs.AllDeclared.{AreDeclarations};
-ghost use Rattle.source_faults.specs.Passes.{broken_among, broken_in_passes, is_outer};
+ghost use Rattle.source_faults.specs.Census.{IsCensus};
+ghost use Rattle.source_faults.specs.Passes.{broken_among, broken_in_passes, is_outer, outer_members};
 
 use crate::all_declared::Declarations;
+use crate::census::Census;
 use body_rules::bodies::body_fault;
 use il_base::NoMemory;
 use ilasm_grammar::{TreeNode, productions};
-use member_rules::broken_signatures::signatures_of;
+use member_rules::broken_signatures::{BrokenSignatures, signatures_of};
 use member_rules::member_rules::{inner_twice, outer_twice};
 use source_model::{derivations_are_forests, forests_join, forests_open, tokens_stand_in_order};
 use source_reading::derived::derivations_have_bodies;
 use source_reading::least::sooner;
+use source_reading::name_lists::Named;
 use source_reading::reader::Reader;
 use source_reading::walk::next;
 use source_rules::parts::part_fault;
 use std::alloc::Global;
+use type_terms::orders_are_total;
 
 /// The least token at which one of these rules is broken. Where there is none, none of them is asked again.
 pub fn pass_fault(
@@ -41,15 +55,53 @@ pub fn pass_fault(
         externs,
         own,
         classes,
+        census,
         ..
     } = declared;
     let rule = signatures_of(externs, own, classes);
-    let outer = outer_twice(&rule, alloc, reader, externs)?;
+    let outer = outer_fault(&rule, alloc, reader, externs, census)?;
     let inner = declaration_fault(alloc, reader, declared)?;
     Ok(sooner(inner, outer))
 }
 
-// The same among the declarations, but for members of no class that are declared twice.
+// The least token of a member of no class that is declared twice.
+fn outer_fault(
+    rule: &BrokenSignatures,
+    alloc: Global,
+    reader: &Reader,
+    externs: &Named,
+    census: &Census,
+) -> Result<Option<u32>, NoMemory>
+    requires forest { IsForest reader.now.nodes.now }
+    requires few { length reader.now.nodes.now < 2 ^ 32 }
+    ensures { (s : Source) → Reads reader.now s → AreNames s naming.Assembly externs.now → IsCensus (preorder s.tree) census.now →
+        ((n : Node) → is_nothing (part_broken rule.now.types.scopes.keys.now rule.now.types.scopes.own.now rule.now.types.classes.now s n) ≡ is_nothing (breaks_signature s n)) →
+        IfOk result (λ k. k ≡ least (members_twice_in s nothing_around (declarations s.tree))) }
+{
+    orders_are_total();
+    if !has_outer_members(census) {
+        return Ok(None);
+    }
+    let first = outer_twice(rule, alloc, reader, externs)?;
+    Ok(first)
+}
+
+// Whether there is a field or a method outside of any class.
+fn has_outer_members(census: &Census) -> bool
+    ensures { (nodes : List TreeNode) → IsCensus nodes census.now → result ≡ false → list_any (is_chosen outer_members) nodes ≡ false }
+{
+    let fields = census.count(productions::DECL_FIELD);
+    let methods = census.count(productions::DECL_METHOD);
+    if fields > 0 {
+        return true;
+    }
+    if methods > 0 {
+        return true;
+    }
+    false
+}
+
+// The least token at which one of the rules is broken among the declarations, but for members of no class that are declared twice.
 fn declaration_fault(
     alloc: Global,
     reader: &Reader,

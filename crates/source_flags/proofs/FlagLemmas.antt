@@ -1,11 +1,14 @@
 -- The lowest bits of flags: what each word and each `flags(n)` makes of them, and how a row of them is walked.
-use Rattle.std.proofs.Common.{◌≡◌, ℕ, ◌+◌, ◌-◌, ◌*◌, ◌/◌, ◌%◌, ◌^◌, ◌<◌, ◌≤◌, List, [], ◌∷◌, ◌++◌, ap, sym, ◌∙◌, refl, arith, append_assoc}
-use Rattle.std.specs.Prelude.{Bool, true, false, ◌==◌, if◌then◌else◌, Option, None, Some, fold, bit_and, bit_or}
+use Rattle.std.proofs.Common.{◌≡◌, ℕ, ◌+◌, ◌-◌, ◌*◌, ◌/◌, ◌%◌, ◌^◌, ◌<◌, ◌≤◌, List, [], ◌∷◌, ◌++◌, length, ap, sym, ◌∙◌, refl, arith, append_assoc}
+use Rattle.std.specs.Prelude.{Bool, true, false, ◌==◌, if◌then◌else◌, Option, None, Some, fold, get_or, bit_and, bit_or}
 use Rattle.std.proofs.lemmas.Nat.{and_le_l, and_le_r, and_mod, and_shr, mod-pow-add, mod_below, mod_low, or_mod, pow_pos, shr_split}
 use Rattle.ilasm_grammar.specs.declared.productions.TheConstants.{FLAGS, CLASS_ATTR_NESTED}
+use Rattle.ilasm_grammar.specs.declared.tree.TreeNode.{TreeNode}
+use Rattle.ilasm_grammar.specs.declared.tree.TreeNode.TheVariants.{Leaf}
 use Rattle.source_model.specs.Flags.{FlagWord, flag_word, flags_in, flags_number, nested_words, replaced, with_flag, without_bits}
 use Rattle.source_model.specs.Forest as tree
-use Rattle.source_model.specs.Forest.{Forest, Part, part, has, last_token, joined}
+use Rattle.source_model.specs.Forest.{Forest, Part, part, has, last_token, joined, preorder}
+use Rattle.source_model.specs.Laws.{ForestOpens}
 use Rattle.source_model.specs.Source.{Source, word_at}
 use Rattle.source_flags.specs.FlagRows.{end_of, flags_after, more_of, words_of}
 use Rattle.source_reading.specs.Readers.{Reads}
@@ -113,6 +116,27 @@ number_added s words flags fits p h n e =
     ∙ ap (λ (b : Bool). (if b then bit_or flags number else if p.production == CLASS_ATTR_NESTED
     then replaced (flag_word nested_words (word_at s (last_token p.below))) flags
     else replaced (flag_word words (word_at s (last_token p.below))) flags) % 2 ^ 32) (sym h)
+
+-- ---- a flag of one node
+
+one_leaf : ForestOpens → (f : Forest) (token : ℕ) → preorder f ≡ Leaf token ∷ [] → f ≡ tree.leaf token tree.none
+one_leaf opens f token e = let b = opens.leaf f token [] e in b.is ∙ ap (tree.leaf token) (opens.none b.after b.rest)
+
+alone : (xs : List TreeNode) (x y : TreeNode) → 1 ≤ length xs → length xs < 2 → get_or xs 0 y ≡ x → xs ≡ x ∷ []
+alone [] x y some few e = absurd (omega (arith, some))
+alone (z ∷ []) x y some few e = ap (λ n. n ∷ []) e
+alone (z ∷ v ∷ zs) x y some few e = absurd (omega (arith, few))
+
+module _ (opens : ForestOpens) (xs : List TreeNode) (token : ℕ) (y : TreeNode) (some : 1 ≤ length xs) (few : length xs < 2) (is : get_or xs 0 y ≡ Leaf token)
+    (f : Forest) (e : preorder f ≡ xs) where
+  own : f ≡ tree.leaf token tree.none
+  own = one_leaf opens f token (e ∙ alone xs (Leaf token) y some few is)
+
+  pub no_number : false ≡ has FLAGS f
+  no_number = ap (has FLAGS) (sym own)
+
+  pub own_word : token ≡ last_token f
+  own_word = ap last_token (sym own)
 
 -- ---- the rest of a row
 

@@ -2,8 +2,9 @@
 //! II.23.1).
 
 ghost use Rattle.std.specs.Prelude.{◌≡◌, ◌%◌, ◌^◌, Option};
+ghost use Rattle.ilasm_grammar.specs.declared.productions.TheConstants.{FLAGS};
 ghost use Rattle.source_model.specs.Flags.{FlagWord, flags_number, replaced, with_flag};
-ghost use Rattle.source_model.specs.Forest.{Forest, part, preorder};
+ghost use Rattle.source_model.specs.Forest.{Forest, has, last_token, part, preorder};
 ghost use Rattle.source_model.specs.Source.{Source, word_at};
 ghost use Rattle.source_flags.specs.FlagRows.{end_of, more_of, row_flags, words_at, words_of, Replaces};
 ghost use Rattle.source_flags.specs.FlagWords.{IsFlagOf};
@@ -124,11 +125,39 @@ fn with_flag(reader: &Reader, row: Row, flags: u32, production: u16, below: &[Tr
     requires { IsForest below.now }
     ensures { (s : Source) (f : Forest) → Reads reader.now s → preorder f ≡ below.now → result ≡ with_flag s (words_of row) flags (part production f) % 2 ^ 32 }
 {
-    if has(below, productions::FLAGS) {
+    if is_number(below) {
         flags | flags_number(reader, below)
     } else {
-        replaced(bits_at(reader, row, production, last_token(below)), flags)
+        replaced(bits_at(reader, row, production, word_of(below)), flags)
     }
+}
+
+// Whether a flag is `flags(n)`. Most flags are a word alone, which is one node.
+fn is_number(below: &[TreeNode]) -> bool
+    requires { IsForest below.now }
+    ensures { (f : Forest) → preorder f ≡ below.now → result ≡ has FLAGS f }
+{
+    forests_open();
+    if let [node] = below {
+        if let TreeNode::Leaf { .. } = *node {
+            return false;
+        }
+    }
+    has(below, productions::FLAGS)
+}
+
+// The word of a flag, which is its last token.
+fn word_of(below: &[TreeNode]) -> u32
+    requires { IsForest below.now }
+    ensures { (f : Forest) → preorder f ≡ below.now → result ≡ last_token f }
+{
+    forests_open();
+    if let [node] = below {
+        if let TreeNode::Leaf { token } = *node {
+            return token;
+        }
+    }
+    last_token(below)
 }
 
 // The number of `flags(n)`, its lowest 32 bits.

@@ -3,8 +3,8 @@ use Rattle.source_reading.specs.Methods.{AreNames}
 use Rattle.source_reading.proofs.LabelTokens.{labels_are_names}
 use Rattle.body_parts.proofs.bodies.body_with.Goals as goal
 
-pub returns-then-named-lt2 : goal.returns-then-named-lt2
-returns-then-named-lt2 c s a f x e h are names held = c.body_named.ensures s a f x e h are names tt held
+pub returns-then-are_compared : goal.returns-then-are_compared
+returns-then-are_compared c s a f x e h are names held = c.body_named.ensures s a f x e h are names tt held
 
 pub returns-then-give_slots : goal.returns-then-give_slots
 returns-then-give_slots c s a f x e h are names held =

@@ -17,8 +17,3 @@ returns-then-not-has_ranged c s n r m e are =
       variable-is = ap least (sym (none_asked (variable_undeclared s f) INSTRUCTION_OP_VAR nodes code ps are (none_of_variables code quiet)));
       number-is = ap least (sym (none_ranged s f nodes code ps are quiet));
     }
-
-pub returns : goal.returns
-returns c s n r m e are =
-    let known = c.in_ok-variables.ensures s n r m e are in
-    record { variable-is = c.in_ok-variable.ensures s n r m are known; number-is = c.in_ok-number.ensures s n r m are known }

@@ -1,10 +1,10 @@
 use Rattle.std.proofs.Common.{◌≡◌, ◌≤◌, ◌<◌, ◌+◌, ◌++◌, ◌∷◌, [], ap, arith, inr, length, refl, subst, sym, ◌∙◌}
 use Rattle.std.specs.List.{enumerate_from, flat_map}
 use Rattle.std.proofs.lemmas.List.{take_all}
-use Rattle.ilasm_grammar.specs.declared.productions.TheConstants.{DEF_ARG, DEF_ARGS_OPT_SOME}
+use Rattle.ilasm_grammar.specs.declared.productions.TheConstants.{DEF_ARG, DEF_ARGS_OPT_SOME, NAME_OPT_SOME, PARAM_ATTR_STAR_MORE}
 use Rattle.source_flags.specs.InRange.{IsInRange}
 use Rattle.source_flags.proofs.Gathered.{IsSought, all_at, of_parts}
-use Rattle.source_model.specs.Forest.{child, parts}
+use Rattle.source_model.specs.Forest.{child, has, parts}
 use Rattle.source_model.specs.Parameters.{parameters, rows_of}
 use Rattle.source_reading.specs.Pieces.{ArePieces}
 use Rattle.source_reading.proofs.PieceLemmas.{as_many, flat_next, part_read}
@@ -26,12 +26,12 @@ add_row-requires-clause-forest c =
     let m = part_read c.child-below.result.now found qs c.loop-parameter.parameter-index _ are c.loop-parameter-test.true in
     (m.of.below, m.below ∙ sym c.nodes_of-of.ensures)
 
-pub returns-then-not-any : goal.returns-then-not-any
-returns-then-not-any c s a x f e ranged =
+pub returns-then-not-has_more : goal.returns-then-not-has_more
+returns-then-not-has_more c s a x f e ranged =
     let g = child (DEF_ARGS_OPT_SOME ∷ []) f in
     let below = sym (c.child-below.ensures f e) in
-    let none = neither c.has-named.result c.has.result (sym c.any.ensures ∙ c.if-not-any.true) in
-    c.new.ensures ∙ sym (no_rows s a f ranged (sym (c.has-named.ensures g below) ∙ none.0) (sym (c.has.ensures g below) ∙ none.1))
+    let none = neither (has NAME_OPT_SOME g) (has PARAM_ATTR_STAR_MORE g) (sym (c.has_more.ensures g below) ∙ c.if-not-has_more.true) in
+    c.new.ensures ∙ sym (no_rows s a f ranged none.0 none.1)
 
 pub loop-parameter-init : goal.loop-parameter-init
 loop-parameter-init c = record {

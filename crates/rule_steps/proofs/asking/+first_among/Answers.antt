@@ -50,8 +50,8 @@ own_typars-requires g t c =
     (c.in-Some.ensures ∙ ap (λ n. n ∷ c.in-Some.rest.now) c.in-Branch.is) way.0 in
     (f.0, f.1 ∙ sym c.split_at.ensures.front)
 
-pub count_of_parameters-parameters-requires : goal.count_of_parameters-parameters-requires
-count_of_parameters-parameters-requires g t c =
+pub parameters_in-parameters-requires : goal.parameters_in-parameters-requires
+parameters_in-parameters-requires g t c =
     let way = quiet_left c.forests_open.ensures c.forests_join.ensures c.derivations_are_forests.ensures (g.R.Rule.broken c.args.rule.now) c.args.reader.now c.args.place.now c.args.none.now c.args.nodes.now c.loop-node.found
     c.loop-node.left.now c.past_quiet.result.now c.past_quiet.ensures c.loop-node.invariant.steps c.loop-node.invariant.bodied in
     let now = sought (g.R.Rule.broken c.args.rule.now) c.args.reader.now c.args.place.now c.args.none.now c.args.nodes.now c.loop-node.found in
@@ -111,7 +111,7 @@ loop-node-preserved-in_ok-within-in-Branch g t c =
     let fits = bodied_below c.forests_open.ensures c.forests_join.ensures c.derivations_are_forests.ensures i.source p c.in-Branch.count c.past_quiet.result.now c.in-Some.rest.now is
     (way.0.forest, way.0.is) (way.1 i.source i.bodied) b e in
     let has = c.entered-inner.ensures.parameters i.source i.around b i.parameters i.parameters.class (c.names_or.ensures (typar_names i.source b) i.empty (c.in_ok-typars-in-Branch.ensures i.source b i.reads own fits.1))
-    i.empty (c.count_of_parameters-parameters.ensures b own)
+    i.empty (c.parameters_in-parameters.ensures b own)
     (few_typars i.source b c.in-Branch.count (2 ^ 32) c.in-Some.rest.now e (search rules)) in
     ap (λ o. sooner o (least (found_in broken i.source i.around a)))
     (c.sooner-found.ensures ∙ ap (sooner c.loop-node.found) c.sooner.ensures)
@@ -146,7 +146,7 @@ loop-node-preserved-in_ok-within-in-Branch-2 g t c =
     let fits = bodied_below c.forests_open.ensures c.forests_join.ensures c.derivations_are_forests.ensures i.source p c.in-Branch.count c.past_quiet.result.now c.in-Some.rest.now is
     (way.0.forest, way.0.is) (way.1 i.source i.bodied) b e in
     let has = c.entered-inner.ensures.parameters i.source i.around b i.parameters i.parameters.class (c.names_or.ensures (typar_names i.source b) i.empty (c.in_ok-typars-in-Branch.ensures i.source b i.reads own fits.1))
-    i.empty (c.count_of_parameters-parameters.ensures b own)
+    i.empty (c.parameters_in-parameters.ensures b own)
     (few_typars i.source b c.in-Branch.count (2 ^ 32) c.in-Some.rest.now e (search rules)) in
     ap (λ o. sooner o (least (found_in broken i.source i.around a)))
     (c.sooner-found.ensures ∙ ap (sooner c.loop-node.found) c.sooner.ensures)
