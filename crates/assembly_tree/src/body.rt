@@ -25,8 +25,8 @@ pub struct Ins {
 /// The instructions of a body in order.
 pub type Code = Items<Ins>;
 
-/// What stands behind an opcode (III.1.7). Targets are instruction numbers, counted from 0. What an instruction names
-/// stands in a box, so that one that names nothing takes little memory.
+/// The operand of an instruction: the argument that stands behind its opcode (III.1.2). Targets are instruction numbers,
+/// counted from 0. What is larger than a number stands in a box, so that an instruction takes little memory.
 #[derive(Drop)]
 pub enum Operand {
     Nothing,

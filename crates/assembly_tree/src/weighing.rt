@@ -1,4 +1,4 @@
-ghost use Rattle.std.specs.Prelude.{◌≡◌, ◌^◌, ◌*◌, ◌-◌, ◌≤◌, [], false, min, length};
+ghost use Rattle.std.specs.Prelude.{◌≡◌, ◌^◌, ◌*◌, ◌-◌, ◌≤◌, ◌≢◌, [], true, false, min, length};
 ghost use Rattle.assembly_tree.specs.Room.{texts};
 ghost use Rattle.assembly_tree.specs.Weight.{weight_of};
 
@@ -33,10 +33,12 @@ pub fn weight(a: &Assembly) -> u64
     weigh(a).weight
 }
 
-/// The same, and whether it loads texts, by one walk. Takes no memory.
+/// What an assembly weighs, as `weight` answers it, and whether one of its instructions loads a text, by one walk. Takes
+/// no memory.
 pub fn weigh(a: &Assembly) -> Weighed
     ensures weight { result.weight ≡ min (weight_of a.now) (2 ^ 63) }
     ensures loads { result.loads ≡ false → texts a.now ≡ [] }
+    ensures loads_some { result.loads ≡ true → texts a.now ≢ [] }
 {
     let mut loads = false;
     let left = charge_assembly(a, MAX_WEIGHT, &mut loads);

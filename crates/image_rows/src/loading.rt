@@ -12,7 +12,8 @@ use il_base::NoMemory;
 use image_references::user_texts::add_units;
 use std::alloc::Global;
 
-/// The heap with each text that the assembly loads; none where `loads` is unset.
+/// The heap with each text that the assembly loads. `loads` may be false only where it loads none: then no walk looks
+/// for them.
 pub fn load_texts(alloc: Global, a: &Assembly, loads: bool) -> Result<UserHeap, NoMemory>
     requires weight { weight_of a.now ≤ 2 ^ 26 }
     requires loads { loads ≡ false → texts a.now ≡ [] }

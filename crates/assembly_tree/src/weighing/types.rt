@@ -1,6 +1,7 @@
-ghost use Rattle.std.specs.Prelude.{◌≡◌, ◌-◌, [], false, sum_by};
-ghost use Rattle.assembly_tree.specs.Loading.{TypesLoadNone};
-ghost use Rattle.assembly_tree.specs.Room.{texts};
+ghost use Rattle.std.specs.Prelude.{◌≡◌, ◌-◌, ◌||◌, sum_by};
+ghost use Rattle.std.specs.List.{flat_map};
+ghost use Rattle.assembly_tree.specs.Loading.{has_text};
+ghost use Rattle.assembly_tree.specs.Room.{typedef_texts, texts};
 ghost use Rattle.assembly_tree.specs.Weight.{own_weight, typedef_weight, extern_weight, manifest_weight, weight_of};
 ghost use Rattle.assembly_tree.specs.declared.typedef.TypeDef.TheViews.{out-TypeDef};
 
@@ -34,7 +35,7 @@ impl TypeDef {
 /// Takes off the weight of each type, with those that it nests, and looks whether they load texts.
 fn charge_types(types: &[TypeDef], left: u64, loads: &mut bool) -> u64
     ensures left { result ≡ left - sum_by typedef_weight types.now }
-    ensures loads { loads.new ≡ false → (loads.old ≡ false) × TypesLoadNone types.now }
+    ensures loads { loads.new ≡ (loads.old || has_text (flat_map typedef_texts types.now)) }
 {
     let mut left = left;
     for of in types {
@@ -77,7 +78,7 @@ impl Weighs for Manifest {
 #[tactic(auto, using(crate::proofs::Charging::both_off), unfolding(crate::specs::Weight::weight_of))]
 pub fn charge_assembly(a: &Assembly, left: u64, loads: &mut bool) -> u64
     ensures left { result ≡ left - weight_of a.now }
-    ensures loads { loads.new ≡ false → texts a.now ≡ [] }
+    ensures loads { loads.new ≡ (loads.old || has_text (texts a.now)) }
 {
     let left = left.saturating_sub(32_768);
     let left = a.manifest.charge(left);
