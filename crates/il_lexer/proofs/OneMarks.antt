@@ -1,7 +1,7 @@
 -- The marks of one byte by their table: computed of each byte.
-use Rattle.std.proofs.Common.{◌≡◌, ℕ, ◌<◌, Bool, true, false, nat_eq, ◌&&◌, ◌||◌, get_or, List, ◌∷◌, inl, inr, refl, sym, ap, ◌∙◌}
+use Rattle.std.proofs.Common.{◌≡◌, ℕ, ◌<◌, Bool, true, false, not, nat_eq, ◌&&◌, ◌||◌, get_or, List, ◌∷◌, inl, inr, refl, sym, ap, ◌∙◌, Ok, Err}
 use Rattle.std.proofs.lemmas.Bool.{eqb-true, and_parts, or_cases, false≢true}
-use Rattle.il_lexer.specs.Tokens.{token, mark_token, token_at}
+use Rattle.il_lexer.specs.Tokens.{Found, token, mark_token, token_at}
 use Rattle.il_lexer.specs.declared.types.TokenKind.TheVariants.{Word}
 use Rattle.il_lexer.specs.declared.lexeme.TheConstants.{MARKS}
 use Rattle.il_lexer.proofs.IdParts.{all_below, below}
@@ -58,3 +58,26 @@ one_mark b bs lt some =
     or_else (nat_eq (get_or MARKS b 0) 0) (is_marked b (get_or MARKS b 0))
     (λ none. absurd (false≢true (sym some ∙ none)))
     (marked b (get_or MARKS b 0) bs) (below marks_agree 256 b all_marks_agree lt)
+
+-- a broken rule, by its number
+abbrev breaks_fifth : Found → Bool
+breaks_fifth (Ok l) = false
+breaks_fifth (Err n) = nat_eq n 5
+
+fifth : (r : Found) → breaks_fifth r ≡ true → r ≡ Err 5
+fifth (Ok l) e = absurd (false≢true e)
+fifth (Err n) e = ap Err (eqb-true n 5 e)
+
+abbrev others_break : ℕ → Bool
+others_break b = not (nat_eq (get_or MARKS b 0) 0) || breaks_fifth (mark_token b)
+
+all_others_break : all_below others_break 256 ≡ true
+unfolding mark_token
+all_others_break = refl
+
+-- a byte without a number in the table is no mark
+pub no_mark : (b : ℕ) → b < 256 → nat_eq (get_or MARKS b 0) 0 ≡ true → mark_token b ≡ Err 5
+no_mark b lt none =
+    or_else (not (nat_eq (get_or MARKS b 0) 0)) (breaks_fifth (mark_token b))
+    (λ some. absurd (false≢true (sym (ap not none) ∙ some)))
+    (fifth (mark_token b)) (below others_break 256 b all_others_break lt)

@@ -1,6 +1,6 @@
 //! The token at the front of some bytes.
 
-ghost use Rattle.std.specs.Prelude.{ℕ, List, ◌∷◌, ◌≡◌, ◌+◌, ◌<◌, ◌≤◌, true, false, length, take, drop, IfSome, IfOk};
+ghost use Rattle.std.specs.Prelude.{ℕ, List, ◌∷◌, ◌≡◌, ◌+◌, ◌<◌, ◌≤◌, true, false, length, take, drop, Err, IfSome, IfOk, MatchOption};
 ghost use Rattle.il_lexer.specs.Classes.{first_is, first_passes, is_id_start};
 ghost use Rattle.il_lexer.specs.WordKeys.{key_from};
 ghost use Rattle.il_lexer.specs.Tokens.{token, word_of, longer_word, bytearray_token, name_or_word, named, id_token, quoted_name_token, string_token, digits_token, minus_token, dot_token, hash_token, bracket_token, equals_token, paren_token, slash_token, doubled_token, mark_token, token_at};
@@ -314,28 +314,7 @@ fn doubled_token(byte: u8, one: u16, two: u16, rest: &[u8]) -> Result<Lexeme, u8
     }
 }
 
-// At any other byte: a mark of one byte.
-#[tactic(auto, unfolding(crate::specs::Tokens::mark_token))]
-fn mark_token(byte: u8) -> Result<Lexeme, u8>
-    ensures value { result ≡ mark_token byte }
-    ensures one { IfOk result (λ l. l.length ≡ 1) }
-{
-    match byte {
-        b'{' => mark(word::OPEN_BRACE),
-        b'}' => mark(word::CLOSE_BRACE),
-        b')' => mark(word::CLOSE_PAREN),
-        b']' => mark(word::CLOSE_BRACKET),
-        b'<' => mark(word::LESS),
-        b'>' => mark(word::GREATER),
-        b',' => mark(word::COMMA),
-        b'+' => mark(word::PLUS),
-        b'&' => mark(word::AMPERSAND),
-        b'*' => mark(word::STAR),
-        _ => Err(5),
-    }
-}
-
-// The number of each mark of one byte that begins no longer token, and 0 for all other bytes.
+// The number in `WORDS` of each mark of one byte that begins no longer token, and 0 for all other bytes: `{ } ) ] < > , + & *`.
 static MARKS: [u16; 256] = [
     0, 0, 0, 0, 0, 0, 0, 0, 0, 0, 0, 0, 0, 0, 0, 0, 0, 0, 0, 0, 0, 0, 0, 0, 0, 0, 0, 0, 0, 0, 0, 0,
     0, 0, 0, 0, 0, 0, 2, 0, 0, 4, 5, 6, 7, 0, 0, 0, 0, 0, 0, 0, 0, 0, 0, 0, 0, 0, 0, 0, 63, 0, 65,
@@ -348,11 +327,11 @@ static MARKS: [u16; 256] = [
     0, 0, 0, 0,
 ];
 
-// The number of a mark of one byte that begins no longer token: found without a jump by the byte's value, which is foreseen
-// badly.
-#[tactic(auto, using(crate::proofs::OneMarks::one_mark))]
+// The number of a mark of one byte that begins no longer token. It is found in a table: a processor foresees a jump by the
+// byte's value badly.
+#[tactic(auto, using(crate::proofs::OneMarks::one_mark, crate::proofs::OneMarks::no_mark))]
 fn single_mark(byte: u8) -> Option<u16>
-    ensures { IfSome result (λ k. (bs : List ℕ) → token_at (byte ∷ bs) ≡ token (TokenKind.Word k) 1) }
+    ensures { MatchOption result (mark_token byte ≡ Err 5) (λ k. (bs : List ℕ) → token_at (byte ∷ bs) ≡ token (TokenKind.Word k) 1) }
 {
     let number = MARKS[byte as usize];
     if number == 0 { None } else { Some(number) }
@@ -388,6 +367,6 @@ pub fn token_at(rest: &[u8]) -> Result<Lexeme, u8>
         b'/' => slash_token(rest),
         b':' => doubled_token(b':', word::COLON, word::DOUBLE_COLON, rest),
         b'!' => doubled_token(b'!', word::BANG, word::DOUBLE_BANG, rest),
-        _ => mark_token(byte),
+        _ => Err(5),
     }
 }

@@ -28,7 +28,7 @@ pub(crate) fn first_id(rest: &[u8]) -> Front
     id_from(rest, longer(rest, Front { length: 0, key: 0 }))
 }
 
-/// A front of one byte with the bytes behind it that go on in an identifier. Most identifiers end within eight bytes, which
+/// The front `one` with the bytes behind it that go on in an identifier. Most identifiers end within eight bytes, which
 /// are looked at in turn without a loop.
 #[inline(always)]
 pub(crate) fn id_from(rest: &[u8], one: Front) -> Front
