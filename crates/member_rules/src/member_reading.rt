@@ -105,7 +105,7 @@ impl<'a, R: Rule> Signatures<'a, R> {
         if typars.len() > MOST_TYPARS {
             return Ok(None);
         }
-        let parameters = count_parameters(alloc, nodes)?;
+        let parameters = count_parameters(nodes);
         let inner = Surrounding {
             depth: place.depth,
             class: place.class,

@@ -39,8 +39,8 @@ pub struct Surrounding<'n, 't> {
     pub parameters: usize,
 }
 
-// The parameters of a class or a method: the names of the generic parameters of the class around it and of its own, an empty
-// list of names, and how many others it has.
+// What a class or a method adds to what stands around its parts: the names of the generic parameters of the class around it,
+// those of its own, an empty list of names for what has none, and how many parameters it has, where it is a method.
 #[derive(Clone, Copy)]
 struct Own<'t> {
     class_typars: &'t Declared,
@@ -264,14 +264,7 @@ fn is_scope(production: u16) -> bool
 }
 
 /// How many parameters a method has.
-pub fn count_parameters(_alloc: Global, below: &[TreeNode]) -> Result<usize, NoMemory>
-    requires { IsForest below.now }
-    ensures { (f : Forest) → preorder f ≡ below.now → IfOk result (λ n. n ≡ length (parameters f)) }
-{
-    Ok(count_of_parameters(below))
-}
-
-fn count_of_parameters(below: &[TreeNode]) -> usize
+pub fn count_parameters(below: &[TreeNode]) -> usize
     requires { IsForest below.now }
     ensures { (f : Forest) → preorder f ≡ below.now → result ≡ length (parameters f) }
 {
@@ -287,7 +280,7 @@ fn parameters_in(production: u16, below: &[TreeNode]) -> usize
     if production == productions::CLASS {
         return 0;
     }
-    count_of_parameters(below)
+    count_parameters(below)
 }
 
 // What stands around the parts of a class or a method.

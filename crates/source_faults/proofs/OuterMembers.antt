@@ -1,11 +1,12 @@
--- A source without fields and methods outside of any class declares none of them twice.
-use Rattle.std.proofs.Common.{◌≡◌, ℕ, List, [], ◌∷◌, ◌++◌, map, length, refl, ap, sym, ◌∙◌, arith}
+-- A source without fields and methods outside of any class declares none of them twice; and whether it has some.
+use Rattle.std.proofs.Common.{◌≡◌, ℕ, zero, suc, ◌<◌, List, [], ◌∷◌, ◌++◌, map, length, refl, ap, sym, subst, ◌∙◌, arith}
+use Rattle.std.proofs.lemmas.Bool.{eqb-true, lt-ltb}
 use Rattle.std.proofs.lemmas.List.{map-append}
 use Rattle.std.proofs.lemmas.List.Elements.{filter-append}
 use Rattle.std.proofs.lemmas.List.Folds.{list_any-append}
 use Rattle.std.specs.Cmp.{IsTotalOrder}
 use Rattle.std.specs.List.{list_any}
-use Rattle.std.specs.Prelude.{Bool, true, false, not, filter, ◌==◌, ◌||◌, if◌then◌else◌, None}
+use Rattle.std.specs.Prelude.{Bool, true, false, not, nat_lt, filter, ◌==◌, ◌||◌, if◌then◌else◌, None}
 use Rattle.type_terms.specs.Order.{term_order}
 use Rattle.ilasm_grammar.specs.declared.productions.TheConstants.{DECL_FIELD, DECL_METHOD}
 use Rattle.ilasm_grammar.specs.declared.tree.TreeNode.{TreeNode}
@@ -28,7 +29,7 @@ use Rattle.source_faults.specs.Passes.{outer_members}
 use Rattle.source_faults.proofs.CensusLemmas.{count_first, count_of, one_if}
 
 -- no field and no method
-pub none_chosen : (nodes : List TreeNode) → 0 ≡ count_of DECL_FIELD nodes → 0 ≡ count_of DECL_METHOD nodes → list_any (is_chosen outer_members) nodes ≡ false
+none_chosen : (nodes : List TreeNode) → 0 ≡ count_of DECL_FIELD nodes → 0 ≡ count_of DECL_METHOD nodes → list_any (is_chosen outer_members) nodes ≡ false
 none_chosen [] e h = refl
 none_chosen (Leaf k ∷ nodes) e h =
     let first = count_first DECL_FIELD (Leaf k) nodes in
@@ -51,6 +52,35 @@ none_chosen (Branch q n ∷ nodes) e h = go (DECL_FIELD == q) refl (DECL_METHOD 
         ap (λ (c : Bool). (c || (DECL_METHOD == q || false)) || list_any (is_chosen outer_members) nodes) own
         ∙ ap (λ (c : Bool). (c || false) || list_any (is_chosen outer_members) nodes) other
         ∙ rest first second
+
+or_true : (b : Bool) → (b || true) ≡ true
+or_true true = refl
+or_true false = refl
+
+-- a field or a method
+some_chosen : (p : ℕ) → is_among outer_members p ≡ true → (nodes : List TreeNode) → 0 < count_of p nodes → list_any (is_chosen outer_members) nodes ≡ true
+some_chosen p own [] some = absurd (omega (arith, some))
+some_chosen p own (Leaf k ∷ nodes) some = let first = count_first p (Leaf k) nodes in some_chosen p own nodes (omega (arith, some, first))
+some_chosen p own (Branch q n ∷ nodes) some = go (p == q) refl (some_chosen p own nodes)
+  where
+    go : (c : Bool) → (p == q) ≡ c → (0 < count_of p nodes → list_any (is_chosen outer_members) nodes ≡ true)
+        → list_any (is_chosen outer_members) (Branch q n ∷ nodes) ≡ true
+    go true is rest =
+        ap (λ (c : Bool). c || list_any (is_chosen outer_members) nodes)
+        (subst (λ (x : ℕ). is_among outer_members x ≡ true) (eqb-true p q is) own)
+    go false is rest =
+        let none : one_if (p == q) ≡ 0 = ap one_if is in
+        let later = rest (omega (arith, some, none, count_first p (Branch q n) nodes)) in
+        ap (λ (c : Bool). is_among outer_members q || c) later ∙ or_true (is_among outer_members q)
+
+pub fields_counted : (n : ℕ) (nodes : List TreeNode) → 0 < n → n ≡ count_of DECL_FIELD nodes → nat_lt 0 n ≡ list_any (is_chosen outer_members) nodes
+fields_counted n nodes some e = lt-ltb 0 n some ∙ sym (some_chosen DECL_FIELD refl nodes (omega (arith, some, e)))
+
+-- without fields
+pub methods_counted : (n : ℕ) (nodes : List TreeNode) → 0 ≡ count_of DECL_FIELD nodes → n ≡ count_of DECL_METHOD nodes
+    → nat_lt 0 n ≡ list_any (is_chosen outer_members) nodes
+methods_counted zero nodes none e = sym (none_chosen nodes none e)
+methods_counted (suc n) nodes none e = lt-ltb 0 (suc n) (omega arith) ∙ sym (some_chosen DECL_METHOD refl nodes (omega (arith, e)))
 
 neither : (a b : Bool) → (a || b) ≡ false → (a ≡ false) × (b ≡ false)
 neither false b e = (refl, e)

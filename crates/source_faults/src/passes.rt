@@ -1,7 +1,7 @@
 //! The rules that are asked together, in one pass over a source: of each declaration all of them, while its nodes and tokens are at
 //! hand.
 
-ghost use Rattle.std.specs.Prelude.{◌≡◌, ◌<◌, ◌^◌, IfOk, List, false, length};
+ghost use Rattle.std.specs.Prelude.{◌≡◌, ◌<◌, ◌^◌, IfOk, List, length};
 ghost use Rattle.std.specs.List.{list_any};
 ghost use Rattle.ilasm_grammar.specs.declared.tree.TreeNode.{TreeNode};
 ghost use Rattle.member_rules.specs.BrokenSignatures.{part_broken};
@@ -88,17 +88,11 @@ fn outer_fault(
 
 // Whether there is a field or a method outside of any class.
 fn has_outer_members(census: &Census) -> bool
-    ensures { (nodes : List TreeNode) → IsCensus nodes census.now → result ≡ false → list_any (is_chosen outer_members) nodes ≡ false }
+    ensures { (nodes : List TreeNode) → IsCensus nodes census.now → result ≡ list_any (is_chosen outer_members) nodes }
 {
     let fields = census.count(productions::DECL_FIELD);
     let methods = census.count(productions::DECL_METHOD);
-    if fields > 0 {
-        return true;
-    }
-    if methods > 0 {
-        return true;
-    }
-    false
+    fields > 0 || methods > 0
 }
 
 // The least token at which one of the rules is broken among the declarations, but for members of no class that are declared twice.

@@ -1,10 +1,13 @@
 use Rattle.std.proofs.Common.{◌∙◌, arith, refl}
 use Rattle.ilasm_grammar.specs.declared.productions.TheConstants.{DECL_FIELD, DECL_METHOD}
-use Rattle.source_faults.proofs.OuterMembers.{none_chosen}
+use Rattle.source_faults.proofs.OuterMembers.{fields_counted, methods_counted}
 use Rattle.source_faults.proofs.passes.has_outer_members.Goals as goal
 
-pub returns : goal.returns
-returns c nodes census quiet =
+pub returns-then-fields-gt0 : goal.returns-then-fields-gt0
+returns-then-fields-gt0 c nodes census =
+    fields_counted c.count-fields.result nodes c.if-fields-gt0.true (c.count-fields.ensures ∙ census DECL_FIELD refl)
+
+pub returns-else-fields-gt0 : goal.returns-else-fields-gt0
+returns-else-fields-gt0 c nodes census =
     let fields = c.count-fields.ensures ∙ census DECL_FIELD refl in
-    let methods = c.count-methods.ensures ∙ census DECL_METHOD refl in
-    none_chosen nodes (omega (arith, fields, c.if-fields-gt0.false)) (omega (arith, methods, c.if-methods-gt0.false))
+    methods_counted c.count-methods.result nodes (omega (arith, fields, c.if-fields-gt0.false)) (c.count-methods.ensures ∙ census DECL_METHOD refl)

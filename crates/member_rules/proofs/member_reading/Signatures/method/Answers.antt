@@ -20,4 +20,4 @@ returns g c s a f v r p h e bodies =
     let long = ap length e in
     let short : length (preorder f) < 2 ^ 32 = omega (arith, long, c.requires.few) in
     c.method_inside.ensures s a f v r (around_method a f c.args.place.now _ p refl refl e)
-    (names_of_method s a f c.args.place.now _ h refl texts (c.in_ok-parameters.ensures f e) short) e bodies (few_typars f few)
+    (names_of_method s a f c.args.place.now _ h refl texts (c.count_parameters-parameters.ensures f e) short) e bodies (few_typars f few)
