@@ -14,6 +14,7 @@ use Rattle.image_layout.specs.LaidOut.{numbers_in}
 use Rattle.image_layout.specs.Laws.{ReadsHeaps}
 use Rattle.image_model.specs.Columns.{module_name, assembly_major, assembly_minor, assembly_build, assembly_revision, assembly_key, assembly_name, assembly_culture}
 use Rattle.image_model.specs.Reading.{without}
+use Rattle.image_model.specs.Tidy.{HasKeptNumbers}
 use Rattle.pe_layout.specs.CliHeader.{cor_flags_of}
 use Rattle.pe_layout.specs.Headers.{image_base_of, file_alignment_of}
 use Rattle.pe_layout.specs.Numbers.{numbers_of, IsImageBase, IsFileAlignment}
@@ -40,9 +41,8 @@ alignment_is n h = by_tests (n == 0x200) (n == 0x400) (n == 0x800) (n == 0x1000)
     by_tests false false false false f g i j e = absurd cc
 
 -- flags without two bits are without one of them
-no_signature : (f : ℕ) → bit_and f 0x18 ≡ 0 → f ≡ without f 8
-no_signature f clear =
-    let none : bit_and f 8 ≡ 0 = same_from_bits (bit_and f 8) 0
+unset : (f : ℕ) → bit_and f 0x18 ≡ 0 → bit_and f 8 ≡ 0
+unset f clear = same_from_bits (bit_and f 8) 0
     (λ i.
     let one = bit_at_and f 8 i in
     let two = bit_at_and 8 0x18 i in
@@ -50,8 +50,10 @@ no_signature f clear =
     let four = bit_at_and f 0x18 i in
     let five = ap (λ n. bit_at n i) clear in
     let six = bit_at-zero i in
-    omega (arith, one, two, three, four, five, six)) in
-    omega (arith, none)
+    omega (arith, one, two, three, four, five, six))
+
+no_signature : (f : ℕ) → bit_and f 0x18 ≡ 0 → f ≡ without f 8
+no_signature f clear = let none = unset f clear in omega (arith, none)
 
 -- three of the conditions on a manifest
 three_of : (a b c d e f g h : Bool) → (a && b && c && d && e && f && g && h) ≡ true → (d ≡ true) × (e ≡ true) × (f ≡ true)
@@ -62,6 +64,23 @@ three_of a b c d e f g h all =
     let four = and_parts (a && b && c && d) e three.0 in
     let five = and_parts (a && b && c) d four.0 in
     (five.1, four.1, three.1)
+
+-- the numbers of a well-formed manifest, where the headers have them
+pub numbers_kept : (a : Assembly) (image : List ℕ) → numbers_of image ≡ numbers_in a.manifest → is_manifest a a.manifest ≡ true → HasKeptNumbers image
+unfolding is_manifest
+numbers_kept a image numbers formed =
+    let m = a.manifest in
+    let three = three_of (is_name m.name) (has_no_zero m.culture) (is_name m.module) (is_image_base m.image_base) (is_file_alignment m.file_alignment) (are_cor_flags m.cor_flags)
+    (list_all (is_attribute a) m.attributes) (list_all (is_attribute a) m.module_attributes) formed in
+    let base : image_base_of image ≡ m.image_base = ap (λ (n : ManifestNumbers). n.image_base) numbers in
+    let alignment : file_alignment_of image ≡ m.file_alignment = ap (λ (n : ManifestNumbers). n.file_alignment) numbers in
+    let flags : cor_flags_of image ≡ m.cor_flags = ap (λ (n : ManifestNumbers). n.cor_flags) numbers in
+    let clear = and_parts (bit_and m.cor_flags 1 == 1) (bit_and m.cor_flags 0x18 == 0) three.2 in
+    record {
+      image_base = subst IsImageBase (sym base) (image_base_is m.image_base three.0);
+      file_alignment = subst IsFileAlignment (sym alignment) (alignment_is m.file_alignment three.1);
+      unsigned = ap (λ n. bit_and n 8) flags ∙ unset m.cor_flags (eqb-true (bit_and m.cor_flags 0x18) 0 clear.1);
+    }
 
 pub manifest_is_read : (a : Assembly) (r : References) (image : List ℕ) → ReadsHeaps r image → ReadsManifest a r image → numbers_of image ≡ numbers_in a.manifest
     → is_manifest a a.manifest ≡ true → length a.manifest.version ≡ 4 → HasManifestHead image a.manifest

@@ -7,7 +7,7 @@ ghost use Rattle.image_facts.specs.tidiness.Once.{ContentsStandOnce, RowsStandOn
 use heaps::{one_content_at_an_index, written_is_read};
 use image_layout::{heaps_are_read, tables_are_read};
 
-/// Each header field of a laid-out image has the value that is written, and its module the identifier that it was given
+/// Each header field of a laid-out image whose manifest is well formed has the value that is written, and its module the identifier that it was given
 /// (ECMA-335 II.22.30, II.24.2, II.25).
 pub fn fields_are_written()
     ensures { FieldsAreWritten }

@@ -22,8 +22,8 @@ pub fn signatures_are_short()
     runs_are_read();
 }
 
-/// A laid-out image is tidy where its references hold nothing twice, and nothing that a reader doesn't take (ECMA-335 II.22,
-/// II.23.2, II.24, II.25).
+/// A laid-out image whose manifest is well formed is tidy where its references hold nothing twice, and nothing that a reader
+/// doesn't take (ECMA-335 II.22, II.23.2, II.24, II.25).
 pub fn images_are_tidy()
     ensures { ImagesAreTidy }
 {

@@ -1,12 +1,14 @@
 -- A tidy image: no row and no content twice, each number in its shortest form, and each header field as it is written, for a
 -- program or a library, with an identifier (II.22, II.23.2, II.24, II.25).
-use Rattle.std.specs.Prelude.{◌≡◌, ℕ, ◌%◌, ◌<◌, ◌⊎◌, Bool, List, length, map, slice_index}
+use Rattle.std.specs.Prelude.{◌≡◌, ℕ, ◌%◌, ◌<◌, ◌⊎◌, Bool, List, length, map, slice_index, bit_and}
 use Rattle.std.specs.List.{range_with_len}
 use Rattle.heaps.specs.Content.{HasText, HasBlob, HasUnits, HasGuid}
 use Rattle.heaps.specs.Written.{HasShortBlob, HasWrittenUnits}
 use Rattle.pe_layout.specs.Fields.{u32_at}
-use Rattle.pe_layout.specs.CliHeader.{metadata_of}
+use Rattle.pe_layout.specs.CliHeader.{cor_flags_of, metadata_of}
 use Rattle.pe_layout.specs.Frame.{HasFrame}
+use Rattle.pe_layout.specs.Headers.{image_base_of, file_alignment_of}
+use Rattle.pe_layout.specs.Numbers.{IsImageBase, IsFileAlignment}
 use Rattle.pe_layout.specs.declared.parts.Kind.{Kind}
 use Rattle.metadata_tables.specs.Schema.{columns_of}
 use Rattle.metadata_tables.specs.Stream.{cell, column_of}
@@ -108,9 +110,16 @@ pub record HasWrittenTables (stream : List ℕ) : Type 0 where
   pub minor : slice_index stream 5 ≡ 0
   pub reserved_one : slice_index stream 7 ≡ 1
 
+-- image base and file alignment are ones that a reading keeps (II.25.2.3.2), and the flag of a signed image is unset (II.25.3.3.1)
+pub record HasKeptNumbers (image : List ℕ) : Type 0 where
+  pub image_base : IsImageBase (image_base_of image)
+  pub file_alignment : IsFileAlignment (file_alignment_of image)
+  pub unsigned : bit_and (cor_flags_of image) 8 ≡ 0
+
 -- each header field has the value that is written, and the module has this identifier
 pub record HasWrittenFields (image : List ℕ) (kind : Kind) (id : List ℕ) : Type 0 where
   pub frame : HasFrame image kind
+  pub numbers : HasKeptNumbers image
   pub root : HasWrittenRoot (metadata_of image)
   pub tables : HasWrittenTables (tables_of image)
   pub identifier : HasGuid (guids_of image) (module_identifier image 1) id

@@ -47,5 +47,8 @@ numbers_allowed a m h =
     let three = and_parts (b1 && b2 && b3) b4 four.0 in
     (base_allowed m.image_base three.1, alignment_allowed m.file_alignment four.1)
 
+pub manifest_formed : NamesAssemblies → (a : Assembly) → is_well_formed a ≡ true → is_manifest a a.manifest ≡ true
+manifest_formed law a formed = ((law a).0 formed).manifest
+
 pub numbers_formed : NamesAssemblies → (a : Assembly) → is_well_formed a ≡ true → IsImageBase a.manifest.image_base × IsFileAlignment a.manifest.file_alignment
-numbers_formed law a formed = numbers_allowed a a.manifest ((law a).0 formed).manifest
+numbers_formed law a formed = numbers_allowed a a.manifest (manifest_formed law a formed)

@@ -18,6 +18,7 @@ use Rattle.image_references.specs.declared.references.References.{References}
 use Rattle.image_rows.specs.ManifestRows.{IsModuleRow}
 use Rattle.image_rows.specs.Pushing.{Tables}
 use Rattle.image_facts.specs.tidiness.Fields.{FieldsAreWritten}
+use Rattle.image_facts.proofs.ManifestFacts.{numbers_kept}
 
 front_is : (wide : ℕ) (rest : List ℕ) → HasWrittenTables (0 ∷ 0 ∷ 0 ∷ 0 ∷ 2 ∷ 0 ∷ wide ∷ 1 ∷ rest)
 unfolding u32_at
@@ -41,10 +42,11 @@ unfolding schema
 identifier_one r m tables image reads h = let row = module_row r m (rows_of tables 0x00) h in reads.cells 0x00 0 2 row.0 (omega arith) ∙ row.1
 
 pub fields_written : TablesAreRead → FieldsAreWritten
-fields_written read a classes r tables code entry id kind image f l =
+fields_written read a classes r tables code entry id kind image f l formed =
     let one = identifier_one r a.manifest tables image (read r tables id image l.metadata) f.manifest.module_row in
     record {
       frame = l.frame;
+      numbers = numbers_kept a image l.numbers formed;
       root = l.metadata.written;
       tables = tables_written _ tables image l.metadata.rows;
       identifier = subst (λ n. HasGuid (guids_of image) n id) (sym one) l.metadata.identifier;

@@ -22,7 +22,7 @@ pub record BelowSays : Type 0 where
   pub signatures : SignaturesAreShort
 
 pub images_tidy : BelowSays → ImagesAreTidy
-images_tidy below a classes r tables code entry id kind image f l tidy =
+images_tidy below a classes r tables code entry id kind image f l formed tidy =
     let w = below.written a classes r tables code entry id kind image f l in
     let n = below.namings a classes r tables code image w tidy.readable in
     let once = below.contents a classes r tables code id image f l.metadata tidy.contents in
@@ -46,5 +46,5 @@ images_tidy below a classes r tables code entry id kind image f l tidy =
         bodies = bodies.shortest;
         data_placed = entries.data_placed;
       };
-      fields = below.fields a classes r tables code entry id kind image f l;
+      fields = below.fields a classes r tables code entry id kind image f l formed;
     }

@@ -1,5 +1,6 @@
--- A laid-out image is tidy (ECMA-335 II.22, II.23.2, II.24, II.25).
-use Rattle.std.specs.Prelude.{ℕ, List}
+-- A laid-out image of a well-formed manifest is tidy (ECMA-335 II.22, II.23.2, II.24, II.25).
+use Rattle.std.specs.Prelude.{◌≡◌, ℕ, List, true}
+use Rattle.assembly_tree.specs.WellFormed.{is_manifest}
 use Rattle.assembly_tree.specs.declared.assembly.Assembly.{Assembly}
 use Rattle.pe_layout.specs.declared.parts.Kind.{Kind}
 use Rattle.image_references.specs.declared.references.References.{References}
@@ -23,4 +24,5 @@ pub record AreTidy (r : References) : Type 0 where
 abbrev pub ImagesAreTidy : Type 0
 ImagesAreTidy =
     (a : Assembly) (classes : List Class) (r : References) (tables : Tables) (code : List ℕ) (entry : ℕ) (id : List ℕ) (kind : Kind) (image : List ℕ)
-    → IsFilled a classes r tables code → IsLaidOut a.manifest r tables code entry id kind image → AreTidy r → IsTidy image kind id
+    → IsFilled a classes r tables code → IsLaidOut a.manifest r tables code entry id kind image → is_manifest a a.manifest ≡ true
+    → AreTidy r → IsTidy image kind id

@@ -5,7 +5,7 @@ use Rattle.image_layout.specs.LaidOut.{IsLaidOut}
 use Rattle.image_layout.specs.Sizes.{heap_bytes, stream_bytes}
 use Rattle.image_model.specs.Faults.{Reads}
 use Rattle.image_model.specs.Tidy.{IsTidy}
-use Rattle.image_writer.proofs.FormedLemmas.{numbers_formed}
+use Rattle.image_writer.proofs.FormedLemmas.{manifest_formed, numbers_formed}
 use Rattle.image_writer.proofs.LayLemmas.{contents_fit, contents_small}
 use Rattle.image_writer.proofs.laying_out.lay_out_filled.Goals as goal
 
@@ -54,6 +54,7 @@ returns-clause-tidy c =
     (IsLaidOut c.args.a.now.manifest c.args.refs.now c.args.rows.now c.args.code c.args.entry c.args.id.now c.args.kind)
     (λ (image : List ℕ). IsTidy image c.args.kind c.args.id.now)
     (λ image laid. c.images_are_tidy.ensures c.args.a.now c.args._classes.now c.args.refs.now c.args.rows.now c.args.code c.args.entry c.args.id.now c.args.kind image filled laid
+    (manifest_formed c.conditions_are_named.ensures.assemblies c.args.a.now c.requires.formed)
     (tidy image filled laid c.requires.formed c.requires.weight apart.contents apart.rows))
     c.lay_out.ensures.laid_out
 
