@@ -19,9 +19,9 @@ module _ (before now : Files) (file output source image text bytes : List ℕ) (
   front_of read same (inl unchanged) = inl (unchanged ∙ same)
   front_of read same (inr front) = inr (subst (λ (of : List ℕ). HoldsFront now output of) bytes_are front)
 
-  pub begun : (read : Files) → read ≡ before → (now ≡ read) ⊎ HoldsFront now output bytes
-      → (s : List ℕ) × (i : List ℕ) × (before file ≡ Some s) × IsImageOf s kind i × ((now ≡ before) ⊎ HoldsFront now output i)
-  begun read same front = (source, image, told, is_image, front_of read same front)
+  pub begun : length source ≤ 2 ^ 27 → (read : Files) → read ≡ before → (now ≡ read) ⊎ HoldsFront now output bytes
+      → (s : List ℕ) × (i : List ℕ) × (before file ≡ Some s) × (length s ≤ 2 ^ 27) × IsImageOf s kind i × ((now ≡ before) ⊎ HoldsFront now output i)
+  begun within read same front = (source, image, told, within, is_image, front_of read same front)
 
 -- reading a file changes none, and so does all that is changed by writing another
 pub changes_after : (before read now : Files) (output : List ℕ) → read ≡ before → ChangesOnly output read now → ChangesOnly output before now

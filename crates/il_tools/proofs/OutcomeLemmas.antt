@@ -15,7 +15,7 @@ use Rattle.pe_layout.specs.declared.parts.Kind.{Kind}
 use Rattle.source_assembly.specs.Laws.{OneReading}
 use Rattle.source_assembly.specs.Reading.{IsAssemblyOf}
 use Rattle.il_tools.specs.Assembled.{Fits, IsContentFault, IsImageOf}
-use Rattle.il_tools.specs.Outcome.{number_of, text_of, HasFaultOf, IsCause, Reported, Answers, Says}
+use Rattle.il_tools.specs.Outcome.{number_of, text_of, HasFaultOf, IsCause, Reported, Untold, Answers, Says}
 use Rattle.il_tools.specs.Output.{HoldsFront}
 use Rattle.il_tools.specs.declared.fault.ContentFault.{ContentFault}
 use Rattle.il_tools.specs.declared.fault.ContentFault.TheVariants as content
@@ -140,8 +140,8 @@ module _ (one : OneReading) (words : List (List ℕ)) (tells : Bool) (before now
       (too_long : IsTrue tells → fault ≡ TooLong → (source : List ℕ) × (before (file_of words) ≡ Some source) × (2 ^ 27 < length source))
       (refused : IsTrue tells → (found : ContentFault) → fault ≡ Content found → HasFaultOf (before (file_of words)) found)
       (unwritten : fault ≡ Unwritten → Rose writes writes_now)
-      (begun : IsTrue tells → fault ≡ Unwritten → (source : List ℕ) × (image : List ℕ) × (before (file_of words) ≡ Some source) × IsImageOf source (kind_of words) image
-      × ((now ≡ before) ⊎ HoldsFront now (output_of words) image))
+      (begun : IsTrue tells → fault ≡ Unwritten → (source : List ℕ) × (image : List ℕ) × (before (file_of words) ≡ Some source) × (length source ≤ 2 ^ 27)
+      × IsImageOf source (kind_of words) image × ((now ≡ before) ⊎ HoldsFront now (output_of words) image))
       (same_files : IsTrue tells → fault ≢ Unwritten → now ≡ before)
       (others : IsTrue tells → ChangesOnly (output_of words) before now) where
     named : (k : ℕ) → number ≡ k → k ≢ 6 → k ≢ 4 → number_of fault ≡ k
@@ -165,15 +165,15 @@ module _ (one : OneReading) (words : List (List ℕ)) (tells : Bool) (before now
       | inr r ↦ elim r [ inl s ↦ absurd (omega (arith, s.0)) | inr f ↦ inr f.1 ]
     ]
 
-    by_misfit : (word : ℕ) → usage_fault words ≡ Some word → (number ≡ 2) ⊎ ((number ≡ 4) ⊎ (number ≡ 6))
+    by_misfit : (word : ℕ) → usage_fault words ≡ Some word → (number ≡ 2) ⊎ (Untold number failed failed_now ⊎ (number ≡ 6))
     by_misfit word is = elim reported [
       | inl n ↦ inl (n ∙ ap number_of (misfit word is))
-      | inr r ↦ elim r [ inl s ↦ inr (inr s.0) | inr f ↦ inr (inl f.0) ]
+      | inr r ↦ elim r [ inl s ↦ inr (inr s.0) | inr f ↦ inr (inl f) ]
     ]
 
-    by_absent : IsTrue tells → usage_fault words ≡ None → before (file_of words) ≡ None → (number ≡ 3) ⊎ ((number ≡ 4) ⊎ (number ≡ 6))
+    by_absent : IsTrue tells → usage_fault words ≡ None → before (file_of words) ≡ None → (number ≡ 3) ⊎ (Untold number failed failed_now ⊎ (number ≡ 6))
     by_absent t fits none = elim reported [
-      | inr r ↦ elim r [ inl s ↦ inr (inr s.0) | inr f ↦ inr (inl f.0) ]
+      | inr r ↦ elim r [ inl s ↦ inr (inr s.0) | inr f ↦ inr (inl f) ]
       | inl n ↦ elim (which fault) [
         | inl u ↦ absurd (no_usage fits u.0 u.1)
         | inr a ↦ elim a [
@@ -182,7 +182,10 @@ module _ (one : OneReading) (words : List (List ℕ)) (tells : Bool) (before now
             | inl e ↦ inl (n ∙ ap number_of e)
             | inr c ↦ elim c [
               | inl e ↦ let s = too_long t e in absurd (some_none (before (file_of words)) s.0 s.1 none)
-              | inr d ↦ elim d [ inl e ↦ inr (inl (n ∙ ap number_of e)) | inr e ↦ inr (inr (n ∙ ap number_of e)) ]
+              | inr d ↦ elim d [
+                | inl e ↦ let g = begun t e in absurd (some_none (before (file_of words)) g.0 g.2 none)
+                | inr e ↦ inr (inr (n ∙ ap number_of e))
+              ]
             ]
           ]
         ]
@@ -190,9 +193,9 @@ module _ (one : OneReading) (words : List (List ℕ)) (tells : Bool) (before now
     ]
 
     by_long : IsTrue tells → usage_fault words ≡ None → (source : List ℕ) → before (file_of words) ≡ Some source → 2 ^ 27 < length source
-        → (number ≡ 5) ⊎ ((number ≡ 3) ⊎ ((number ≡ 4) ⊎ (number ≡ 6)))
+        → (number ≡ 5) ⊎ ((number ≡ 3) ⊎ (Untold number failed failed_now ⊎ (number ≡ 6)))
     by_long t fits source is more = elim reported [
-      | inr r ↦ elim r [ inl s ↦ inr (inr (inr s.0)) | inr f ↦ inr (inr (inl f.0)) ]
+      | inr r ↦ elim r [ inl s ↦ inr (inr (inr s.0)) | inr f ↦ inr (inr (inl f)) ]
       | inl n ↦ elim (which fault) [
         | inl u ↦ absurd (no_usage fits u.0 u.1)
         | inr a ↦ elim a [
@@ -203,7 +206,12 @@ module _ (one : OneReading) (words : List (List ℕ)) (tells : Bool) (before now
             | inl e ↦ inr (inl (n ∙ ap number_of e))
             | inr c ↦ elim c [
               | inl e ↦ inl (n ∙ ap number_of e)
-              | inr d ↦ elim d [ inl e ↦ inr (inr (inl (n ∙ ap number_of e))) | inr e ↦ inr (inr (inr (n ∙ ap number_of e))) ]
+              | inr d ↦ elim d [
+                | inl e ↦ let g = begun t e in
+                    let same : g.0 ≡ source = same_Some g.0 source (sym g.2 ∙ is) in
+                    let short : length source ≤ 2 ^ 27 = rw same at g.3 in absurd (omega arith)
+                | inr e ↦ inr (inr (inr (n ∙ ap number_of e)))
+              ]
             ]
           ]
         ]
@@ -211,9 +219,9 @@ module _ (one : OneReading) (words : List (List ℕ)) (tells : Bool) (before now
     ]
 
     by_fault : IsTrue tells → usage_fault words ≡ None → (found : ContentFault) → HasFaultOf (before (file_of words)) found
-        → (number ≡ 1) ⊎ ((number ≡ 3) ⊎ ((number ≡ 4) ⊎ (number ≡ 6)))
+        → (number ≡ 1) ⊎ ((number ≡ 3) ⊎ (Untold number failed failed_now ⊎ (number ≡ 6)))
     by_fault t fits found has = elim reported [
-      | inr r ↦ elim r [ inl s ↦ inr (inr (inr s.0)) | inr f ↦ inr (inr (inl f.0)) ]
+      | inr r ↦ elim r [ inl s ↦ inr (inr (inr s.0)) | inr f ↦ inr (inr (inl f)) ]
       | inl n ↦ elim (which fault) [
         | inl u ↦ absurd (no_usage fits u.0 u.1)
         | inr a ↦ elim a [
@@ -225,7 +233,10 @@ module _ (one : OneReading) (words : List (List ℕ)) (tells : Bool) (before now
                   let same : s.0 ≡ has.0 = same_Some s.0 has.0 (sym s.1 ∙ has.1) in
                   let long : 2 ^ 27 < length has.0 = rw same at s.2 in
                   let short : length has.0 ≤ 2 ^ 27 = has.2 in absurd (omega arith)
-              | inr d ↦ elim d [ inl e ↦ inr (inr (inl (n ∙ ap number_of e))) | inr e ↦ inr (inr (inr (n ∙ ap number_of e))) ]
+              | inr d ↦ elim d [
+                | inl e ↦ let g = begun t e in absurd (no_fault one g.0 g.4.meant (before (file_of words)) found g.4.denoted g.4.fits g.2 has)
+                | inr e ↦ inr (inr (inr (n ∙ ap number_of e)))
+              ]
             ]
           ]
         ]
@@ -259,8 +270,8 @@ module _ (one : OneReading) (words : List (List ℕ)) (tells : Bool) (before now
       | inr r ↦ elim r [ inl s ↦ s.1 e | inr f ↦ n4 f.0 ]
     ])
 
-    by_front : IsTrue tells → number ≡ 4 → (now ≡ before) ⊎ ((source : List ℕ) × (image : List ℕ) × (before (file_of words) ≡ Some source)
-        × IsImageOf source (kind_of words) image × HoldsFront now (output_of words) image)
+    by_front : IsTrue tells → number ≡ 4 → (now ≡ before) ⊎ ((usage_fault words ≡ None) × (source : List ℕ) × (image : List ℕ) × (before (file_of words) ≡ Some source)
+        × (length source ≤ 2 ^ 27) × IsImageOf source (kind_of words) image × HoldsFront now (output_of words) image)
     by_front t e = elim (which fault) [
       | inl u ↦ inl (same_files t (λ q. absurd (two_faults u.0 (sym u.1 ∙ q))))
       | inr a ↦ elim a [
@@ -270,7 +281,7 @@ module _ (one : OneReading) (words : List (List ℕ)) (tells : Bool) (before now
           | inr c ↦ elim c [
             | inl q ↦ inl (same_files t (λ p. absurd (five_fault (sym q ∙ p))))
             | inr d ↦ elim d [
-              | inl q ↦ let g = begun t q in elim g.4 [ inl same ↦ inl same | inr front ↦ inr (g.0, g.1, g.2, g.3, front) ]
+              | inl q ↦ let g = begun t q in elim g.5 [ inl same ↦ inl same | inr front ↦ inr (fitting q (usage_fault words) refl, g.0, g.1, g.2, g.3, g.4, front) ]
               | inr q ↦ inl (same_files t (λ p. absurd (six_fault (sym q ∙ p))))
             ]
           ]
@@ -280,6 +291,10 @@ module _ (one : OneReading) (words : List (List ℕ)) (tells : Bool) (before now
       where
         two_faults : (word : ℕ) → Usage word ≡ Unwritten → ⊥
         two_faults word p = absurd cc
+
+        fitting : fault ≡ Unwritten → (said : Option ℕ) → usage_fault words ≡ said → usage_fault words ≡ None
+        fitting q None e = e
+        fitting q (Some word) e = absurd (two_faults word (sym (misfit word e) ∙ q))
 
         one_fault : (found : ContentFault) → Content found ≡ Unwritten → ⊥
         one_fault found p = absurd cc
@@ -414,8 +429,8 @@ module _ (one : OneReading) (words : List (List ℕ)) (tells : Bool) (before now
         → (IsTrue tells → fault ≡ TooLong → (source : List ℕ) × (before file ≡ Some source) × (2 ^ 27 < length source))
         → (IsTrue tells → (found : ContentFault) → fault ≡ Content found → HasFaultOf (before file) found)
         → (fault ≡ Unwritten → Rose writes writes_now)
-        → (IsTrue tells → fault ≡ Unwritten → (source : List ℕ) × (image : List ℕ) × (before file ≡ Some source) × IsImageOf source kind image
-        × ((now ≡ before) ⊎ HoldsFront now output image))
+        → (IsTrue tells → fault ≡ Unwritten → (source : List ℕ) × (image : List ℕ) × (before file ≡ Some source) × (length source ≤ 2 ^ 27)
+        × IsImageOf source kind image × ((now ≡ before) ⊎ HoldsFront now output image))
         → (IsTrue tells → fault ≢ Unwritten → now ≡ before) → (IsTrue tells → ChangesOnly output before now)
         → Answers words number tells before now reads reads_now writes writes_now failed failed_now
     Answers-refused number fault reported usage unread too_long refused unwritten begun same_files others =
@@ -429,8 +444,9 @@ module _ (one : OneReading) (words : List (List ℕ)) (tells : Bool) (before now
           b.0,
           b.1,
           ap before (sym names.0) ∙ b.2,
-          subst (λ (k : Kind). IsImageOf b.0 k b.1) names.1.0 b.3,
-          subst (λ (name : List ℕ). (now ≡ before) ⊎ HoldsFront now name b.1) names.1.1 b.4,
+          b.3,
+          subst (λ (k : Kind). IsImageOf b.0 k b.1) names.1.0 b.4,
+          subst (λ (name : List ℕ). (now ≡ before) ⊎ HoldsFront now name b.1) names.1.1 b.5,
         ))
         same_files (changes others)
 

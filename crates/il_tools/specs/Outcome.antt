@@ -48,24 +48,28 @@ IsCause words tells files (Usage word) = usage_fault words ≡ Some word
 IsCause words tells files (Content fault) = IsTrue tells → HasFaultOf (files (file_of words)) fault
 IsCause words tells files fault = Unit {0}
 
+-- 4 in place of the status of a fault: its text couldn't be written
+abbrev pub Untold : ℕ → ℕ → ℕ → Type 0
+Untold number failed failed_now = (number ≡ 4) × Rose failed failed_now
+
 -- what a status says of the words and of the told files, before and after
 pub record Answers (words : List (List ℕ)) (number : ℕ) (tells : Bool) (before now : Files) (reads reads_now writes writes_now failed failed_now : ℕ) : Type 0 where
   pub range : number ≤ 6
   -- 2: exactly where the words don't fit
   pub usage : number ≡ 2 → (word : ℕ) × (usage_fault words ≡ Some word)
-  pub misfit : (word : ℕ) → usage_fault words ≡ Some word → (number ≡ 2) ⊎ ((number ≡ 4) ⊎ (number ≡ 6))
+  pub misfit : (word : ℕ) → usage_fault words ≡ Some word → (number ≡ 2) ⊎ (Untold number failed failed_now ⊎ (number ≡ 6))
   -- 3 and 4: only by a failure that is counted, or where the told file is absent
   pub read_cause : number ≡ 3 → Rose reads reads_now ⊎ (IsTrue tells × (before (file_of words) ≡ None))
   pub write_cause : number ≡ 4 → Rose writes writes_now ⊎ Rose failed failed_now
-  pub absent : IsTrue tells → usage_fault words ≡ None → before (file_of words) ≡ None → (number ≡ 3) ⊎ ((number ≡ 4) ⊎ (number ≡ 6))
+  pub absent : IsTrue tells → usage_fault words ≡ None → before (file_of words) ≡ None → (number ≡ 3) ⊎ (Untold number failed failed_now ⊎ (number ≡ 6))
   -- 5: exactly where the told file has more than 2 ^ 27 bytes
   pub too_long : IsTrue tells → number ≡ 5 → (source : List ℕ) × (before (file_of words) ≡ Some source) × (2 ^ 27 < length source)
   pub long : IsTrue tells → usage_fault words ≡ None → (source : List ℕ) → before (file_of words) ≡ Some source → 2 ^ 27 < length source
-      → (number ≡ 5) ⊎ ((number ≡ 3) ⊎ ((number ≡ 4) ⊎ (number ≡ 6)))
+      → (number ≡ 5) ⊎ ((number ≡ 3) ⊎ (Untold number failed failed_now ⊎ (number ≡ 6)))
   -- 1: exactly where the told source has a fault, or denotes an assembly that doesn't fit
   pub refused : IsTrue tells → number ≡ 1 → (fault : ContentFault) × HasFaultOf (before (file_of words)) fault
   pub faulty : IsTrue tells → usage_fault words ≡ None → (fault : ContentFault) → HasFaultOf (before (file_of words)) fault
-      → (number ≡ 1) ⊎ ((number ≡ 3) ⊎ ((number ≡ 4) ⊎ (number ≡ 6)))
+      → (number ≡ 1) ⊎ ((number ≡ 3) ⊎ (Untold number failed failed_now ⊎ (number ≡ 6)))
   -- 0: the output is an image of the assembly that the source denotes
   pub done : IsTrue tells → number ≡ 0 → (source : List ℕ) × (image : List ℕ) × (before (file_of words) ≡ Some source) × IsImageOf source (kind_of words) image
       × (now (output_of words) ≡ Some image)
@@ -73,8 +77,8 @@ pub record Answers (words : List (List ℕ)) (number : ℕ) (tells : Bool) (befo
       → IsAssemblyOf source a → Fits a → (Rose reads reads_now → ⊥) → (Rose writes writes_now → ⊥) → (Rose failed failed_now → ⊥) → (number ≡ 0) ⊎ (number ≡ 6)
   -- what stands afterwards
   pub untouched : IsTrue tells → number ≢ 0 → number ≢ 4 → now ≡ before
-  pub front : IsTrue tells → number ≡ 4 → (now ≡ before) ⊎ ((source : List ℕ) × (image : List ℕ) × (before (file_of words) ≡ Some source)
-      × IsImageOf source (kind_of words) image × HoldsFront now (output_of words) image)
+  pub front : IsTrue tells → number ≡ 4 → (now ≡ before) ⊎ ((usage_fault words ≡ None) × (source : List ℕ) × (image : List ℕ) × (before (file_of words) ≡ Some source)
+      × (length source ≤ 2 ^ 27) × IsImageOf source (kind_of words) image × HoldsFront now (output_of words) image)
   pub others : IsTrue tells → ChangesOnly (output_of words) before now
 
 -- what a console that tells has taken on standard error, from the words and the files of a shelf

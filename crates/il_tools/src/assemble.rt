@@ -39,7 +39,7 @@ pub(crate) fn assemble<S: Shelf>(
     ensures faulty { IsTrue (S.tells shelf.old) → (fault : ContentFault) → result ≡ Err (Fault.Content fault) → HasFaultOf (S.files shelf.old file.now) fault }
     ensures unwritten { result ≡ Err Fault.Unwritten → Rose (S.failed_writes shelf.old) (S.failed_writes shelf.new) }
     ensures done { IsTrue (S.tells shelf.old) → IsOk result → (source : List ℕ) × (image : List ℕ) × (S.files shelf.old file.now ≡ Some source) × (length source ≤ 2 ^ 27) × IsImageOf source kind image × (S.files shelf.new output.now ≡ Some image) }
-    ensures begun { IsTrue (S.tells shelf.old) → result ≡ Err Fault.Unwritten → (source : List ℕ) × (image : List ℕ) × (S.files shelf.old file.now ≡ Some source) × IsImageOf source kind image × ((S.files shelf.new ≡ S.files shelf.old) ⊎ HoldsFront (S.files shelf.new) output.now image) }
+    ensures begun { IsTrue (S.tells shelf.old) → result ≡ Err Fault.Unwritten → (source : List ℕ) × (image : List ℕ) × (S.files shelf.old file.now ≡ Some source) × (length source ≤ 2 ^ 27) × IsImageOf source kind image × ((S.files shelf.new ≡ S.files shelf.old) ⊎ HoldsFront (S.files shelf.new) output.now image) }
 
     // What stays.
     ensures same_files { IsTrue (S.tells shelf.old) → IfErr result (λ fault. fault ≢ Fault.Unwritten → S.files shelf.new ≡ S.files shelf.old) }
