@@ -8,6 +8,9 @@ use std::test::Fail;
 
 const MANIFEST: &[u8] = b".assembly Hello { .ver 1:2:3:4 }";
 
+/// How many bytes its image has.
+const IMAGE: usize = 1536;
+
 /// Words parted by single spaces.
 fn words(alloc: Global, line: &str) -> Result<Words, NoMemory> {
     let mut words = Words::new(alloc);
@@ -308,27 +311,37 @@ fn is_front(alloc: Global, file: Option<&[u8]>, wanted: Option<usize>) -> Result
 /// The nth call of the shelf fails, n counting up until a run ends with no failure.
 #[test]
 fn failing_calls(rt: HostRuntime) -> Result<(), Fail> {
-    for (call, status) in [(1, 3), (2, 3), (3, 4), (4, 4), (5, 4), (6, 4)] {
+    for call in 1..100 {
         let mut shelf = shelf_with(rt.alloc(), MANIFEST)?;
         shelf.fail_at(call)?;
         shelf.at_most(512);
         let (number, said) = outcome(rt.alloc(), "ilasm a.il -dll", &mut shelf)?;
-        assert_eq!(rt; number, status, "at {call}");
-        let text = if status == 3 {
-            "a.il: cannot be read\n"
+        let written = if call < 4 {
+            None
         } else {
-            ""
+            Some(512 * (call as usize - 4))
         };
-        assert_eq!(rt; said.as_str(), text, "at {call}");
-        let wanted = match call {
-            4 => Some(0),
-            5 => Some(512),
-            6 => Some(1024),
-            _ => None,
-        };
-        let front = is_front(rt.alloc(), shelf.file("a.dll"), wanted)?;
+        let front = is_front(rt.alloc(), shelf.file("a.dll"), written)?;
         assert!(rt; front, "at {call}");
+        if number == 0 {
+            assert_eq!(rt; said.as_str(), "");
+            assert_eq!(rt; written, Some(IMAGE));
+            return Ok(());
+        }
+        let (status, text) = if call < 3 {
+            (3, "a.il: cannot be read\n")
+        } else {
+            (4, "")
+        };
+        assert_eq!(rt; number, status, "at {call}");
+        assert_eq!(rt; said.as_str(), text, "at {call}");
     }
+    Err("each run has failed".into())
+}
+
+/// The shelf takes no byte of the output.
+#[test]
+fn an_output_that_takes_nothing(rt: HostRuntime) -> Result<(), Fail> {
     let mut shelf = shelf_with(rt.alloc(), MANIFEST)?;
     shelf.at_most(0);
     let (number, _) = outcome(rt.alloc(), "ilasm a.il -dll", &mut shelf)?;
