@@ -1,5 +1,5 @@
-// Protected blocks: catch, filter, finally and fault, nested and one after another, a switch and a rethrow. It prints which
-// handlers ran.
+// Protected blocks: catch, filter, finally and fault, nested and one after another, and a switch. It prints which handlers
+// ran.
 .assembly extern mscorlib
 {
   .publickeytoken = (B7 7A 5C 56 19 34 E0 89)
