@@ -1,17 +1,20 @@
 -- Rows that own nothing.
-use Rattle.std.proofs.Common.{◌≡◌, ap, refl, ◌∙◌, ℕ, zero, suc, ◌+◌, List, [], ◌∷◌, ◌++◌, length, map}
-use Rattle.std.specs.Prelude.{slice_get}
-use Rattle.std.specs.List.{AllByRecursion, enumerate_from, flat_map}
+use Rattle.std.proofs.Common.{◌≡◌, ap, arith, refl, ◌∙◌, ℕ, zero, suc, ◌+◌, List, [], ◌∷◌, ◌++◌, length, map}
+use Rattle.std.specs.Borrow.{Bor}
+use Rattle.std.specs.Prelude.{◌||◌, ◌≤◌, Bool, false, nat_lt, slice_get}
+use Rattle.std.specs.List.{AllByRecursion, enumerate_from, flat_map, list_any}
+use Rattle.std.proofs.lemmas.Bool.{ltb-false, or_parts}
 use Rattle.assembly_tree.specs.declared.assembly.Assembly.{Assembly}
 use Rattle.assembly_tree.specs.declared.members.Event.{Event}
 use Rattle.assembly_tree.specs.declared.members.Property.{Property}
 use Rattle.metadata_tables.specs.declared.coded.Coded.{Coded}
 use Rattle.metadata_tables.specs.declared.coded.Coded.TheVariants.{HasSemantics}
 use Rattle.image_references.specs.Indexes.{index_of}
-use Rattle.image_rows.specs.ByNumber.{or_none, owned_in, by_number}
+use Rattle.image_rows.specs.ByNumber.{or_none, owned_at, owned_in, by_number}
 use Rattle.image_rows.specs.DeclaredMembers.{class_methods}
+use Rattle.image_rows.specs.Emptiness.{any_has_item, has_item}
 use Rattle.image_rows.specs.Lists.{access_from, access_of, accessor_items, event_access, events_in, longest_of, properties_in, property_access}
-use Rattle.image_rows.specs.Places.{class_events, class_properties}
+use Rattle.image_rows.specs.Places.{class_events, class_properties, lent}
 use Rattle.image_rows.specs.declared.classes.Class.{Class}
 
 -- none of the lists has an item
@@ -34,6 +37,30 @@ module _ {X : Type 0} where
   pub nothing_in_all : {Y : Type 0} (f : Y → List X) → ((y : Y) → f y ≡ []) → (ys : List Y) → flat_map f ys ≡ []
   nothing_in_all f h [] = refl
   nothing_in_all f h (y ∷ ys) = ap (λ (xs : List X). xs ++ flat_map f ys) (h y) ∙ nothing_in_all f h ys
+
+  pub lent_none : (xs : List (Bor X)) → lent xs ≡ [] → xs ≡ []
+  lent_none [] e = refl
+  lent_none (x ∷ xs) e = absurd (cc e)
+
+  -- the test of each list, and that of what it leads to
+  pub lent_tested : (lists : List (Bor (List X))) → list_any (λ (list : Bor (List X)). nat_lt 0 (length list.now)) lists ≡ any_has_item lists
+  lent_tested [] = refl
+  lent_tested (xs ∷ more) = ap (λ (rest : Bool). has_item xs.now || rest) (lent_tested more)
+
+  empty_tested : (xs : List X) → has_item xs ≡ false → xs ≡ []
+  empty_tested [] e = refl
+  empty_tested (x ∷ xs) e = absurd (let none : suc (length xs) ≤ 0 = ltb-false 0 (suc (length xs)) e in omega arith)
+
+  pub none_tested : (lists : List (Bor (List X))) → any_has_item lists ≡ false → AreEmpty (lent lists)
+  none_tested [] e = tt
+  none_tested (xs ∷ more) e = let parts = or_parts (has_item xs.now) (any_has_item more) e in (empty_tested xs.now parts.0, none_tested more parts.1)
+
+  pub none_at : {T : Type 0} (kind : Coded) (of : T → ℕ × List (List X)) (test : T → Bool) → ((t : T) → test t ≡ false → AreEmpty (of t).1)
+      → (k : ℕ) (ts : List T) → list_any test ts ≡ false → owned_at kind (map of ts) k ≡ []
+  none_at kind of test law k [] e = refl
+  none_at kind of test law k (t ∷ ts) e =
+      let parts = or_parts (test t) (list_any test ts) e in
+      ap (λ (xs : List (ℕ × X)). xs ++ owned_at kind (map of ts) k) (nothing_owned kind (of t).0 k (of t).1 (law t parts.0)) ∙ none_at kind of test law k ts parts.1
 
   -- two lists without items
   pub no_front : (xs ys : List X) → xs ++ ys ≡ [] → xs ≡ []

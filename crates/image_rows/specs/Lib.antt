@@ -10,6 +10,7 @@ pub mod Counts
 pub mod DataRows
 pub mod DeclaredMembers
 pub mod Declaring
+pub mod Emptiness
 pub mod EventRows
 pub mod FieldRows
 pub mod Filled

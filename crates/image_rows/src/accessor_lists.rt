@@ -1,5 +1,5 @@
 //! The tables whose rows have accessors, each with those of its rows (ECMA-335 II.22.28).
-ghost use Rattle.std.specs.Prelude.{◌≡◌, ◌+◌, ◌^◌, ◌<◌, ◌++◌, [], length, map, sum_by, IsTrue, IfOk, OnOk};
+ghost use Rattle.std.specs.Prelude.{◌≡◌, ◌↔◌, ◌+◌, ◌^◌, ◌<◌, ◌++◌, [], length, map, sum_by, IsTrue, IfOk, OnOk};
 ghost use Rattle.image_rows.specs.DeclaredMembers.{methods_count, class_methods};
 ghost use Rattle.image_rows.specs.Lists.{access_of, event_access, property_access, access_from, accessor_lists};
 ghost use Rattle.image_rows.specs.Places.{lent};
@@ -41,7 +41,7 @@ pub fn accessor_tables<'a>(
 
 /// Whether nothing is declared that has accessors.
 pub fn have_no_accessors(ordered: &Ordered) -> bool
-    ensures { IsTrue result → (lent ordered.now.events ≡ []) × (lent ordered.now.properties ≡ []) }
+    ensures { IsTrue result ↔ (lent ordered.now.events ≡ []) × (lent ordered.now.properties ≡ []) }
 {
     ordered.events.is_empty() && ordered.properties.is_empty()
 }

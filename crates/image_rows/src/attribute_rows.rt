@@ -1,5 +1,7 @@
 //! The rows of CustomAttribute (ECMA-335 II.22.10).
 ghost use Rattle.std.specs.Prelude.{◌≡◌, ℕ, ◌∷◌, [], ◌-◌, ◌^◌, ◌<◌, false, OnOk};
+ghost use Rattle.std.specs.List.{list_any};
+ghost use Rattle.image_rows.specs.Emptiness.{any_has_item};
 ghost use Rattle.image_rows.specs.AttributeRows.{attributes_with, attributes_in, attributes_at, all_attributes, attribute_bytes, IsAttributeRow, CanPushAttribute};
 ghost use Rattle.image_rows.specs.Pushing.{Pushes, CanPush};
 
@@ -44,14 +46,10 @@ pub fn push_all_attributes<'a>(
 
 /// Whether any row of these tables has attributes.
 fn have_attributes(tables: &[Attributed]) -> bool
-    ensures { result ≡ false → (k : ℕ) → attributes_at tables.now k ≡ [] }
+    ensures any { result ≡ list_any (λ table. any_has_item table.of) tables.now }
+    ensures none { result ≡ false → (k : ℕ) → attributes_at tables.now k ≡ [] }
 {
-    for table in tables {
-        if have_items(table.of.as_slice()) {
-            return true;
-        }
-    }
-    false
+    tables.iter().any(|table| have_items(table.of.as_slice()))
 }
 
 /// Adds the rows of the attributes of the row at this place in each table.

@@ -1,5 +1,7 @@
 //! The rows of GenericParam (ECMA-335 II.22.20).
 ghost use Rattle.std.specs.Prelude.{◌≡◌, ℕ, ◌-◌, ◌^◌, ◌<◌, ◌∷◌, [], false, OnOk};
+ghost use Rattle.std.specs.List.{list_any};
+ghost use Rattle.image_rows.specs.Emptiness.{any_has_item};
 ghost use Rattle.image_rows.specs.GenericRows.{generics_with, generics_in, generics_at, all_generics, generic_bytes, IsGenericRow, CanPushGeneric};
 ghost use Rattle.image_rows.specs.Pushing.{Pushes, CanPush};
 
@@ -41,14 +43,10 @@ pub fn push_all_generics<'a>(
 
 /// Whether any row of these tables has generic parameters.
 pub fn have_generics(tables: &[Parametric]) -> bool
-    ensures { result ≡ false → (k : ℕ) → generics_at tables.now k ≡ [] }
+    ensures any { result ≡ list_any (λ table. any_has_item table.of) tables.now }
+    ensures none { result ≡ false → (k : ℕ) → generics_at tables.now k ≡ [] }
 {
-    for table in tables {
-        if have_items(table.of.as_slice()) {
-            return true;
-        }
-    }
-    false
+    tables.iter().any(|table| have_items(table.of.as_slice()))
 }
 
 /// Adds the rows of the generic parameters of the row at this place in each table.

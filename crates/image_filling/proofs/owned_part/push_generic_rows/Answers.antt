@@ -34,10 +34,10 @@ returns-clause-order c =
 
 pub returns-then-not-have_generics-clause-pushes : goal.returns-then-not-have_generics-clause-pushes
 returns-then-not-have_generics-clause-pushes c =
-    let none = nothing_in_all (generics_at c.args.tables.now) (c.have_generics.ensures c.if-not-have_generics.true) (range_with_len 0 (longest_of (map counted c.args.tables.now))) in
+    let none = nothing_in_all (generics_at c.args.tables.now) (c.have_generics.ensures.none c.if-not-have_generics.true) (range_with_len 0 (longest_of (map counted c.args.tables.now))) in
     subst (λ xs. Pushes 0x2A IsGenericRow generic_bytes xs c.args.refs.now c.args.refs.now c.args.rows.now c.args.rows.now) (sym none) (none_pushed generic_kind c.args.refs.now c.args.rows.now c.requires.can.known)
 
 pub returns-then-not-have_generics-clause-order : goal.returns-then-not-have_generics-clause-order
 returns-then-not-have_generics-clause-order c =
-    let none = nothing_in_all (generics_at c.args.tables.now) (c.have_generics.ensures c.if-not-have_generics.true) (range_with_len 0 (longest_of (map counted c.args.tables.now))) in
+    let none = nothing_in_all (generics_at c.args.tables.now) (c.have_generics.ensures.none c.if-not-have_generics.true) (range_with_len 0 (longest_of (map counted c.args.tables.now))) in
     ap (lent {X = Generic}) c.new.ensures ∙ ap (map generic_of) (sym none)

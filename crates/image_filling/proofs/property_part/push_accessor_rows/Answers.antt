@@ -37,7 +37,7 @@ returns c =
 
 pub returns-then-have_no_accessors : goal.returns-then-have_no_accessors
 returns-then-have_no_accessors c =
-    let none = c.have_no_accessors.ensures c.if-have_no_accessors.true in
+    let none = c.have_no_accessors.ensures.0 c.if-have_no_accessors.true in
     let nothing : accessor_items c.args.a.now c.args.classes.now ≡ [] =
     no_accessors c.args.a.now c.args.classes.now (sym c.requires.ordered.events ∙ none.0) (sym c.requires.ordered.properties ∙ none.1) in
     subst (λ (xs : List (ℕ × (ℕ × ℕ))). AddsRows 0x18 (map semantics_row xs) c.args.rows.now c.args.rows.now) (sym nothing) (rows_none 0x18 c.args.rows.now)

@@ -44,5 +44,5 @@ returns c =
 
 pub returns-then-not-have_attributes : goal.returns-then-not-have_attributes
 returns-then-not-have_attributes c =
-    let none = nothing_in_all (attributes_at c.args.tables.now) (c.have_attributes.ensures c.if-not-have_attributes.true) (range_with_len 0 c.args.count) in
+    let none = nothing_in_all (attributes_at c.args.tables.now) (c.have_attributes.ensures.none c.if-not-have_attributes.true) (range_with_len 0 c.args.count) in
     subst (λ xs. Pushes 0x0C IsAttributeRow attribute_bytes xs c.args.refs.now c.args.refs.now c.args.rows.now c.args.rows.now) (sym none) (none_pushed attribute_kind c.args.refs.now c.args.rows.now c.requires.can.known)

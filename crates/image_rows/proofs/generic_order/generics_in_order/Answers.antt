@@ -37,5 +37,5 @@ returns c =
 
 pub returns-then-not-have_generics : goal.returns-then-not-have_generics
 returns-then-not-have_generics c =
-    let none = nothing_in_all (generics_at c.args.tables.now) (c.have_generics.ensures c.if-not-have_generics.true) (range_with_len 0 c.args.count) in
+    let none = nothing_in_all (generics_at c.args.tables.now) (c.have_generics.ensures.none c.if-not-have_generics.true) (range_with_len 0 c.args.count) in
     ap lent c.new-generics.ensures ∙ sym (ap (map generic_of) none)
