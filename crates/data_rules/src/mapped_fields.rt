@@ -74,7 +74,7 @@ pub fn data_faults(
     let place = Place {
         reader: Reader {
             source: &*reader.source,
-            tokens: &*reader.tokens,
+            spans: &*reader.spans,
             nodes: &*reader.nodes,
         },
         keys: &externs.names,

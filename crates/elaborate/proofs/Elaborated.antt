@@ -5,7 +5,8 @@ use Rattle.std.proofs.lemmas.List.{length-map}
 use Rattle.assembly_tree.specs.WellFormed.{is_well_formed}
 use Rattle.assembly_tree.specs.declared.assembly.Assembly.{Assembly}
 use Rattle.il_base.specs.declared.pos.Pos.{Pos}
-use Rattle.il_lexer.specs.Lexing.{Lexes}
+use Rattle.il_lexer.specs.Lexing.{Lexes, all_placed, placed}
+use Rattle.il_lexer.specs.declared.types.Span.{Span}
 use Rattle.il_lexer.specs.declared.types.Token.{Token}
 use Rattle.ilasm_grammar.specs.Grammar.{Derives}
 use Rattle.ilasm_grammar.specs.Ilasm.{ilasm}
@@ -45,20 +46,21 @@ is_read r s h = record {
 abbrev pub source_of : List ℕ → List Token → Forest → Source
 source_of bytes tokens f = record { bytes = bytes; tokens = tokens; tree = f }
 
-pub reads : (r : Reader) (bytes : List ℕ) (tokens : List Token) (tree : List TreeNode) (f : Forest) → r.source.now ≡ bytes → r.tokens.now ≡ tokens → r.nodes.now ≡ tree
-    → preorder f ≡ tree → Lexes bytes tokens → IsTreeOf tokens tree → Reads r (source_of bytes tokens f)
-reads r bytes tokens tree f b t n e lexes derives = record {
+pub reads : (r : Reader) (bytes : List ℕ) (spans : List Span) (tree : List TreeNode) (f : Forest) → r.source.now ≡ bytes → r.spans.now ≡ spans → r.nodes.now ≡ tree
+    → preorder f ≡ tree → Lexes bytes (all_placed bytes spans) → IsTreeOf (all_placed bytes spans) tree → Reads r (source_of bytes (all_placed bytes spans) f)
+reads r bytes spans tree f b t n e lexes derives = record {
   bytes = sym b;
-  tokens = sym t;
+  tokens = ap (all_placed bytes) (sym t) ∙ ap (λ x. all_placed x r.spans.now) (sym b);
   nodes = e ∙ sym n;
   lexes = lexes;
-  derived = subst (IsTreeOf tokens) (sym e) derives;
+  derived = subst (IsTreeOf (all_placed bytes spans)) (sym e) derives;
 }
 
 pub few_nodes : ((kinds : List ℕ) (tree : List TreeNode) → Derives ilasm 0 (Nonterminal SOURCE ∷ []) kinds tree → length tree ≤ 7 * length kinds)
-    → (tokens : List Token) (tree : List TreeNode) → length tokens ≤ 2 ^ 24 → IsTreeOf tokens tree → length tree < 2 ^ 32
-few_nodes few tokens tree le derives =
-    omega (arith, le, few (terminals_of tokens) tree derives, length-map tokens (λ (token : Token). terminal_of token.kind))
+    → (bytes : List ℕ) (spans : List Span) (tree : List TreeNode) → length spans ≤ 2 ^ 24 → IsTreeOf (all_placed bytes spans) tree → length tree < 2 ^ 32
+few_nodes few bytes spans tree le derives =
+    let tokens = all_placed bytes spans in
+    omega (arith, le, few (terminals_of tokens) tree derives, length-map tokens (λ (token : Token). terminal_of token.kind), length-map spans (placed bytes))
 
 -- ---- what is answered
 

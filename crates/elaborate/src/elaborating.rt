@@ -8,7 +8,7 @@ ghost use Rattle.elaborate.specs.SourceMembers.{ReadsSome};
 ghost use Rattle.elaborate.specs.Standing.{HaveNeither};
 ghost use Rattle.elaborate.specs.declared.name_fault.NameFault.TheVariants.{Bad, NoMemory};
 ghost use Rattle.il_base.specs.declared.pos.Pos.{Pos};
-ghost use Rattle.il_lexer.specs.Lexing.{Lexes};
+ghost use Rattle.il_lexer.specs.Lexing.{Lexes, all_placed};
 ghost use Rattle.ilasm_grammar.specs.Parsing.{IsTreeOf};
 ghost use Rattle.ilasm_grammar.specs.declared.productions.TheConstants.{DATA, MEMBER_SIZE};
 ghost use Rattle.ilasm_grammar.specs.declared.tree.TreeNode.{TreeNode};
@@ -20,7 +20,8 @@ use crate::faultless_sources::read_faultless;
 use crate::name_fault::NameFault;
 use assembly_tree::Assembly;
 use formed_assemblies::laws::what_is_denoted_is_formed;
-use il_lexer::types::Tokens;
+use il_lexer::types::{Spans, Tokens};
+use il_lexer::{spans_are_tokens, spans_of};
 use ilasm_grammar::productions::{DATA, MEMBER_SIZE};
 use ilasm_grammar::{Tree, one_derivation};
 use method_parts::laws::faultless_sources_are_whole;
@@ -55,13 +56,40 @@ pub fn elaborate(
     ensures faulty { (pos : Pos) (class : NameClass) (rule : ℕ) → HasNameFault source.now pos class rule →
         (result ≡ Err (Bad pos class rule)) ⊎ (result ≡ Err NoMemory) }
 {
+    spans_are_tokens();
+    let spans = spans_of(alloc, tokens.as_slice())?;
+    elaborate_spans(alloc, source, &spans, tree)
+}
+
+/// The same by the spans of the source's tokens.
+///
+/// # Errors
+///
+/// Those of `elaborate`.
+pub fn elaborate_spans(
+    alloc: Global,
+    source: &[u8],
+    spans: &Spans,
+    tree: &Tree,
+) -> Result<Assembly, NameFault>
+    requires short { length source.now ≤ 2 ^ 27 }
+    requires few { length spans.now ≤ 2 ^ 24 }
+    requires lexes { Lexes source.now (all_placed source.now spans.now) }
+    requires derives { IsTreeOf (all_placed source.now spans.now) tree.now }
+    ensures assembly { IfOk result (Denotes source.now) }
+    ensures formed { IfOk result (λ a. IsTrue (is_well_formed a)) }
+    ensures cause { IfErr result (IsCause source.now) }
+    ensures denoted { (a : Assembly) → Denotes source.now a → (result ≡ Ok a) ⊎ (result ≡ Err NoMemory) }
+    ensures faulty { (pos : Pos) (class : NameClass) (rule : ℕ) → HasNameFault source.now pos class rule →
+        (result ≡ Err (Bad pos class rule)) ⊎ (result ≡ Err NoMemory) }
+{
     derivations_are_forests();
     one_derivation();
     one_meaning();
     what_is_denoted_is_formed();
     let reader = Reader {
         source,
-        tokens: tokens.as_slice(),
+        spans: spans.as_slice(),
         nodes: tree.as_slice(),
     };
     read_source(alloc, &reader)
@@ -71,7 +99,7 @@ pub fn elaborate(
 fn read_source(alloc: Global, reader: &Reader) -> Result<Assembly, NameFault>
     requires reads { ReadsSome reader.now }
     requires short { length reader.now.source.now ≤ 2 ^ 27 }
-    requires few { length reader.now.tokens.now ≤ 2 ^ 24 }
+    requires few { length reader.now.spans.now ≤ 2 ^ 24 }
     requires few_nodes { length reader.now.nodes.now < 2 ^ 32 }
     ensures assembly { IfOk result (Denotes reader.now.source.now) }
     ensures cause { IfErr result (IsCause reader.now.source.now) }

@@ -19,5 +19,5 @@ pub mod name_fault;
 pub mod source_members;
 pub mod standing;
 
-pub use elaborating::elaborate;
+pub use elaborating::{elaborate, elaborate_spans};
 pub use name_fault::NameFault;

@@ -59,7 +59,7 @@ one_mark b bs lt some =
     (λ none. absurd (false≢true (sym some ∙ none)))
     (marked b (get_or MARKS b 0) bs) (below marks_agree 256 b all_marks_agree lt)
 
--- a broken rule, by its number
+-- whether rule 5 is broken
 abbrev breaks_fifth : Found → Bool
 breaks_fifth (Ok l) = false
 breaks_fifth (Err n) = nat_eq n 5

@@ -1,6 +1,6 @@
 -- Places move on with the bytes.
-use Rattle.std.proofs.Common.{◌≡◌, ℕ, zero, suc, ◌+◌, ◌-◌, ◌≤◌, Bool, true, false, cond, nat_eq, List, [], ◌∷◌, ◌++◌, length, take, drop, refl, ap, sym, ◌∙◌, arith}
-use Rattle.std.proofs.lemmas.List.{length-take-le}
+use Rattle.std.proofs.Common.{◌≡◌, ℕ, zero, suc, ◌+◌, ◌-◌, ◌≤◌, Bool, true, false, cond, nat_eq, List, [], ◌∷◌, ◌++◌, length, take, drop, min, refl, ap, sym, ◌∙◌, arith}
+use Rattle.std.proofs.lemmas.List.{length-take-le, take_min}
 use Rattle.il_base.specs.declared.pos.Pos.{Pos}
 use Rattle.il_lexer.specs.Lexing.{next_place, place_after, place_of}
 
@@ -32,10 +32,6 @@ next_line : (b : Bool) (p q : Pos) (n : ℕ) → p.line ≤ n → q.line ≤ n �
 next_line true p q n left right = left
 next_line false p q n left right = right
 
-next_col : (b : Bool) (p q : Pos) (n : ℕ) → p.col ≤ n → q.col ≤ n → (cond {A = Pos} b p q).col ≤ n
-next_col true p q n left right = left
-next_col false p q n left right = right
-
 line_bounded : (bs : List ℕ) (p : Pos) → (place_after p bs).line ≤ p.line + length bs
 line_bounded [] p = omega arith
 line_bounded (x ∷ bs) p =
@@ -45,16 +41,7 @@ line_bounded (x ∷ bs) p =
     let more : (place_after (next_place p x) bs).line ≤ (next_place p x).line + length bs = line_bounded bs (next_place p x) in
     omega arith
 
-col_bounded : (bs : List ℕ) (p : Pos) → (place_after p bs).col ≤ p.col + length bs
-col_bounded [] p = omega arith
-col_bounded (x ∷ bs) p =
-    let one : (next_place p x).col ≤ p.col + 1 =
-    next_col (nat_eq x 10) (record { line = p.line + 1; col = 1 }) (record { line = p.line; col = p.col + 1 }) (p.col + 1)
-    (omega arith) (omega arith) in
-    let more : (place_after (next_place p x) bs).col ≤ (next_place p x).col + length bs = col_bounded bs (next_place p x) in
-    omega arith
-
--- no place has a greater line or column than there are bytes before it, and one
+-- no place has a greater line than there are bytes before it, and one
 pub place-line : (source : List ℕ) (at : ℕ) → at ≤ length source → (place_of source at).line ≤ at + 1
 unfolding place_of
 place-line source at le =
@@ -63,10 +50,7 @@ place-line source at le =
     let len : length (take at source) ≡ at = length-take-le at source le in
     omega arith
 
-pub place-col : (source : List ℕ) (at : ℕ) → at ≤ length source → (place_of source at).col ≤ at + 1
+-- behind the last byte there is only the end
+pub place-within : (source : List ℕ) (at : ℕ) → place_of source (min at (length source)) ≡ place_of source at
 unfolding place_of
-place-col source at le =
-    let b : (place_after (record { line = 1; col = 1 }) (take at source)).col ≤ 1 + length (take at source) =
-    col_bounded (take at source) (record { line = 1; col = 1 }) in
-    let len : length (take at source) ≡ at = length-take-le at source le in
-    omega arith
+place-within source at = ap (place_after (record { line = 1; col = 1 })) (take_min at source)

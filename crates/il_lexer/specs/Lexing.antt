@@ -1,5 +1,5 @@
 -- What it is that a source lexes into tokens, and what its lexical fault is (II.5).
-use Rattle.std.specs.Prelude.{ℕ, ◌+◌, ◌-◌, ◌≡◌, ◌<◌, ◌≤◌, ◌^◌, max, Bool, not, ◌==◌, ◌&&◌, ◌||◌, ◌⊎◌, if◌then◌else◌, List, [], ◌∷◌, length, take, drop, Result, Ok, Err, IsUtf8, ⊤}
+use Rattle.std.specs.Prelude.{ℕ, ◌+◌, ◌-◌, ◌≡◌, ◌<◌, ◌≤◌, ◌^◌, max, Bool, not, ◌==◌, ◌&&◌, ◌||◌, ◌⊎◌, if◌then◌else◌, List, [], ◌∷◌, length, map, take, drop, Result, Ok, Err, IsUtf8, ⊤}
 use Rattle.std.specs.Str.Lossy.{utf8_valid_len}
 use Rattle.il_base.specs.declared.pos.Pos.{Pos}
 use Rattle.il_lexer.specs.Classes.{first_is}
@@ -10,6 +10,7 @@ use Rattle.il_lexer.specs.Tokens.{token_at}
 use Rattle.il_lexer.specs.declared.types.LexFault.{LexFault}
 use Rattle.il_lexer.specs.declared.types.LexFault.TheVariants.{Bad, NoMemory}
 use Rattle.il_lexer.specs.declared.types.Lexeme.{Lexeme}
+use Rattle.il_lexer.specs.declared.types.Span.{Span}
 use Rattle.il_lexer.specs.declared.types.Token.{Token}
 use Rattle.il_lexer.specs.declared.types.TokenKind.{TokenKind}
 use Rattle.il_lexer.specs.declared.types.TokenKind.TheVariants.{Word}
@@ -55,6 +56,18 @@ after_gap source at = at + gap (drop at source)
 -- the lexeme at `at`, as a token
 abbrev pub token_of : List ℕ → ℕ → Lexeme → Token
 token_of source at l = record { kind = l.kind; start = at; end = at + l.length; pos = place_of source at }
+
+-- what a token spans
+abbrev pub span_of : Token → Span
+span_of t = record { kind = t.kind; start = t.start; end = t.end }
+
+-- a span of the source, as a token
+abbrev pub placed : List ℕ → Span → Token
+placed source s = record { kind = s.kind; start = s.start; end = s.end; pos = place_of source s.start }
+
+-- the tokens that have these spans
+abbrev pub all_placed : List ℕ → List Span → List Token
+all_placed source spans = map (placed source) spans
 
 -- from `at` on there are gaps and these tokens in turn, up to `reached`
 pub data LexesFrom (source : List ℕ) : ℕ → List Token → ℕ → Type 0 where
@@ -135,9 +148,8 @@ IfBad (Bad pos rule) P = P pos rule
 IfBad NoMemory P = ⊤
 
 -- what the scan knows behind some tokens
-pub record Scanned (source : List ℕ) (tokens : List Token) (at : ℕ) (here : Pos) (open_brackets : ℕ) : Type 0 where
+pub record Scanned (source : List ℕ) (tokens : List Token) (at : ℕ) (open_brackets : ℕ) : Type 0 where
   pub within : at ≤ length source
   pub front : LexesTo source tokens at
   pub limits : WithinLimits tokens
-  pub place : here ≡ place_of source at
   pub depth : open_brackets ≡ depth_from 0 tokens

@@ -90,7 +90,7 @@ pub fn gap(rest: &[u8]) -> usize
     run_of(&GapPiece, rest).bytes
 }
 
-// The same in a function of its own: few gaps are long, and without it the tokens' loop is shorter.
+// The same in a function of its own, so that the tokens' loop stays short: few gaps are long.
 #[inline(never)]
 fn long_gap(rest: &[u8]) -> usize
     ensures value { result ≡ gap rest.now }

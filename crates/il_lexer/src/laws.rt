@@ -1,6 +1,6 @@
 //! What follows of the definitions: a law each, as the contract of a function.
 
-ghost use Rattle.il_lexer.specs.Laws.{OneOutcome, WordsAreTokens};
+ghost use Rattle.il_lexer.specs.Laws.{OneOutcome, SpansAreTokens, WordsAreTokens};
 ghost use Rattle.il_lexer.specs.Longest.{LongestSpelling, LongestWhereItEnds};
 ghost use Rattle.il_lexer.specs.LongestGap.{GapIsLongest};
 ghost use Rattle.il_lexer.specs.Unplaced.{ReadsAsItLexes, PrintedReads};
@@ -9,6 +9,12 @@ ghost use Rattle.il_lexer.specs.Unplaced.{ReadsAsItLexes, PrintedReads};
 /// has one at most. So `tokens` answers the only list or the only fault that there is.
 pub fn lexes_in_one_way()
     ensures { OneOutcome }
+{}
+
+/// The tokens that a source lexes into are those that have their spans, and spans are those of their tokens. So `spans`
+/// answers the only list that there is, too.
+pub fn spans_are_tokens()
+    ensures { SpansAreTokens }
 {}
 
 /// Each word of `WORDS`, alone, is a token whole: the word with its number.

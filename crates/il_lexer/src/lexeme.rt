@@ -314,7 +314,7 @@ fn doubled_token(byte: u8, one: u16, two: u16, rest: &[u8]) -> Result<Lexeme, u8
     }
 }
 
-// The number in `WORDS` of each mark of one byte that begins no longer token, and 0 for all other bytes: `{ } ) ] < > , + & *`.
+// The number in `WORDS` of each of the marks `{ } ) ] < > , + & *`, which begin no longer token, and 0 for all other bytes.
 static MARKS: [u16; 256] = [
     0, 0, 0, 0, 0, 0, 0, 0, 0, 0, 0, 0, 0, 0, 0, 0, 0, 0, 0, 0, 0, 0, 0, 0, 0, 0, 0, 0, 0, 0, 0, 0,
     0, 0, 0, 0, 0, 0, 2, 0, 0, 4, 5, 6, 7, 0, 0, 0, 0, 0, 0, 0, 0, 0, 0, 0, 0, 0, 0, 0, 63, 0, 65,

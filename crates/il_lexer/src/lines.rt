@@ -70,3 +70,28 @@ pub fn place_on(source: &[u8], line: &mut Line, to: usize) -> Pos
         col: (to - line.start) as u32 + 1,
     }
 }
+
+/// The place of the byte at `to`, to whose line `line` goes on or, where it stands before that, goes from the first line. Behind
+/// the source's last byte there is only the source's end.
+pub fn place_from(source: &[u8], line: &mut Line, to: usize) -> Pos
+    requires short { length source.now ≤ 2 ^ 27 }
+    requires here { IsLine source.now line.old }
+    ensures value { result ≡ place_of source.now to }
+    ensures is { IsLine source.now line.new }
+{
+    let within = to.min(source.len());
+    if within < line.start {
+        *line = first_line(source);
+    }
+    place_on(source, line, within)
+}
+
+/// The place of the byte at `at`, or of the source's end behind its last one. It asks at most 2^27 bytes. It walks over the source
+/// from its front: it is for a fault, not for each token.
+pub fn place_of(source: &[u8], at: usize) -> Pos
+    requires { length source.now ≤ 2 ^ 27 }
+    ensures { result ≡ place_of source.now at }
+{
+    let mut line = first_line(source);
+    place_from(source, &mut line, at)
+}

@@ -1,17 +1,18 @@
 //! The tokens of a whole source.
 
-ghost use Rattle.std.specs.Prelude.{◌≡◌, ◌+◌, ◌-◌, ◌<◌, ◌≤◌, ◌^◌, length, drop, IsUtf8, MatchResult, MatchOption, ℕ, nat_le, true, false};
+ghost use Rattle.std.specs.Prelude.{◌≡◌, ◌-◌, ◌<◌, ◌≤◌, ◌^◌, length, drop, map, IsUtf8, IfOk, MatchResult, MatchOption, ℕ, nat_le, true, false};
 ghost use Rattle.std.specs.Str.Lossy.{utf8_valid_len};
-ghost use Rattle.il_lexer.specs.Lexing.{place_after, place_of, mark_length, depth_after, is_opening, is_closing, IsAccepted, HasFault, IfBad, BreaksAt};
+ghost use Rattle.il_lexer.specs.Lexing.{all_placed, place_of, mark_length, span_of, depth_after, is_opening, is_closing, IsAccepted, HasFault, IfBad, BreaksAt};
+ghost use Rattle.il_lexer.specs.declared.types.LexFault.TheVariants.{Bad};
 
 use crate::bytes::{behind, stands_at};
 use crate::gaps::past_gap;
 use crate::lexeme::token_at;
-use crate::lines::{first_line, place_on};
+use crate::lines::{first_line, place_from, place_of};
 use crate::searches::{Kind, before};
-use crate::types::{LexFault, Token, TokenKind, Tokens};
+use crate::types::{LexFault, Span, Spans, Token, TokenKind, Tokens};
 use crate::word;
-use il_base::Pos;
+use il_base::{NoMemory, Pos};
 use std::alloc::Global;
 
 /// The most tokens that a source may have.
@@ -19,45 +20,6 @@ const MOST_TOKENS: usize = 16_777_216;
 
 /// The most brackets that may be open behind a token.
 const DEEPEST: u32 = 400;
-
-// The place behind some bytes that begin at `place`.
-fn place_after(place: Pos, bytes: &[u8]) -> Pos
-    requires lines { place.line + length bytes.now < 2 ^ 32 }
-    requires columns { place.col + length bytes.now + 1 < 2 ^ 32 }
-    ensures { result ≡ place_after place bytes.now }
-{
-    let mut line = place.line;
-    let mut col = place.col;
-    for b in bytes {
-        if *b == b'\n' {
-            line += 1;
-            col = 1;
-        } else {
-            col += 1;
-        }
-    }
-    Pos { line, col }
-}
-
-// The place at `to`, from the place at `from`.
-fn place_at(source: &[u8], place: Pos, from: usize, to: usize) -> Pos
-    requires short { length source.now ≤ 2 ^ 27 }
-    requires order { from ≤ to }
-    requires within { to ≤ length source.now }
-    requires here { place ≡ place_of source.now from }
-    ensures { result ≡ place_of source.now to }
-{
-    place_after(place, &source[from..to])
-}
-
-// The place of the first byte.
-#[tactic(auto, unfolding(crate::specs::Lexing::place_of))]
-fn first_place(source: &[u8]) -> Pos
-    ensures { result ≡ place_of source.now 0 }
-{
-    let _bytes = source;
-    Pos { line: 1, col: 1 }
-}
 
 // The bytes of a byte order mark at the very front.
 #[tactic(auto, unfolding(crate::specs::Lexing::mark_length))]
@@ -134,40 +96,50 @@ fn depth_within(depth: u32, kind: TokenKind) -> Option<u32>
     if after > DEEPEST { None } else { Some(after) }
 }
 
-// The tokens of a source that is UTF-8, or the first place where it breaks a rule.
+// The fault by a rule that is broken at byte `at`.
+#[cold]
 #[inline(never)]
-fn scan(alloc: Global, source: &[u8]) -> Result<Tokens, LexFault>
+fn fault_at(source: &[u8], at: usize, rule: u8) -> LexFault
+    requires { length source.now ≤ 2 ^ 27 }
+    ensures { result ≡ Bad (place_of source.now at) rule }
+{
+    LexFault::Bad {
+        pos: place_of(source, at),
+        rule,
+    }
+}
+
+// The spans of the tokens of a source that is UTF-8, or the first place where it breaks a rule.
+#[inline(never)]
+fn scan(alloc: Global, source: &[u8]) -> Result<Spans, LexFault>
     requires short { length source.now ≤ 2 ^ 27 }
     requires utf8 { IsUtf8 source.now }
-    ensures { MatchResult result (λ t. IsAccepted source.now t) (λ e. IfBad e (λ pos rule. BreaksAt source.now pos rule)) }
+    ensures { MatchResult result (λ spans. IsAccepted source.now (all_placed source.now spans)) (λ e. IfBad e (λ pos rule. BreaksAt source.now pos rule)) }
 {
-    let mut tokens = Tokens::with_capacity(alloc, source.len() / 4 + 16)?;
+    let mut spans = Spans::with_capacity(alloc, source.len() / 4 + 16)?;
     let mut at = mark_length(source);
-    let mut line = first_line(source);
     let mut depth: u32 = 0;
     loop {
         let start = past_gap(source, at);
-        let pos = place_on(source, &mut line, start);
         if start == source.len() {
-            return Ok(tokens);
+            return Ok(spans);
         }
         let found = match token_at(behind(source, start)) {
             Ok(found) => found,
-            Err(rule) => return Err(LexFault::Bad { pos, rule }),
+            Err(rule) => return Err(fault_at(source, start, rule)),
         };
-        if tokens.len() >= MOST_TOKENS {
-            return Err(LexFault::Bad { pos, rule: 6 });
+        if spans.len() >= MOST_TOKENS {
+            return Err(fault_at(source, start, 6));
         }
         let Some(after) = depth_within(depth, found.kind) else {
-            return Err(LexFault::Bad { pos, rule: 7 });
+            return Err(fault_at(source, start, 7));
         };
         depth = after;
         at = start + found.length;
-        tokens.push_long(Token {
+        spans.push_long(Span {
             kind: found.kind,
             start: start as u32,
             end: at as u32,
-            pos,
         })?;
     }
 }
@@ -200,7 +172,7 @@ fn broken_at(source: &[u8]) -> Option<Pos>
     }
     match str::from_utf8(source) {
         Ok(_) => None,
-        Err(error) => Some(place_at(source, first_place(source), 0, error.valid_up_to())),
+        Err(error) => Some(place_of(source, error.valid_up_to())),
     }
 }
 
@@ -209,8 +181,18 @@ pub fn end_place(source: &[u8]) -> Pos
     requires { length source.now ≤ 2 ^ 27 }
     ensures { result ≡ place_of source.now (length source.now) }
 {
-    let mut line = first_line(source);
-    place_on(source, &mut line, source.len())
+    place_of(source, source.len())
+}
+
+/// The spans of the tokens of `source`, which has at most 2^27 bytes, or its lexical fault, as `tokens` answers it.
+pub fn spans(alloc: Global, source: &[u8]) -> Result<Spans, LexFault>
+    requires { length source.now ≤ 2 ^ 27 }
+    ensures { MatchResult result (λ spans. IsAccepted source.now (all_placed source.now spans)) (λ e. IfBad e (λ pos rule. HasFault source.now pos rule)) }
+{
+    if let Some(pos) = broken_at(source) {
+        return Err(LexFault::Bad { pos, rule: 1 });
+    }
+    scan(alloc, source)
 }
 
 /// The tokens of `source`, which has at most 2^27 bytes, or its lexical fault: rule L1 at the first byte of no whole
@@ -220,8 +202,40 @@ pub fn tokens(alloc: Global, source: &[u8]) -> Result<Tokens, LexFault>
     requires { length source.now ≤ 2 ^ 27 }
     ensures { MatchResult result (λ t. IsAccepted source.now t) (λ e. IfBad e (λ pos rule. HasFault source.now pos rule)) }
 {
-    if let Some(pos) = broken_at(source) {
-        return Err(LexFault::Bad { pos, rule: 1 });
+    let spans = spans(alloc, source)?;
+    let tokens = all_placed(alloc, source, spans.as_slice())?;
+    Ok(tokens)
+}
+
+// The tokens that have these spans in a source.
+fn all_placed(alloc: Global, source: &[u8], spans: &[Span]) -> Result<Tokens, NoMemory>
+    requires { length source.now ≤ 2 ^ 27 }
+    ensures { IfOk result (λ tokens. tokens ≡ all_placed source.now spans.now) }
+{
+    let mut tokens = Tokens::with_capacity(alloc, spans.len())?;
+    let mut line = first_line(source);
+    for span in spans {
+        tokens.push_long(Token {
+            kind: span.kind,
+            start: span.start,
+            end: span.end,
+            pos: place_from(source, &mut line, span.start as usize),
+        })?;
     }
-    scan(alloc, source)
+    Ok(tokens)
+}
+
+/// The spans of tokens.
+pub fn spans_of(alloc: Global, tokens: &[Token]) -> Result<Spans, NoMemory>
+    ensures { IfOk result (λ spans. spans ≡ map span_of tokens.now) }
+{
+    let mut spans = Spans::with_capacity(alloc, tokens.len())?;
+    for token in tokens {
+        spans.push_long(Span {
+            kind: token.kind,
+            start: token.start,
+            end: token.end,
+        })?;
+    }
+    Ok(spans)
 }

@@ -49,6 +49,17 @@ pub struct Token {
 /// The tokens of a source, in its order.
 pub type Tokens = Items<Token>;
 
+/// A token without the place of its first byte: its kind, and the bytes from `start` up to `end`.
+#[derive(Debug, Clone, Copy, PartialEq, Eq, Drop)]
+pub struct Span {
+    pub kind: TokenKind,
+    pub start: u32,
+    pub end: u32,
+}
+
+/// The spans of a source's tokens, in its order.
+pub type Spans = Items<Span>;
+
 /// Why a source doesn't lex.
 #[derive(Debug, Drop, Error)]
 pub enum LexFault {

@@ -11,3 +11,4 @@ pub mod NodesLemmas
 pub mod PlaceLemmas
 pub mod StepLemmas
 pub mod LawLemmas
+mod SpanLemmas

@@ -2,7 +2,9 @@
 use Rattle.std.specs.Prelude.{◌≡◌, ℕ, suc, ◌<◌, ◌≤◌, ◌==◌, List, [], ◌∷◌, map, drop, Option, Some, None, Bool, slice_get, if◌then◌else◌}
 use Rattle.std.specs.List.{list_any}
 use Rattle.il_base.specs.declared.pos.Pos.{Pos}
+use Rattle.il_lexer.specs.declared.types.Span.{Span}
 use Rattle.il_lexer.specs.declared.types.Token.{Token}
+use Rattle.il_lexer.specs.declared.types.TokenKind.{TokenKind}
 use Rattle.ilasm_grammar.specs.declared.terminals.TheConstants.{END}
 use Rattle.ilasm_grammar.specs.Terminals.{terminal_of}
 use Rattle.ilasm_grammar.specs.declared.nonterminals.TheConstants.{SOURCE}
@@ -28,6 +30,10 @@ use Rattle.ilasm_grammar.specs.Ilasm.{ilasm, ilasm_sets, picked, IsNoRule}
 abbrev pub terminals_of : List Token → List ℕ
 terminals_of tokens = map (λ (token : Token). terminal_of token.kind) tokens
 
+-- the terminals of the tokens that have these spans
+abbrev pub terminals_of_spans : List Span → List ℕ
+terminals_of_spans spans = map (λ (span : Span). terminal_of span.kind) spans
+
 -- the tokens are a source, and this is its derivation
 abbrev pub IsTreeOf : List Token → List TreeNode → Type 0
 IsTreeOf tokens tree = Derives ilasm 0 (Nonterminal SOURCE ∷ []) (terminals_of tokens) tree
@@ -45,10 +51,14 @@ position_of (Some token) end = token.pos
 unfoldable pub is_left_out : ℕ → Bool
 is_left_out terminal = list_any (λ (x : ℕ). x == terminal) LEFT_OUT
 
--- the rule of a fault at this token: 2 where it is a word that is left out of the language, else 1
+-- the rule of a fault at a token of this kind: 2 where it is a word that is left out of the language, else 1
+abbrev pub rule_by : TokenKind → ℕ
+rule_by kind = if is_left_out (terminal_of kind) then 2 else 1
+
+-- the rule of a fault at this token, or behind the last one
 abbrev pub rule_at : Option Token → ℕ
 rule_at None = 1
-rule_at (Some token) = if is_left_out (terminal_of token.kind) then 2 else 1
+rule_at (Some token) = rule_by token.kind
 
 -- a fault of the tokens, with its position and rule
 pub record IsSyntaxFault (tokens : List Token) (end : Pos) (pos : Pos) (rule : ℕ) : Type 0 where
@@ -116,3 +126,8 @@ IsTurn terminal at symbols nodes symbols' nodes' turn =
 abbrev pub IsOutcome : List ℕ → Outcome → Type 0
 IsOutcome kinds (Whole nodes) = Leftmost ilasm 0 (Nonterminal SOURCE ∷ []) kinds nodes
 IsOutcome kinds (Stops at) = IsFaultAt ilasm SOURCE kinds at
+
+-- what the whole parser answers: the derivation of the terminals, or the number of the token at fault
+abbrev pub IsParsed : List ℕ → Outcome → Type 0
+IsParsed kinds (Whole tree) = Derives ilasm 0 (Nonterminal SOURCE ∷ []) kinds tree
+IsParsed kinds (Stops at) = IsFaultAt ilasm SOURCE kinds at

@@ -1,13 +1,14 @@
-ghost use Rattle.std.specs.Prelude.{◌≡◌, ◌==◌, Some, slice_get};
+ghost use Rattle.std.specs.Prelude.{◌≡◌, ◌==◌, ◌≤◌, ◌^◌, length, slice_get};
 ghost use Rattle.std.specs.List.{list_any};
-ghost use Rattle.ilasm_grammar.specs.Parsing.{is_left_out, position_of, rule_at};
+ghost use Rattle.il_lexer.specs.Lexing.{all_placed, place_of};
+ghost use Rattle.ilasm_grammar.specs.Parsing.{is_left_out, position_of, rule_at, rule_by};
 ghost use Rattle.ilasm_grammar.specs.declared.fault.SyntaxFault.TheVariants.{Bad, NoMemory};
 
 use crate::terminals;
 use crate::terminals::terminal_of;
 use il_base::Pos;
-use il_lexer::types::Token;
-use il_lexer::word;
+use il_lexer::types::{Span, Token, TokenKind};
+use il_lexer::{end_place, place_of, word};
 use thiserror::Error;
 
 /// Why tokens have no derivation.
@@ -61,6 +62,23 @@ pub static LEFT_OUT: [u16; 22] = [
     terminals::WORDS + word::UNMANAGEDEXP,
 ];
 
+/// The syntax fault at token `at` of those that have these spans in a source, or at the source's end behind the last.
+pub(crate) fn fault_in(source: &[u8], spans: &[Span], at: usize) -> SyntaxFault
+    requires { length source.now ≤ 2 ^ 27 }
+    ensures { result ≡ Bad (position_of (slice_get (all_placed source.now spans.now) at) (place_of source.now (length source.now))) (rule_at (slice_get (all_placed source.now spans.now) at)) }
+{
+    match spans.get(at) {
+        None => SyntaxFault::Bad {
+            pos: end_place(source),
+            rule: 1,
+        },
+        Some(span) => SyntaxFault::Bad {
+            pos: place_of(source, span.start as usize),
+            rule: rule_of(span.kind),
+        },
+    }
+}
+
 /// The syntax fault of `tokens` at token `at`, or behind the last at `end`.
 pub(crate) fn fault_at(tokens: &[Token], end: Pos, at: usize) -> SyntaxFault
     ensures { result ≡ Bad (position_of (slice_get tokens.now at) end) (rule_at (slice_get tokens.now at)) }
@@ -69,16 +87,16 @@ pub(crate) fn fault_at(tokens: &[Token], end: Pos, at: usize) -> SyntaxFault
         None => SyntaxFault::Bad { pos: end, rule: 1 },
         Some(token) => SyntaxFault::Bad {
             pos: token.pos,
-            rule: rule_of(token),
+            rule: rule_of(token.kind),
         },
     }
 }
 
-/// The rule of a fault at this token.
-fn rule_of(token: &Token) -> u8
-    ensures { result ≡ rule_at (Some token.now) }
+/// The rule of a fault at a token of this kind.
+fn rule_of(kind: TokenKind) -> u8
+    ensures { result ≡ rule_by kind }
 {
-    let terminal = terminal_of(token.kind);
+    let terminal = terminal_of(kind);
     if is_left_out(terminal) { 2 } else { 1 }
 }
 

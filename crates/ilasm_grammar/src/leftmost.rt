@@ -1,6 +1,6 @@
 ghost use Rattle.std.specs.Prelude.{◌≡◌, ◌<◌, ◌≤◌, ◌^◌, [], ◌∷◌, ◌++◌, length, drop, IfOk, OnOk};
 ghost use Rattle.ilasm_grammar.specs.Choice.{next_of};
-ghost use Rattle.ilasm_grammar.specs.Parsing.{terminals_of, HasApplied, IsOutcome, IsStep, IsTurn, IsUnderWay};
+ghost use Rattle.ilasm_grammar.specs.Parsing.{terminals_of_spans, HasApplied, IsOutcome, IsStep, IsTurn, IsUnderWay};
 ghost use Rattle.ilasm_grammar.specs.Stacked.{symbol_in, symbols_at, IsCellOf};
 ghost use Rattle.ilasm_grammar.specs.declared.symbol.Symbol.TheVariants.{Nonterminal};
 ghost use Rattle.ilasm_grammar.specs.declared.tree.TreeNode.TheVariants.{Branch};
@@ -10,10 +10,10 @@ use crate::table::{CELLS, choice_in, fallback_choice, inner_of, own_cell};
 use crate::terminals::{END, terminal_of};
 use crate::{Symbol, Tree, TreeNode};
 use il_base::{Items, NoMemory};
-use il_lexer::types::Token;
+use il_lexer::types::Span;
 use std::alloc::Global;
 
-/// What the tokens are: the nodes of their derivation, without counts, or the token at fault.
+/// What the tokens are: the nodes of their derivation, counted by `parsed`, not yet by `derive`, or the token at fault.
 #[derive(Drop)]
 pub(crate) enum Outcome {
     /// The nodes in preorder.
@@ -49,34 +49,34 @@ const START: usize = 886;
 
 /// Derives the tokens from the top: the nodes are made in preorder, the next token picking each production.
 #[inline(never)]
-pub(crate) fn derive(alloc: Global, tokens: &[Token]) -> Result<Outcome, NoMemory>
-    requires { length tokens.now ≤ 2 ^ 24 }
-    ensures { IfOk result (IsOutcome (terminals_of tokens.now)) }
+pub(crate) fn derive(alloc: Global, spans: &[Span]) -> Result<Outcome, NoMemory>
+    requires { length spans.now ≤ 2 ^ 24 }
+    ensures { IfOk result (IsOutcome (terminals_of_spans spans.now)) }
 {
-    let mut nodes = Tree::with_capacity(alloc, 7 * tokens.len())?;
+    let mut nodes = Tree::with_capacity(alloc, 7 * spans.len())?;
     let mut next = START;
     let mut behind = Items::new(alloc);
     let mut at = 0;
     loop {
         if next >= NOWHERE {
-            return Ok(ended(tokens, nodes, at));
+            return Ok(ended(spans, nodes, at));
         }
-        let terminal = terminal_at(tokens, at);
+        let terminal = terminal_at(spans, at);
         match advance(&mut next, &mut behind, &mut nodes, terminal, at as u32)? {
             Turn::Takes => at += 1,
-            Turn::Ends => return Ok(ended(tokens, nodes, at)),
+            Turn::Ends => return Ok(ended(spans, nodes, at)),
             Turn::Stops => return Ok(Outcome::Stops(at)),
         }
     }
 }
 
 /// What the tokens are if no symbols are left after the first `at` of them.
-fn ended(tokens: &[Token], nodes: Tree, at: usize) -> Outcome
-    requires within { at ≤ length tokens.now }
-    requires under { IsUnderWay (terminals_of tokens.now) at [] nodes }
-    ensures { IsOutcome (terminals_of tokens.now) result }
+fn ended(spans: &[Span], nodes: Tree, at: usize) -> Outcome
+    requires within { at ≤ length spans.now }
+    requires under { IsUnderWay (terminals_of_spans spans.now) at [] nodes }
+    ensures { IsOutcome (terminals_of_spans spans.now) result }
 {
-    if at == tokens.len() {
+    if at == spans.len() {
         Outcome::Whole(nodes)
     } else {
         Outcome::Stops(at)
@@ -84,13 +84,13 @@ fn ended(tokens: &[Token], nodes: Tree, at: usize) -> Outcome
 }
 
 /// The terminal of the token at a place, or the end.
-fn terminal_at(tokens: &[Token], at: usize) -> u16
-    ensures is { result ≡ next_of END (drop at (terminals_of tokens.now)) }
-    ensures low { at < length tokens.now → result < END }
+fn terminal_at(spans: &[Span], at: usize) -> u16
+    ensures is { result ≡ next_of END (drop at (terminals_of_spans spans.now)) }
+    ensures low { at < length spans.now → result < END }
     ensures fits { result ≤ 410 }
 {
-    match tokens.get(at) {
-        Some(token) => terminal_of(token.kind),
+    match spans.get(at) {
+        Some(span) => terminal_of(span.kind),
         None => END,
     }
 }

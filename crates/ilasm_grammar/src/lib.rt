@@ -9,6 +9,7 @@ mod fault;
 mod laws;
 mod leftmost;
 pub mod nonterminals;
+mod outcome;
 mod parser;
 mod places;
 pub mod productions;
@@ -21,6 +22,6 @@ mod tree;
 
 pub use fault::{LEFT_OUT, SyntaxFault};
 pub use laws::{branch_opens, one_derivation, one_fault, table_facts};
-pub use parser::parse;
+pub use parser::{parse, parse_spans};
 pub use symbol::Symbol;
 pub use tree::{Tree, TreeNode};

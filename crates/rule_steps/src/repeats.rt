@@ -49,13 +49,13 @@ pub fn entry_twice(reader: &Reader) -> Option<u32>
 /// The end of a source that has no `.assembly`, as the number of its tokens.
 pub fn without_assembly(reader: &Reader) -> Option<u32>
     requires forest { IsForest reader.now.nodes.now }
-    requires few { length reader.now.tokens.now < 2 ^ 32 }
+    requires few { length reader.now.spans.now < 2 ^ 32 }
     ensures { (s : Source) → Reads reader.now s → result ≡ least (assembly_undeclared s) }
 {
     if has(reader.nodes, productions::ASSEMBLY_ASSEMBLY_ATTR_STAR) {
         None
     } else {
-        Some(reader.tokens.len() as u32)
+        Some(reader.spans.len() as u32)
     }
 }
 

@@ -16,7 +16,7 @@ use crate::not_declared::not_declared;
 use crate::out_of_bounds::out_of_bounds;
 use crate::passes::pass_fault;
 use il_base::{NoMemory, Pos};
-use il_lexer::end_place;
+use il_lexer::{end_place, place_of};
 use source_model::{NameClass, the_first_is_least};
 use source_reading::reader::Reader;
 use source_rules::merging::Breach;
@@ -46,7 +46,7 @@ struct Classed {
 pub fn first_fault(alloc: Global, reader: &Reader) -> Result<Option<Fault>, NoMemory>
     requires forest { IsForest reader.now.nodes.now }
     requires short { length reader.now.source.now ≤ 2 ^ 27 }
-    requires few { length reader.now.tokens.now ≤ 2 ^ 24 }
+    requires few { length reader.now.spans.now ≤ 2 ^ 24 }
     requires few_nodes { length reader.now.nodes.now < 2 ^ 32 }
     ensures { (s : Source) → Reads reader.now s → IfOk result (λ f. IsFault s f) }
 {
@@ -62,14 +62,14 @@ pub fn first_fault_by(
 ) -> Result<Option<Fault>, NoMemory>
     requires forest { IsForest reader.now.nodes.now }
     requires short { length reader.now.source.now ≤ 2 ^ 27 }
-    requires few { length reader.now.tokens.now ≤ 2 ^ 24 }
+    requires few { length reader.now.spans.now ≤ 2 ^ 24 }
     requires few_nodes { length reader.now.nodes.now < 2 ^ 32 }
     requires counted { IsCensusOf reader.now.nodes.now census }
     ensures { (s : Source) → Reads reader.now s → IfOk result (λ f. IsFault s f) }
 {
     match first_broken(alloc, reader, census)? {
         Some(first) => Ok(Some(Fault {
-            pos: place_of(reader, first.breach.token),
+            pos: token_place(reader, first.breach.token),
             class: first.class,
             rule: first.breach.rule,
         })),
@@ -78,12 +78,12 @@ pub fn first_fault_by(
 }
 
 // Where a token stands; with the number of tokens, the end of the source.
-fn place_of(reader: &Reader, token: u32) -> Pos
+fn token_place(reader: &Reader, token: u32) -> Pos
     requires { length reader.now.source.now ≤ 2 ^ 27 }
     ensures { (s : Source) → Reads reader.now s → result ≡ place_at s token }
 {
-    match reader.tokens.get(token as usize) {
-        Some(token) => token.pos,
+    match reader.spans.get(token as usize) {
+        Some(span) => place_of(reader.source, span.start as usize),
         None => end_place(reader.source),
     }
 }
@@ -91,7 +91,7 @@ fn place_of(reader: &Reader, token: u32) -> Pos
 // The first rule that is broken, with its class.
 fn first_broken(alloc: Global, reader: &Reader, census: Census) -> Result<Option<Classed>, NoMemory>
     requires forest { IsForest reader.now.nodes.now }
-    requires few { length reader.now.tokens.now < 2 ^ 32 }
+    requires few { length reader.now.spans.now < 2 ^ 32 }
     requires few_nodes { length reader.now.nodes.now < 2 ^ 32 }
     requires counted { IsCensusOf reader.now.nodes.now census }
     ensures { (s : Source) → Reads reader.now s → IfOk result (λ f. IsFirst s f) }
@@ -108,7 +108,7 @@ fn first_of_all(
     declared: &Declarations,
 ) -> Result<Option<Classed>, NoMemory>
     requires forest { IsForest reader.now.nodes.now }
-    requires few { length reader.now.tokens.now < 2 ^ 32 }
+    requires few { length reader.now.spans.now < 2 ^ 32 }
     requires few_nodes { length reader.now.nodes.now < 2 ^ 32 }
     ensures { (s : Source) → Reads reader.now s → AreDeclarations s declared.now → IfOk result (λ f. IsFirst s f) }
 {

@@ -53,7 +53,7 @@ pub fn not_declared(
     found: Option<u32>,
 ) -> Result<Option<Breach>, NoMemory>
     requires forest { IsForest reader.now.nodes.now }
-    requires few { length reader.now.tokens.now < 2 ^ 32 }
+    requires few { length reader.now.spans.now < 2 ^ 32 }
     requires few_nodes { length reader.now.nodes.now < 2 ^ 32 }
     ensures { (s : Source) → Reads reader.now s → AreDeclarations s declared.now → found ≡ least (broken_in_passes s) →
         IfOk result (λ b. any_broken b ≡ earliest (broken_n s)) }
@@ -69,7 +69,7 @@ fn undeclared(
     found: Option<u32>,
 ) -> Result<Undeclared, NoMemory>
     requires forest { IsForest reader.now.nodes.now }
-    requires few { length reader.now.tokens.now < 2 ^ 32 }
+    requires few { length reader.now.spans.now < 2 ^ 32 }
     requires few_nodes { length reader.now.nodes.now < 2 ^ 32 }
     ensures { (s : Source) → Reads reader.now s → AreDeclarations s declared.now → found ≡ least (broken_in_passes s) → IfOk result (AreUndeclared s) }
 {
@@ -86,7 +86,7 @@ fn other_undeclared(
     declared: &Declarations,
 ) -> Result<Undeclared, NoMemory>
     requires forest { IsForest reader.now.nodes.now }
-    requires few { length reader.now.tokens.now < 2 ^ 32 }
+    requires few { length reader.now.spans.now < 2 ^ 32 }
     requires few_nodes { length reader.now.nodes.now < 2 ^ 32 }
     ensures { (s : Source) → Reads reader.now s → AreDeclarations s declared.now → KeepsPasses s → IfOk result (AreUndeclared s) }
 {
@@ -127,7 +127,7 @@ fn each_undeclared(
     declared: &Declarations,
 ) -> Result<Undeclared, NoMemory>
     requires forest { IsForest reader.now.nodes.now }
-    requires few { length reader.now.tokens.now < 2 ^ 32 }
+    requires few { length reader.now.spans.now < 2 ^ 32 }
     requires few_nodes { length reader.now.nodes.now < 2 ^ 32 }
     ensures { (s : Source) → Reads reader.now s → AreDeclarations s declared.now → IfOk result (AreUndeclared s) }
 {

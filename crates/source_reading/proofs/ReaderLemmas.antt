@@ -1,7 +1,7 @@
 -- What a reader's tokens spell.
 use Rattle.std.proofs.Common.{◌≡◌, ℕ, zero, suc, ◌-◌, ◌⊎◌, inl, inr, List, [], ◌∷◌, ◌++◌, length, map, Option, None, Some, refl, ap, sym, subst, ◌∙◌, take_at}
 use Rattle.std.specs.Prelude.{IsUtf8, slice_get, option_map}
-use Rattle.il_lexer.specs.Lexing.{Lexes}
+use Rattle.il_lexer.specs.Lexing.{Lexes, all_placed}
 use Rattle.il_lexer.specs.Longest.{LongestSpelling}
 use Rattle.il_lexer.specs.Spelled.{IsSpelling}
 use Rattle.il_lexer.specs.Tokens.{lexeme}
@@ -60,6 +60,6 @@ name_is_utf8 longest reads s k w e lexes (inr is) =
 -- ---- the reader
 
 pub reader_spelling : (r : Reader) (s : Source) (k : ℕ) (w : List ℕ) → Reads r s →
-    ((tree : Forest) → w ≡ spelling (record { bytes = r.source.now; tokens = r.tokens.now; tree = tree }) k) → w ≡ spelling s k
+    ((tree : Forest) → w ≡ spelling (record { bytes = r.source.now; tokens = all_placed r.source.now r.spans.now; tree = tree }) k) → w ≡ spelling s k
 reader_spelling r s k w h value =
     value s.tree ∙ ap (λ ts. bytes_of r.source.now (slice_get ts k)) (sym h.tokens) ∙ ap (λ bs. bytes_of bs (slice_get s.tokens k)) (sym h.bytes)

@@ -16,16 +16,16 @@ use crate::narrowing::word_of;
 use crate::values::type_names::PlainId;
 use crate::values::{byte_lists, integers, spellings, type_names};
 use il_base::{Bytes, NoMemory, Text};
-use il_lexer::{Token, the_longest_spelling_is_taken, tokens_are_spellings};
+use il_lexer::{Span, the_longest_spelling_is_taken, tokens_are_spellings};
 use ilasm_grammar::TreeNode;
 use std::alloc::Global;
 use type_terms::TypeId;
 
-/// A source, its tokens and the nodes of its derivation.
+/// A source, the spans of its tokens and the nodes of its derivation.
 #[derive(Clone, Copy)]
 pub struct Reader<'a> {
     pub source: &'a [u8],
-    pub tokens: &'a [Token],
+    pub spans: &'a [Span],
     pub nodes: &'a [TreeNode],
 }
 
@@ -38,21 +38,21 @@ impl<'a> Reader<'a> {
     {
         the_longest_spelling_is_taken();
         tokens_are_spellings();
-        spellings::spelling(self.source, self.tokens, token as usize)
+        spellings::spelling(self.source, self.spans, token as usize)
     }
 
     /// The number of the word that a token is.
     pub fn word_at(&self, token: u32) -> Option<u16>
         ensures { (s : Source) → Reads self.now s → result ≡ word_at s token }
     {
-        spellings::word_at(self.tokens, token as usize)
+        spellings::word_at(self.spans, token as usize)
     }
 
     /// Whether a token is the word with this number.
     pub fn is_word(&self, word: u16, token: u32) -> bool
         ensures { (s : Source) → Reads self.now s → result ≡ is_word s word token }
     {
-        spellings::is_word(self.tokens, word, token as usize)
+        spellings::is_word(self.spans, word, token as usize)
     }
 
     /// The number that an INT spells, or None where it lies 2^64 or more from 0.

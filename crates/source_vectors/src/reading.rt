@@ -1,15 +1,15 @@
 //! A source, read from its bytes on: the assembly that it denotes, or its first fault.
 
 ghost use Rattle.std.specs.Prelude.{◌≤◌, ◌^◌, length};
-ghost use Rattle.il_lexer.specs.Lexing.{IsAccepted};
+ghost use Rattle.il_lexer.specs.Lexing.{IsAccepted, all_placed};
 
 use crate::fault::VectorFault;
 use assembly_tree::Assembly;
 use elaborate::{NameFault, elaborate};
 use il_base::Pos;
-use il_lexer::types::Tokens;
-use il_lexer::{LexFault, end_place, tokens};
-use ilasm_grammar::{SyntaxFault, parse};
+use il_lexer::types::Spans;
+use il_lexer::{LexFault, lexes_in_one_way, spans, tokens};
+use ilasm_grammar::{SyntaxFault, parse_spans};
 use source_model::NameClass;
 use std::alloc::Global;
 use std::fmt;
@@ -82,24 +82,25 @@ pub fn read(alloc: Global, source: &[u8], shown: Shown) -> Result<Reading, Vecto
     if source.len() > LIMIT {
         return Err(VectorFault::Unread);
     }
-    match tokens(alloc, source) {
-        Ok(tokens) => read_tokens(alloc, source, &tokens, shown),
+    match spans(alloc, source) {
+        Ok(spans) => read_spans(alloc, source, &spans, shown),
         Err(LexFault::Bad { pos, rule }) => Ok(breaks('L', rule, pos)),
         Err(LexFault::NoMemory) => Err(VectorFault::NoMemory),
     }
 }
 
-// Reads a source from its tokens on.
-fn read_tokens(
+// Reads a source from the spans of its tokens on: its derivation by them, as the assembler does, and the assembly by the tokens
+// with their places, so that both kinds of calls are tried.
+fn read_spans(
     alloc: Global,
     source: &[u8],
-    tokens: &Tokens,
+    spans: &Spans,
     shown: Shown,
 ) -> Result<Reading, VectorFault>
     requires short { length source.now ≤ 2 ^ 27 }
-    requires accepted { IsAccepted source.now tokens.now }
+    requires accepted { IsAccepted source.now (all_placed source.now spans.now) }
 {
-    let tree = match parse(alloc, tokens, end_place(source)) {
+    let tree = match parse_spans(alloc, source, spans) {
         Ok(tree) => tree,
         Err(SyntaxFault::Bad { pos, rule }) => return Ok(breaks('S', rule, pos)),
         Err(SyntaxFault::NoMemory) => return Err(VectorFault::NoMemory),
@@ -107,7 +108,11 @@ fn read_tokens(
     if shown == Shown::Derivation {
         return Ok(Reading::Derived);
     }
-    match elaborate(alloc, source, tokens, &tree) {
+    lexes_in_one_way();
+    let Ok(tokens) = tokens(alloc, source) else {
+        return Err(VectorFault::NoMemory);
+    };
+    match elaborate(alloc, source, &tokens, &tree) {
         Ok(assembly) => Ok(Reading::Assembly(assembly)),
         Err(NameFault::Bad { pos, class, rule }) => Ok(breaks(letter(class), rule, pos)),
         Err(NameFault::NoMemory) => Err(VectorFault::NoMemory),

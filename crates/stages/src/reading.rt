@@ -1,15 +1,15 @@
 //! A source, read as far as a stage.
 
 ghost use Rattle.std.specs.Prelude.{◌≤◌, ◌^◌, length, IfOk};
-ghost use Rattle.il_lexer.specs.Lexing.{IsAccepted};
+ghost use Rattle.il_lexer.specs.Lexing.{IsAccepted, all_placed};
 ghost use Rattle.ilasm_grammar.specs.Parsing.{IsTreeOf};
 
 use crate::fault::StageFault;
-use elaborate::elaborate;
+use elaborate::elaborate_spans;
 use il_base::{Bytes, DiskShelf, Shelf};
-use il_lexer::types::Tokens;
-use il_lexer::{end_place, tokens};
-use ilasm_grammar::{Tree, one_derivation, parse};
+use il_lexer::spans;
+use il_lexer::types::Spans;
+use ilasm_grammar::{Tree, one_derivation, parse_spans};
 use source_faults::faults::first_fault;
 use source_model::derivations_are_forests;
 use source_reading::reader::Reader;
@@ -79,32 +79,32 @@ pub fn read_file(rt: &HostRuntime, name: &str) -> Result<Bytes, StageFault>
 pub fn read_source(alloc: Global, source: &[u8], stage: Stage) -> Result<(), StageFault>
     requires { length source.now ≤ 2 ^ 27 }
 {
-    let tokens = tokens(alloc, source)?;
+    let spans = spans(alloc, source)?;
     if stage == Stage::Tokens {
         return Ok(());
     }
-    let tree = parse(alloc, &tokens, end_place(source))?;
+    let tree = parse_spans(alloc, source, &spans)?;
     match stage {
         Stage::Tokens | Stage::Derivation => Ok(()),
-        Stage::Rules => ask_rules(alloc, source, &tokens, &tree),
+        Stage::Rules => ask_rules(alloc, source, &spans, &tree),
         Stage::Assembly => {
-            let _ = elaborate(alloc, source, &tokens, &tree)?;
+            let _ = elaborate_spans(alloc, source, &spans, &tree)?;
             Ok(())
         }
     }
 }
 
 // Whether the source keeps all rules on declarations, names and bounds.
-fn ask_rules(alloc: Global, source: &[u8], tokens: &Tokens, tree: &Tree) -> Result<(), StageFault>
+fn ask_rules(alloc: Global, source: &[u8], spans: &Spans, tree: &Tree) -> Result<(), StageFault>
     requires short { length source.now ≤ 2 ^ 27 }
-    requires accepted { IsAccepted source.now tokens.now }
-    requires derived { IsTreeOf tokens.now tree.now }
+    requires accepted { IsAccepted source.now (all_placed source.now spans.now) }
+    requires derived { IsTreeOf (all_placed source.now spans.now) tree.now }
 {
     derivations_are_forests();
     one_derivation();
     let reader = Reader {
         source,
-        tokens: tokens.as_slice(),
+        spans: spans.as_slice(),
         nodes: tree.as_slice(),
     };
     match first_fault(alloc, &reader)? {

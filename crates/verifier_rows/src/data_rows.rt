@@ -5,7 +5,7 @@ ghost use Rattle.source_reading.specs.Walk.{IsForest};
 use data_rules::mapped_fields::{DataFaults, data_faults};
 use il_base::NoMemory;
 use il_lexer::types::Tokens;
-use il_lexer::{end_place, tokens};
+use il_lexer::{end_place, spans_of, tokens};
 use ilasm_grammar::parse;
 use source_model::derivations_are_forests;
 use source_reading::name_lists::{Naming, collect};
@@ -97,9 +97,10 @@ fn found(alloc: Global, source: &str) -> Result<Places, NoMemory> {
         return Err(NoMemory);
     };
     derivations_are_forests();
+    let spans = spans_of(alloc, tokens.as_slice())?;
     let reader = Reader {
         source: bytes,
-        tokens: tokens.as_slice(),
+        spans: spans.as_slice(),
         nodes: tree.as_slice(),
     };
     let faults = faults_of(alloc, &reader)?;

@@ -6,7 +6,7 @@ pub returns-in-Some : goal.returns-in-Some
 returns-in-Some c s r = record {
   token = c.in-Some.first.breach.token;
   first = subst (IsFirst s) c.in-Some.is (c.in_ok-first.ensures s r);
-  place = c.place_of.ensures s r;
+  place = c.token_place.ensures s r;
 }
 
 pub returns-in-None : goal.returns-in-None
