@@ -115,6 +115,25 @@ fn roomier<T>(items: Vec<T>) -> (Vec<T>, bool)
 }
 
 impl<T: Drop> Items<T> {
+    /// The list of `item` alone.
+    pub fn one(alloc: Global, item: T) -> Result<Items<T>, NoMemory>
+        ensures { IfOk result (λ it. it ≡ item ∷ []) }
+    {
+        let mut list = Items::new(alloc);
+        list.push(item)?;
+        Ok(list)
+    }
+
+    /// The list of `first` and `second`.
+    pub fn pair(alloc: Global, first: T, second: T) -> Result<Items<T>, NoMemory>
+        ensures { IfOk result (λ it. it ≡ first ∷ second ∷ []) }
+    {
+        let mut list = Items::with_capacity(alloc, 2)?;
+        list.push(first)?;
+        list.push(second)?;
+        Ok(list)
+    }
+
     /// Adds an item at the end. A first item gets room for itself alone, since many lists of a tree
     /// have one item.
     #[inline(always)]

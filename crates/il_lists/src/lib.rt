@@ -8,12 +8,14 @@ mod items;
 mod memory;
 mod short_text;
 mod text;
+mod together;
 
 pub use boxed::Boxed;
 pub use copies::Copies;
 pub use items::Items;
 pub use memory::NoMemory;
 pub use text::Text;
+pub use together::{five, four, seven, six, three, two};
 
 /// A list of bytes.
 pub type Bytes = Items<u8>;

@@ -1,4 +1,4 @@
-ghost use Rattle.std.specs.Prelude.{◌≡◌, ◌++◌, ◌↔◌, [], length, IsTrue, IfOk, OnOk, OnErr};
+ghost use Rattle.std.specs.Prelude.{◌≡◌, ◌++◌, ◌↔◌, [], length, string_bytes, IsTrue, IfOk, OnOk, OnErr};
 
 use crate::short_text::{MOST, ShortText};
 use crate::{Copies, NoMemory};
@@ -41,6 +41,16 @@ impl Text {
         }
         let text = String::from_str(alloc, s)?;
         let text = Box::new(alloc, text)?;
+        Ok(Text {
+            held: Held::Long(text),
+        })
+    }
+
+    /// The text that `s` holds, whose bytes aren't copied.
+    pub fn from_string(alloc: Global, s: String) -> Result<Text, NoMemory>
+        ensures { IfOk result (λ t. t ≡ string_bytes s) }
+    {
+        let text = Box::new(alloc, s)?;
         Ok(Text {
             held: Held::Long(text),
         })
