@@ -7,12 +7,12 @@ use Rattle.type_terms.specs.declared.term.Owner.{Owner}
 use Rattle.type_terms.specs.declared.term.Owner.TheOpen.{SigType-F, Prim, Class, Value, Inst, Var, MVar, SzArray, Array, ByRef, Pointer, Mod, Pinned}
 use Rattle.type_terms.specs.declared.term.SigType.{SigType, out-SigType}
 use Rattle.type_terms.specs.declared.term.SigType.TheVariants as type
-use Rattle.type_world.specs.Names.{is_integral}
-use Rattle.type_world.specs.Hierarchy.{Hierarchy, object, parent, interfaces, Up, Elements, elements, layer_elements, underlying, layer_underlying}
-use Rattle.type_world.specs.Stack.{Stack, null, ref, boxed, bad, is_reference, layer_is_reference, reduced_type, changed, counts_as, or_else, primitive, layer_primitive, signed}
-use Rattle.type_world.specs.Relations.{AreAlike, Assignable, same, null_ref, null_boxed, ref_object, boxed_object, ref_up, boxed_parent, boxed_interface, by_elements, by_reduced}
-use Rattle.type_world.specs.Laws.{IsGrounded}
-use Rattle.type_world.proofs.Climbing.{up_trans, chain_up, chain_object, only_object, first_step, First, at_once, by_parent, by_interface, same_layer, some_same, none_some, array_itself, above_arrays}
+use Rattle.type_hierarchy.specs.Names.{is_integral}
+use Rattle.type_hierarchy.specs.Hierarchy.{Hierarchy, object, parent, interfaces, Up, Elements, elements, layer_elements, underlying, layer_underlying}
+use Rattle.type_hierarchy.specs.Stack.{Stack, null, ref, boxed, bad, is_reference, layer_is_reference, reduced_type, changed, counts_as, or_else, primitive, layer_primitive, signed}
+use Rattle.type_hierarchy.specs.Relations.{AreAlike, Assignable, same, null_ref, null_boxed, ref_object, boxed_object, ref_up, boxed_parent, boxed_interface, by_elements, by_reduced}
+use Rattle.type_hierarchy.specs.Laws.{IsGrounded}
+use Rattle.type_hierarchy.proofs.Climbing.{up_trans, chain_up, chain_object, only_object, first_step, First, at_once, by_parent, by_interface, same_layer, some_same, none_some, array_itself, above_arrays}
 
 abbrev Layer : Type 0
 Layer = SigType-F Owner SigType

@@ -6,11 +6,11 @@ use Rattle.sig_pool.specs.declared.node.Node.{Node}
 use Rattle.sig_pool.specs.Replaced.{terms_at}
 use Rattle.sig_pool.specs.Terms.{AllBelow, term_of}
 use Rattle.sig_pool.specs.Pool.{Extends}
-use Rattle.type_world.specs.Hierarchy.{Hierarchy, object, parent, Chain, alone, further}
+use Rattle.type_hierarchy.specs.Hierarchy.{Hierarchy, object, parent, Chain, alone, further}
 use Rattle.assignability.specs.Common.{IsClimb, top, up, IsClimbOf, IsNearest, HasNearest, Meets, Completes}
-use Rattle.type_world.specs.Pooled.{HasOption}
-use Rattle.type_world.proofs.GrowLemmas.{kept, below_extends, ids_more}
-use Rattle.type_world.proofs.Climbing.{chain_trans, chain_fork, next_step, Next, none, some, some_same, none_some, only_object}
+use Rattle.type_hierarchy.specs.Pooled.{HasOption}
+use Rattle.type_hierarchy.proofs.GrowLemmas.{kept, below_extends, ids_more}
+use Rattle.type_hierarchy.proofs.Climbing.{chain_trans, chain_fork, next_step, Next, none, some, some_same, none_some, only_object}
 
 -- ---- climbs
 

@@ -5,12 +5,12 @@ use Rattle.std.proofs.lemmas.Bool.{cases_Bool}
 use Rattle.std.proofs.lemmas.List.{length-append}
 use Rattle.std.proofs.lemmas.Option.{slice_get_within}
 use Rattle.type_terms.specs.declared.name.TypeName.{TypeName}
-use Rattle.type_world.specs.Gathered.{with_name}
-use Rattle.type_world.specs.Distinct.{AreOnce}
-use Rattle.type_world.specs.Names.{is_among, same_name}
-use Rattle.type_world.proofs.Among.{not_among}
-use Rattle.type_world.proofs.ChainLemmas.{snoc_cases, snoc_old, snoc_new}
-use Rattle.type_world.proofs.TableLemmas.{name_decides}
+use Rattle.type_hierarchy.specs.Gathered.{with_name}
+use Rattle.type_hierarchy.specs.Distinct.{AreOnce}
+use Rattle.type_hierarchy.specs.Names.{is_among, same_name}
+use Rattle.type_hierarchy.proofs.Among.{not_among}
+use Rattle.type_hierarchy.proofs.ChainLemmas.{snoc_cases, snoc_old, snoc_new}
+use Rattle.type_hierarchy.proofs.TableLemmas.{name_decides}
 
 abbrev pub all_of : List TypeName → List TypeName → List TypeName
 all_of now names = fold with_name now names

@@ -8,10 +8,10 @@ use Rattle.assembly_tree.specs.declared.assembly.Assembly.{Assembly}
 use Rattle.assembly_tree.specs.declared.typedef.TypeDef.{TypeDef}
 use Rattle.assembly_tree.specs.declared.typedef.TypeDef.TheViews.{out-TypeDef}
 use Rattle.assembly_tree.specs.DataSize.{named, type_at, type_below, with_type}
-use Rattle.type_world.specs.Indexed.{KnowsTypes, nested_in, types_at}
-use Rattle.type_world.specs.Names.{full_name}
-use Rattle.type_world.specs.declared.tables.Tables.{Tables}
-use Rattle.type_world.proofs.Among.{among_none}
+use Rattle.type_hierarchy.specs.Indexed.{KnowsTypes, nested_in, types_at}
+use Rattle.type_hierarchy.specs.Names.{full_name}
+use Rattle.type_hierarchy.specs.declared.tables.Tables.{Tables}
+use Rattle.type_hierarchy.proofs.Among.{among_none}
 
 types_more : (ts : List TypeDef) (outer : List TypeId) (id : TypeId) → types_at ts (outer ++ id ∷ []) ≡ nested_in (named id (types_at ts outer))
 types_more ts [] id = refl

@@ -6,21 +6,21 @@ use Rattle.std.proofs.lemmas.Bool.{cases_Bool}
 use Rattle.std.proofs.lemmas.List.{length-map}
 use Rattle.type_terms.specs.declared.name.TypeName.{TypeName}
 use Rattle.type_terms.specs.declared.term.SigType.{SigType}
-use Rattle.type_world.specs.Ancestors.{Declared, all_declared, declared_names, world_name, IsOwnAncestor, IsFirstCyclic, IsAcyclic}
-use Rattle.type_world.specs.Declarations.{hierarchy_of}
-use Rattle.type_world.specs.Distinct.{AreOnce}
-use Rattle.type_world.specs.Hierarchy.{Declaration}
-use Rattle.type_world.specs.Landings.{AreSteps, IsListed, LeapsTo}
-use Rattle.type_world.specs.Laws.{IsGrounded}
-use Rattle.type_world.specs.Names.{same_name}
-use Rattle.type_world.specs.Scopes.{Sources}
-use Rattle.type_world.specs.Walks.{IsFirstBack}
+use Rattle.type_hierarchy.specs.Ancestors.{Declared, all_declared, declared_names, world_name, IsOwnAncestor, IsFirstCyclic, IsAcyclic}
+use Rattle.type_hierarchy.specs.Declarations.{hierarchy_of}
+use Rattle.type_hierarchy.specs.Distinct.{AreOnce}
+use Rattle.type_hierarchy.specs.Hierarchy.{Declaration}
+use Rattle.type_hierarchy.specs.Landings.{AreSteps, IsListed, LeapsTo}
+use Rattle.type_hierarchy.specs.Laws.{IsGrounded}
+use Rattle.type_hierarchy.specs.Names.{same_name}
+use Rattle.type_hierarchy.specs.Scopes.{Sources}
+use Rattle.type_hierarchy.specs.Walks.{IsFirstBack}
 use Rattle.assignability.proofs.DeclaredNames.{all_length, first_of, has_each, once_all, once_none}
 use Rattle.assignability.proofs.LowHeights.{low_bound, low_grounded, low_height}
-use Rattle.type_world.proofs.LandingLemmas.{some_none, some_same}
+use Rattle.type_hierarchy.proofs.LandingLemmas.{some_none, some_same}
 use Rattle.assignability.proofs.LeadLemmas.{names_lead, places_lead}
 use Rattle.assignability.proofs.Plain.{are_plain}
-use Rattle.type_world.proofs.TableLemmas.{name_decides}
+use Rattle.type_hierarchy.proofs.TableLemmas.{name_decides}
 
 -- ---- declared types and their names
 

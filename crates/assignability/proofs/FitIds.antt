@@ -2,14 +2,14 @@
 use Rattle.std.proofs.Common.{◌≡◌, ◌↔◌, refl, sym, ◌∙◌, ap, subst, ℕ, not, List, IsTrue}
 use Rattle.sig_pool.specs.declared.node.Node.{Node}
 use Rattle.sig_pool.specs.Terms.{term_of}
-use Rattle.type_world.specs.declared.stack_type.StackType.{StackType}
-use Rattle.type_world.specs.declared.stack_type.StackType.TheVariants.{I4, I8, N, F, Null, Ref, Boxed, Val, Ptr, Bad}
+use Rattle.type_hierarchy.specs.declared.stack_type.StackType.{StackType}
+use Rattle.type_hierarchy.specs.declared.stack_type.StackType.TheVariants.{I4, I8, N, F, Null, Ref, Boxed, Val, Ptr, Bad}
 use Rattle.assignability.specs.Answers.{is_bad}
-use Rattle.type_world.specs.Hierarchy.{Hierarchy}
+use Rattle.type_hierarchy.specs.Hierarchy.{Hierarchy}
 use Rattle.assignability.specs.Joining.{is_null}
-use Rattle.type_world.specs.Meaning.{meant}
-use Rattle.type_world.specs.Relations.{Assignable, null_boxed}
-use Rattle.type_world.specs.Stack as stack
+use Rattle.type_hierarchy.specs.Meaning.{meant}
+use Rattle.type_hierarchy.specs.Relations.{Assignable, null_boxed}
+use Rattle.type_hierarchy.specs.Stack as stack
 use Rattle.assignability.proofs.FitLemmas.{equal_fits, boxed_kind}
 use Rattle.assignability.proofs.JoinIds.{null_is, stack_null, null_meant}
 

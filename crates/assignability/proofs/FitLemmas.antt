@@ -13,12 +13,12 @@ use Rattle.sig_pool.specs.Terms.{term_of}
 use Rattle.assignability.specs.declared.arrays.Pair.{Pair}
 use Rattle.assignability.specs.Answers.{RefersTo, IsAsElements}
 use Rattle.assignability.specs.Arrays.{IsPairOf, IsObjectOrUp}
-use Rattle.type_world.specs.Hierarchy.{Hierarchy, Elements, object, Up, itself}
-use Rattle.type_world.specs.Queues.{HasType, AddsSteps, UpFromSome, IsStep}
-use Rattle.type_world.specs.Relations.{AreAlike, Assignable, same, null_ref, null_boxed, ref_object, boxed_object, ref_up, boxed_parent, boxed_interface, by_elements, by_reduced}
-use Rattle.type_world.specs.Stack.{Stack, i4, i8, native, float, null, ref, boxed, val, ptr, bad, is_reference, reduced_type, primitive, layer_primitive}
-use Rattle.type_world.proofs.Climbing.{none_some, same_layer}
-use Rattle.type_world.proofs.QueueLemmas.{no_ids}
+use Rattle.type_hierarchy.specs.Hierarchy.{Hierarchy, Elements, object, Up, itself}
+use Rattle.type_hierarchy.specs.Queues.{HasType, AddsSteps, UpFromSome, IsStep}
+use Rattle.type_hierarchy.specs.Relations.{AreAlike, Assignable, same, null_ref, null_boxed, ref_object, boxed_object, ref_up, boxed_parent, boxed_interface, by_elements, by_reduced}
+use Rattle.type_hierarchy.specs.Stack.{Stack, i4, i8, native, float, null, ref, boxed, val, ptr, bad, is_reference, reduced_type, primitive, layer_primitive}
+use Rattle.type_hierarchy.proofs.Climbing.{none_some, same_layer}
+use Rattle.type_hierarchy.proofs.QueueLemmas.{no_ids}
 
 -- ---- elements
 

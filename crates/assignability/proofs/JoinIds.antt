@@ -3,18 +3,18 @@ use Rattle.std.proofs.Common.{◌≡◌, ◌⊎◌, refl, sym, ◌∙◌, ap, su
 use Rattle.sig_pool.specs.declared.node.Node.{Node}
 use Rattle.sig_pool.specs.Pool.{Extends}
 use Rattle.sig_pool.specs.Terms.{term_of}
-use Rattle.type_world.specs.declared.stack_type.StackType.{StackType}
-use Rattle.type_world.specs.declared.stack_type.StackType.TheVariants.{I4, I8, N, F, Null, Ref, Boxed, Val, Ptr, Bad}
+use Rattle.type_hierarchy.specs.declared.stack_type.StackType.{StackType}
+use Rattle.type_hierarchy.specs.declared.stack_type.StackType.TheVariants.{I4, I8, N, F, Null, Ref, Boxed, Val, Ptr, Bad}
 use Rattle.assignability.specs.Common.{HasNearest}
-use Rattle.type_world.specs.Hierarchy.{Hierarchy}
+use Rattle.type_hierarchy.specs.Hierarchy.{Hierarchy}
 use Rattle.assignability.specs.Joining.{is_null, as_object, beside_null, JoinsAs}
-use Rattle.type_world.specs.Meaning.{meant, IsWithin}
-use Rattle.type_world.specs.Pooled.{HasOption}
-use Rattle.type_world.specs.Relations.{IsJoin, null_below_ref, null_below_boxed}
-use Rattle.type_world.specs.Stack as stack
+use Rattle.type_hierarchy.specs.Meaning.{meant, IsWithin}
+use Rattle.type_hierarchy.specs.Pooled.{HasOption}
+use Rattle.type_hierarchy.specs.Relations.{IsJoin, null_below_ref, null_below_boxed}
+use Rattle.type_hierarchy.specs.Stack as stack
 use Rattle.assignability.specs.Starts.{start}
-use Rattle.type_world.proofs.Climbing.{none_some}
-use Rattle.type_world.proofs.GrowLemmas.{extends_long}
+use Rattle.type_hierarchy.proofs.Climbing.{none_some}
+use Rattle.type_hierarchy.proofs.GrowLemmas.{extends_long}
 use Rattle.assignability.proofs.JoinLemmas.{join_equal, join_above, join_under, join_starts, join_bad, NoNull, IsObjectLike}
 
 -- ---- as the pool grows

@@ -1,12 +1,12 @@
 -- Joins by cases.
 use Rattle.std.proofs.Common.{◌≡◌, ◌⊎◌, inl, inr, refl, sym, ◌∙◌, subst, None, Some}
 use Rattle.type_terms.specs.declared.term.SigType.{SigType}
-use Rattle.type_world.specs.Hierarchy.{Hierarchy, Chain, alone}
-use Rattle.type_world.specs.Stack.{Stack, i4, i8, native, float, null, ref, boxed, val, ptr, bad}
-use Rattle.type_world.specs.Relations.{Below, equal, below_bad, null_below_ref, null_below_boxed, ref_chain, boxed_chain, IsJoin}
+use Rattle.type_hierarchy.specs.Hierarchy.{Hierarchy, Chain, alone}
+use Rattle.type_hierarchy.specs.Stack.{Stack, i4, i8, native, float, null, ref, boxed, val, ptr, bad}
+use Rattle.type_hierarchy.specs.Relations.{Below, equal, below_bad, null_below_ref, null_below_boxed, ref_chain, boxed_chain, IsJoin}
 use Rattle.assignability.specs.Common.{IsNearest}
 use Rattle.assignability.specs.Starts.{start}
-use Rattle.type_world.proofs.Climbing.{none_some}
+use Rattle.type_hierarchy.proofs.Climbing.{none_some}
 
 -- ---- equal types, and null
 

@@ -3,11 +3,11 @@ use Rattle.std.proofs.Common.{◌≡◌, ◌⊎◌, inl, inr, refl, sym, subst, 
 use Rattle.std.specs.Prelude.{slice_get}
 use Rattle.std.proofs.lemmas.Option.{slice_get_within}
 use Rattle.type_terms.specs.declared.name.TypeName.{TypeName}
-use Rattle.type_world.specs.Ancestors.{Step, to_base, to_interface, to_chain, Leads, one_step, step_more}
-use Rattle.type_world.specs.Hierarchy.{Hierarchy, Declaration, chained}
-use Rattle.type_world.specs.Landings.{AreSteps, IsListed, Lands, here, along, LeapsTo}
-use Rattle.type_world.specs.Walks as walks
-use Rattle.type_world.proofs.LandingLemmas.{some_same}
+use Rattle.type_hierarchy.specs.Ancestors.{Step, to_base, to_interface, to_chain, Leads, one_step, step_more}
+use Rattle.type_hierarchy.specs.Hierarchy.{Hierarchy, Declaration, chained}
+use Rattle.type_hierarchy.specs.Landings.{AreSteps, IsListed, Lands, here, along, LeapsTo}
+use Rattle.type_hierarchy.specs.Walks as walks
+use Rattle.type_hierarchy.proofs.LandingLemmas.{some_same}
 
 -- ---- from places to names
 

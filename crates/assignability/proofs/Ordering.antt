@@ -1,11 +1,11 @@
 -- The order of stack types is one, and its joins keep their laws.
 use Rattle.std.proofs.Common.{◌≡◌, refl, sym, ap, ℕ, ◌<◌, ◌≤◌, arith, Some}
 use Rattle.type_terms.specs.declared.term.SigType.{SigType}
-use Rattle.type_world.specs.Hierarchy.{Hierarchy, parent, Chain}
-use Rattle.type_world.specs.Stack.{Stack, null, ref, boxed, bad}
-use Rattle.type_world.specs.Relations.{Assignable, same, null_ref, null_boxed, ref_up, boxed_parent, Below, equal, below_bad, null_below_ref, null_below_boxed, ref_chain, boxed_chain, IsJoin}
-use Rattle.type_world.specs.Laws.{IsGrounded, IsOrder, JoinLaws}
-use Rattle.type_world.proofs.Climbing.{chain_trans, chain_up, chain_height, next_step, Next, none, some}
+use Rattle.type_hierarchy.specs.Hierarchy.{Hierarchy, parent, Chain}
+use Rattle.type_hierarchy.specs.Stack.{Stack, null, ref, boxed, bad}
+use Rattle.type_hierarchy.specs.Relations.{Assignable, same, null_ref, null_boxed, ref_up, boxed_parent, Below, equal, below_bad, null_below_ref, null_below_boxed, ref_chain, boxed_chain, IsJoin}
+use Rattle.type_hierarchy.specs.Laws.{IsGrounded, IsOrder, JoinLaws}
+use Rattle.type_hierarchy.proofs.Climbing.{chain_trans, chain_up, chain_height, next_step, Next, none, some}
 
 -- ---- transitive
 

@@ -6,8 +6,8 @@ use Rattle.sig_pool.specs.declared.node.Node.TheVariants.{Inst}
 use Rattle.sig_pool.specs.Pool.{HasAll}
 use Rattle.sig_pool.specs.Terms.{AllBelow, children, at, layer_of, built, terms, term_of}
 use Rattle.assignability.specs.Parts.{layer_arguments, type_arguments}
-use Rattle.type_world.proofs.GrowLemmas.{none_yet}
-use Rattle.type_world.proofs.NodeLemmas.{layer_is}
+use Rattle.type_hierarchy.proofs.GrowLemmas.{none_yet}
+use Rattle.type_hierarchy.proofs.NodeLemmas.{layer_is}
 
 arguments_are : (ns : List Node) (id : ℕ) (n m : Node) → term_of ns id ≡ built (terms ns) n → n ≡ m → layer_arguments (layer_of (terms ns) m) ≡ type_arguments (term_of ns id)
 arguments_are ns id n m e same = sym (ap layer_arguments (layer_is ns id n m e same))

@@ -13,13 +13,13 @@ use Rattle.assembly_tree.specs.declared.members.Field.{Field}
 use Rattle.assembly_tree.specs.declared.typedef.TypeDef.{TypeDef}
 use Rattle.assembly_tree.specs.declared.typedef.TypeDef.TheOpen.{TypeDef-F}
 use Rattle.assembly_tree.specs.declared.typedef.TypeDef.TheViews.{out-TypeDef}
-use Rattle.type_world.specs.Declarations.{Place, place_of, counted, counted_layer, base_in, interface_layer, interface_in, interfaces_in, integral_layer, field_type, is_of_instances, declaration_by, declaration_at, declaration_of, hierarchy_of, reading, is_core_class, is_value_type, has_base}
-use Rattle.type_world.specs.Hierarchy.{Declaration}
-use Rattle.type_world.specs.Names.{is_integral, the_enum, the_object}
-use Rattle.type_world.specs.Normal.{Reading, normal, normal_owner}
-use Rattle.type_world.specs.Scopes.{Sources}
+use Rattle.type_hierarchy.specs.Declarations.{Place, place_of, counted, counted_layer, base_in, interface_layer, interface_in, interfaces_in, integral_layer, field_type, is_of_instances, declaration_by, declaration_at, declaration_of, hierarchy_of, reading, is_core_class, is_value_type, has_base}
+use Rattle.type_hierarchy.specs.Hierarchy.{Declaration}
+use Rattle.type_hierarchy.specs.Names.{is_integral, the_enum, the_object}
+use Rattle.type_hierarchy.specs.Normal.{Reading, normal, normal_owner}
+use Rattle.type_hierarchy.specs.Scopes.{Sources}
 use Rattle.assignability.proofs.Heights.{IsNominal, class, value, instance, primitive, IsPlain, ArePlain}
-use Rattle.type_world.proofs.LandingLemmas.{some_same}
+use Rattle.type_hierarchy.proofs.LandingLemmas.{some_same}
 
 abbrev Layer : Type 0
 Layer = SigType-F Owner SigType

@@ -1,8 +1,8 @@
 -- Keys keep their types as a world goes on.
 use Rattle.std.proofs.Common.{◌∙◌, arith}
 use Rattle.assignability.specs.Staying.{KeepsKeys}
-use Rattle.type_world.specs.World.{Content, Stays}
-use Rattle.type_world.proofs.GrowLemmas.{extends_long, extends_trans}
+use Rattle.type_hierarchy.specs.World.{Content, Stays}
+use Rattle.type_hierarchy.proofs.GrowLemmas.{extends_long, extends_trans}
 use Rattle.assignability.proofs.JoinIds.{within_kept, meant_kept}
 
 pub keeps_keys : (old new : Content) → Stays old new → KeepsKeys old new

@@ -9,12 +9,12 @@ use Rattle.sig_pool.specs.declared.node.Node.{Node}
 use Rattle.sig_pool.specs.Pool.{HasAll, Extends}
 use Rattle.sig_pool.specs.Replaced.{terms_at}
 use Rattle.sig_pool.specs.Terms.{AllBelow, term_of}
-use Rattle.type_world.specs.Hierarchy.{Hierarchy, parent, interfaces, Up, itself, to_parent, to_interface}
-use Rattle.type_world.specs.Pooled.{HasOption}
-use Rattle.type_world.specs.Queues.{IsAdded, AddsAll, optional, HasType, IsStep, AddsSteps, UpFromSome}
-use Rattle.type_world.proofs.Climbing.{none_some}
-use Rattle.type_world.proofs.GrowLemmas.{extends_trans, below_extends, all_extends}
-use Rattle.type_world.proofs.QueueLemmas.{no_ids}
+use Rattle.type_hierarchy.specs.Hierarchy.{Hierarchy, parent, interfaces, Up, itself, to_parent, to_interface}
+use Rattle.type_hierarchy.specs.Pooled.{HasOption}
+use Rattle.type_hierarchy.specs.Queues.{IsAdded, AddsAll, optional, HasType, IsStep, AddsSteps, UpFromSome}
+use Rattle.type_hierarchy.proofs.Climbing.{none_some}
+use Rattle.type_hierarchy.proofs.GrowLemmas.{extends_trans, below_extends, all_extends}
+use Rattle.type_hierarchy.proofs.QueueLemmas.{no_ids}
 
 -- ---- lists
 

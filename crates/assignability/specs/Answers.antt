@@ -4,11 +4,11 @@ use Rattle.sig_pool.specs.declared.node.Node.{Node}
 use Rattle.sig_pool.specs.Terms.{term_of}
 use Rattle.assignability.specs.declared.fits.Answer.{Answer}
 use Rattle.assignability.specs.declared.fits.Answer.TheVariants.{Known, AsElements}
-use Rattle.type_world.specs.declared.stack_type.StackType.{StackType}
-use Rattle.type_world.specs.declared.stack_type.StackType.TheVariants.{I4, I8, N, F, Null, Ref, Boxed, Val, Ptr, Bad}
-use Rattle.type_world.specs.Hierarchy.{Hierarchy}
-use Rattle.type_world.specs.Relations.{Assignable}
-use Rattle.type_world.specs.Stack.{ref}
+use Rattle.type_hierarchy.specs.declared.stack_type.StackType.{StackType}
+use Rattle.type_hierarchy.specs.declared.stack_type.StackType.TheVariants.{I4, I8, N, F, Null, Ref, Boxed, Val, Ptr, Bad}
+use Rattle.type_hierarchy.specs.Hierarchy.{Hierarchy}
+use Rattle.type_hierarchy.specs.Relations.{Assignable}
+use Rattle.type_hierarchy.specs.Stack.{ref}
 
 -- a reference to the type of one id may stand for one to that of another
 abbrev pub RefersTo : Hierarchy → List Node → ℕ → ℕ → Type 0

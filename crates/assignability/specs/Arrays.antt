@@ -5,9 +5,9 @@ use Rattle.sig_pool.specs.declared.node.Node.{Node}
 use Rattle.sig_pool.specs.Terms.{term_of}
 use Rattle.assignability.specs.declared.arrays.Element.{Element}
 use Rattle.assignability.specs.declared.arrays.Pair.{Pair}
-use Rattle.type_world.specs.Hierarchy.{Hierarchy, Elements, object, Up}
-use Rattle.type_world.specs.Relations.{AreAlike}
-use Rattle.type_world.specs.Stack.{is_reference}
+use Rattle.type_hierarchy.specs.Hierarchy.{Hierarchy, Elements, object, Up}
+use Rattle.type_hierarchy.specs.Relations.{AreAlike}
+use Rattle.type_hierarchy.specs.Stack.{is_reference}
 
 -- the element as a type
 abbrev pub elements_at : List Node → Option Element → Option Elements

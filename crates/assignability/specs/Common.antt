@@ -4,7 +4,7 @@ use Rattle.type_terms.specs.declared.term.SigType.{SigType}
 use Rattle.sig_pool.specs.declared.node.Node.{Node}
 use Rattle.sig_pool.specs.Replaced.{terms_at}
 use Rattle.sig_pool.specs.Terms.{AllBelow, term_of}
-use Rattle.type_world.specs.Hierarchy.{Hierarchy, parent, Chain}
+use Rattle.type_hierarchy.specs.Hierarchy.{Hierarchy, parent, Chain}
 
 -- `t` and its ancestors, each before its parent, up to one that has none
 pub data IsClimb (w : Hierarchy) : SigType → List SigType → Type 0 where

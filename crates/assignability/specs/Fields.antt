@@ -9,7 +9,7 @@ use Rattle.assembly_tree.specs.declared.members.Field.{Field}
 use Rattle.assembly_tree.specs.declared.typedef.TypeDef.{TypeDef}
 use Rattle.assembly_tree.specs.declared.typedef.TypeDef.TheViews.{out-TypeDef}
 use Rattle.assembly_tree.specs.DataSize.{type_at}
-use Rattle.type_world.specs.Names.{same_path}
+use Rattle.type_hierarchy.specs.Names.{same_path}
 
 -- the type `<Module>`, which holds the members that stand outside types
 abbrev pub the_module : List TypeId

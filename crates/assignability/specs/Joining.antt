@@ -1,11 +1,11 @@
 -- How the join of two values of a pool is found.
 use Rattle.std.specs.Prelude.{Bool, true, false, if◌then◌else◌, List, length, Option, None, Some}
 use Rattle.sig_pool.specs.declared.node.Node.{Node}
-use Rattle.type_world.specs.declared.stack_type.StackType.{StackType}
-use Rattle.type_world.specs.declared.stack_type.StackType.TheVariants.{I4, I8, N, F, Null, Ref, Boxed, Val, Ptr, Bad}
-use Rattle.type_world.specs.Hierarchy.{Hierarchy}
-use Rattle.type_world.specs.Meaning.{meant, IsWithin}
-use Rattle.type_world.specs.Relations.{IsJoin}
+use Rattle.type_hierarchy.specs.declared.stack_type.StackType.{StackType}
+use Rattle.type_hierarchy.specs.declared.stack_type.StackType.TheVariants.{I4, I8, N, F, Null, Ref, Boxed, Val, Ptr, Bad}
+use Rattle.type_hierarchy.specs.Hierarchy.{Hierarchy}
+use Rattle.type_hierarchy.specs.Meaning.{meant, IsWithin}
+use Rattle.type_hierarchy.specs.Relations.{IsJoin}
 
 -- a reference or boxed value
 abbrev pub as_object : StackType → Option StackType

@@ -2,9 +2,9 @@
 use Rattle.std.specs.Prelude.{Bool, ℕ, Option, None, Some}
 use Rattle.type_terms.specs.declared.name.TypeName.{TypeName}
 use Rattle.type_terms.specs.declared.term.SigType.{SigType}
-use Rattle.type_world.specs.Hierarchy.{Hierarchy, Elements, elements}
-use Rattle.type_world.specs.Normal.{Reading}
-use Rattle.type_world.specs.Stack.{Stack, i4, i8, native, float, null, ref, boxed, val, ptr, bad}
+use Rattle.type_hierarchy.specs.Hierarchy.{Hierarchy, Elements, elements}
+use Rattle.type_hierarchy.specs.Normal.{Reading}
+use Rattle.type_hierarchy.specs.Stack.{Stack, i4, i8, native, float, null, ref, boxed, val, ptr, bad}
 
 -- how types of the image are normalised
 abbrev pub reading_of : Hierarchy → Reading

@@ -1,8 +1,8 @@
 -- What the keys that a world gave mean as it goes on.
 use Rattle.std.specs.Prelude.{◌≡◌, ℕ, ◌<◌, length}
-use Rattle.type_world.specs.declared.stack_type.StackType.{StackType}
-use Rattle.type_world.specs.Meaning.{meant, IsWithin}
-use Rattle.type_world.specs.World.{Content, type_at}
+use Rattle.type_hierarchy.specs.declared.stack_type.StackType.{StackType}
+use Rattle.type_hierarchy.specs.Meaning.{meant, IsWithin}
+use Rattle.type_hierarchy.specs.World.{Content, type_at}
 
 -- each id and each stack type that `old` has means the same in `new`
 pub record KeepsKeys (old new : Content) : Type 0 where

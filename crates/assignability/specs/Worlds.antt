@@ -6,21 +6,21 @@ use Rattle.type_terms.specs.declared.term.SigType.{SigType}
 use Rattle.assembly_tree.specs.declared.assembly.Assembly.{Assembly}
 use Rattle.assembly_tree.specs.Weight.{weight_of}
 use Rattle.assembly_tree.specs.WellFormed.{is_well_formed}
-use Rattle.type_world.specs.Ancestors.{Declared, all_declared, IsAcyclic, IsFirstCyclic}
-use Rattle.type_world.specs.Building.{AreTables}
-use Rattle.type_world.specs.Declarations.{hierarchy_of}
-use Rattle.type_world.specs.Indexed.{KnowsTypes}
-use Rattle.type_world.specs.Landings.{AreSteps}
-use Rattle.type_world.specs.Laws.{IsGrounded}
-use Rattle.type_world.specs.Names.{full_name}
-use Rattle.type_world.specs.Scopes.{Sources, Member, member_of}
-use Rattle.type_world.specs.Tables.{hierarchy_in}
-use Rattle.type_world.specs.Walks.{IsFirstBack}
-use Rattle.type_world.specs.World.{Content, hierarchy}
+use Rattle.type_hierarchy.specs.Ancestors.{Declared, all_declared, IsAcyclic, IsFirstCyclic}
+use Rattle.type_hierarchy.specs.Building.{AreTables}
+use Rattle.type_hierarchy.specs.Declarations.{hierarchy_of}
+use Rattle.type_hierarchy.specs.Indexed.{KnowsTypes}
+use Rattle.type_hierarchy.specs.Landings.{AreSteps}
+use Rattle.type_hierarchy.specs.Laws.{IsGrounded}
+use Rattle.type_hierarchy.specs.Names.{full_name}
+use Rattle.type_hierarchy.specs.Scopes.{Sources, Member, member_of}
+use Rattle.type_hierarchy.specs.Tables.{hierarchy_in}
+use Rattle.type_hierarchy.specs.Walks.{IsFirstBack}
+use Rattle.type_hierarchy.specs.World.{Content, hierarchy}
 use Rattle.assignability.specs.declared.building.Read.{Read}
 use Rattle.assignability.specs.declared.building.WorldFault.{WorldFault}
 use Rattle.assignability.specs.declared.building.WorldFault.TheVariants.{Cyclic, NoMemory}
-use Rattle.type_world.specs.declared.tables.Tables.{Tables}
+use Rattle.type_hierarchy.specs.declared.tables.Tables.{Tables}
 
 -- an assembly that a world takes
 abbrev pub IsFit : Assembly → Type 0

@@ -2,18 +2,18 @@
 ghost use Rattle.std.specs.Prelude.{◌≡◌, ◌↔◌, ◌<◌, length, IsTrue, IfOk, OnOk};
 ghost use Rattle.sig_pool.specs.Pool.{Extends};
 ghost use Rattle.sig_pool.specs.Terms.{AllBelow, term_of};
-ghost use Rattle.type_world.specs.Hierarchy.{Up};
-ghost use Rattle.type_world.specs.Queues.{AddsSteps, UpFromSome};
-ghost use Rattle.type_world.specs.Tables.{hierarchy_in};
-ghost use Rattle.type_world.specs.World.{KnowsParents};
+ghost use Rattle.type_hierarchy.specs.Hierarchy.{Up};
+ghost use Rattle.type_hierarchy.specs.Queues.{AddsSteps, UpFromSome};
+ghost use Rattle.type_hierarchy.specs.Tables.{hierarchy_in};
+ghost use Rattle.type_hierarchy.specs.World.{KnowsParents};
 
 use crate::interfaces::interface_ids;
 use crate::queue::Queue;
 use il_lists::NoMemory;
 use sig_pool::{SigId, SigPool};
 use std::alloc::Global;
-use type_world::kept::{Parents, kept_parent};
-use type_world::tables::Tables;
+use type_hierarchy::kept::{Parents, kept_parent};
+use type_hierarchy::tables::Tables;
 
 /// Adds the parent and the interfaces of the type of `id`.
 pub fn add_steps(

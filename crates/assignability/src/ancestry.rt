@@ -1,14 +1,14 @@
 //! The class above a value's type.
 ghost use Rattle.std.specs.Prelude.{◌≡◌, ◌+◌, ◌<◌, ◌^◌, length, IfOk};
-ghost use Rattle.type_world.specs.Meaning.{meant, IsWithin, MeansOption};
+ghost use Rattle.type_hierarchy.specs.Meaning.{meant, IsWithin, MeansOption};
 ghost use Rattle.assignability.specs.Starts.{stack_parent};
-ghost use Rattle.type_world.specs.World.{hierarchy, Stays};
+ghost use Rattle.type_hierarchy.specs.World.{hierarchy, Stays};
 
 use crate::joining::parent_of;
 use crate::types::World;
 use il_base::Steps;
 use il_lists::NoMemory;
-use type_world::stack_type::StackType;
+use type_hierarchy::stack_type::StackType;
 
 /// A reference to the parent of the type of a reference or boxed value (ECMA-335 I.8.9.9): None exactly for
 /// Object, boxed or not, and for what is neither.

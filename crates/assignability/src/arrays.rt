@@ -4,17 +4,17 @@ ghost use Rattle.type_terms.specs.declared.term.SigType.{SigType};
 ghost use Rattle.sig_pool.specs.Pool.{Extends};
 ghost use Rattle.sig_pool.specs.Terms.{term_of};
 ghost use Rattle.assignability.specs.Arrays.{elements_at, IsPairOf};
-ghost use Rattle.type_world.specs.Hierarchy.{elements};
+ghost use Rattle.type_hierarchy.specs.Hierarchy.{elements};
 ghost use Rattle.assignability.specs.Keys.{vector_elements};
-ghost use Rattle.type_world.specs.Pooled.{HasOption};
-ghost use Rattle.type_world.specs.Relations.{AreAlike};
-ghost use Rattle.type_world.specs.Stack.{reduced_type};
-ghost use Rattle.type_world.specs.Tables.{hierarchy_in};
+ghost use Rattle.type_hierarchy.specs.Pooled.{HasOption};
+ghost use Rattle.type_hierarchy.specs.Relations.{AreAlike};
+ghost use Rattle.type_hierarchy.specs.Stack.{reduced_type};
+ghost use Rattle.type_hierarchy.specs.Tables.{hierarchy_in};
 
 use crate::stack::{is_reference, reduced_id};
 use il_lists::NoMemory;
 use sig_pool::{Node, SigId, SigPool};
-use type_world::tables::Tables;
+use type_hierarchy::tables::Tables;
 
 /// The element of an array, with the array's rank; of a vector it has none.
 #[derive(Clone, Copy, Drop)]

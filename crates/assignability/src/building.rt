@@ -1,22 +1,22 @@
 //! A world from an image and its references.
 ghost use Rattle.std.specs.Prelude.{◌≡◌, [], ◌<◌, ◌≤◌, ℕ, length, slice_get, IfErr, IfOk, IfSome, Some};
 ghost use Rattle.std.specs.List.{All};
-ghost use Rattle.type_world.specs.Members.{sources};
-ghost use Rattle.type_world.specs.Scopes.{Sources};
+ghost use Rattle.type_hierarchy.specs.Members.{sources};
+ghost use Rattle.type_hierarchy.specs.Scopes.{Sources};
 ghost use Rattle.assignability.specs.Worlds.{IsFaultAt, IsFaultOf, IsFirstOf, IsFit, IsRead, IsWorldOf};
 
 use crate::types::World;
 use assembly_tree::Assembly;
 use il_lists::{Copies, Items, NoMemory, Numbers};
 use std::alloc::Global;
+use type_hierarchy::cyclic::first_cyclic;
+use type_hierarchy::filling::{fill, value_types};
+use type_hierarchy::members::Assemblies;
+use type_hierarchy::places::read_places;
+use type_hierarchy::scopes::read_scopes;
+use type_hierarchy::stepping::all_steps;
+use type_hierarchy::tables::Tables;
 use type_terms::{Scope, TypeName};
-use type_world::cyclic::first_cyclic;
-use type_world::filling::{fill, value_types};
-use type_world::members::Assemblies;
-use type_world::places::read_places;
-use type_world::scopes::read_scopes;
-use type_world::stepping::all_steps;
-use type_world::tables::Tables;
 
 /// Why there is no world.
 #[derive(Drop)]

@@ -4,14 +4,14 @@ ghost use Rattle.sig_pool.specs.Pool.{Extends};
 ghost use Rattle.sig_pool.specs.Replaced.{terms_at};
 ghost use Rattle.sig_pool.specs.Terms.{AllBelow, term_of};
 ghost use Rattle.assignability.specs.Common.{IsClimbOf, HasNearest, Meets};
-ghost use Rattle.type_world.specs.Tables.{hierarchy_in};
-ghost use Rattle.type_world.specs.World.{KnowsParents};
+ghost use Rattle.type_hierarchy.specs.Tables.{hierarchy_in};
+ghost use Rattle.type_hierarchy.specs.World.{KnowsParents};
 
 use il_lists::{Items, NoMemory};
 use sig_pool::{SigId, SigIds, SigPool};
 use std::alloc::Global;
-use type_world::kept::{Parents, kept_parent};
-use type_world::tables::Tables;
+use type_hierarchy::kept::{Parents, kept_parent};
+use type_hierarchy::tables::Tables;
 
 /// The id of the nearest type that is on the chains of both types, each with its ancestors.
 pub fn common_id(

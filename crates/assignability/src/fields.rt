@@ -6,13 +6,13 @@ ghost use Rattle.type_terms.specs.declared.name.TypeId.{TypeId};
 ghost use Rattle.assembly_tree.specs.DataSize.{named, type_at};
 ghost use Rattle.assembly_tree.specs.declared.assembly.Assembly.{Assembly};
 ghost use Rattle.assignability.specs.Fields.{fields_by_scope, fields_of, the_module};
-ghost use Rattle.type_world.specs.Indexed.{KnowsTypes, types_at};
-ghost use Rattle.type_world.specs.Names.{same_path};
+ghost use Rattle.type_hierarchy.specs.Indexed.{KnowsTypes, types_at};
+ghost use Rattle.type_hierarchy.specs.Names.{same_path};
 
 use crate::types::World;
 use assembly_tree::{Assembly, Field, TypeDef};
+use type_hierarchy::tables::Tables;
 use type_terms::{Scope, TypeId, TypeName};
-use type_world::tables::Tables;
 
 /// The fields of the type that has that name in the image `a` of the world, as it is written: none where the image
 /// declares no such type (ECMA-335 II.10, II.16). `<Module>` has those that stand outside types (II.10.8).

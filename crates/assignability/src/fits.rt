@@ -4,11 +4,11 @@ ghost use Rattle.sig_pool.specs.Pool.{Extends};
 ghost use Rattle.sig_pool.specs.Terms.{term_of};
 ghost use Rattle.assignability.specs.Arrays.{IsObjectOrUp, IsPairOf};
 ghost use Rattle.assignability.specs.Answers.{Answers, is_bad};
-ghost use Rattle.type_world.specs.Meaning.{meant, IsWithin};
-ghost use Rattle.type_world.specs.Relations.{Assignable};
-ghost use Rattle.type_world.specs.Stack.{ref, boxed};
-ghost use Rattle.type_world.specs.Tables.{hierarchy_in};
-ghost use Rattle.type_world.specs.World.{KnowsParents};
+ghost use Rattle.type_hierarchy.specs.Meaning.{meant, IsWithin};
+ghost use Rattle.type_hierarchy.specs.Relations.{Assignable};
+ghost use Rattle.type_hierarchy.specs.Stack.{ref, boxed};
+ghost use Rattle.type_hierarchy.specs.Tables.{hierarchy_in};
+ghost use Rattle.type_hierarchy.specs.World.{KnowsParents};
 
 use crate::above::{add_steps, is_above, is_above_some};
 use crate::arrays::{Pair, alike, is_reduced_alike};
@@ -18,9 +18,9 @@ use crate::stack::is_object;
 use il_lists::NoMemory;
 use sig_pool::{SigId, SigPool};
 use std::alloc::Global;
-use type_world::kept::Parents;
-use type_world::stack_type::StackType;
-use type_world::tables::Tables;
+use type_hierarchy::kept::Parents;
+use type_hierarchy::stack_type::StackType;
+use type_hierarchy::tables::Tables;
 
 /// Whether the type of `b` is Object or above that of `a`.
 fn is_object_or_above(

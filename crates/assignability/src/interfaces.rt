@@ -4,16 +4,16 @@ ghost use Rattle.std.specs.Option.{option_copied, option_map, ForSome};
 ghost use Rattle.sig_pool.specs.Pool.{Extends, Has, HasAll};
 ghost use Rattle.sig_pool.specs.Terms.{AllBelow, term_of};
 ghost use Rattle.sig_pool.specs.Replaced.{terms_at};
-ghost use Rattle.type_world.specs.Hierarchy.{interfaces, declared_interfaces};
-ghost use Rattle.type_world.specs.Pooled.{put_in};
-ghost use Rattle.type_world.specs.Tables.{hierarchy_in, declaration_in};
+ghost use Rattle.type_hierarchy.specs.Hierarchy.{interfaces, declared_interfaces};
+ghost use Rattle.type_hierarchy.specs.Pooled.{put_in};
+ghost use Rattle.type_hierarchy.specs.Tables.{hierarchy_in, declaration_in};
 
 use il_lists::{Items, NoMemory};
 use sig_pool::{Node, SigId, SigIds, SigPool};
 use std::alloc::Global;
+use type_hierarchy::core_types::class_name;
+use type_hierarchy::tables::{Declared, Tables};
 use type_terms::SigType;
-use type_world::core_types::class_name;
-use type_world::tables::{Declared, Tables};
 
 /// The ids of the interfaces that the declaration of the type of `id` lists, in its order, with the type's
 /// arguments put in.

@@ -3,22 +3,22 @@ ghost use Rattle.std.specs.Prelude.{◌≡◌, ◌↔◌, ◌<◌, length, IsTru
 ghost use Rattle.std.specs.Option.{option_map};
 ghost use Rattle.sig_pool.specs.Pool.{Extends};
 ghost use Rattle.sig_pool.specs.Terms.{term_of};
-ghost use Rattle.type_world.specs.Hierarchy.{parent};
-ghost use Rattle.type_world.specs.Meaning.{meant, IsWithin, MeansOption};
-ghost use Rattle.type_world.specs.Pooled.{HasOption};
+ghost use Rattle.type_hierarchy.specs.Hierarchy.{parent};
+ghost use Rattle.type_hierarchy.specs.Meaning.{meant, IsWithin, MeansOption};
+ghost use Rattle.type_hierarchy.specs.Pooled.{HasOption};
 ghost use Rattle.assignability.specs.Joining.{is_null, as_object, beside_null, JoinsAs};
-ghost use Rattle.type_world.specs.Stack.{ref};
+ghost use Rattle.type_hierarchy.specs.Stack.{ref};
 ghost use Rattle.assignability.specs.Starts.{start, stack_parent};
-ghost use Rattle.type_world.specs.Tables.{hierarchy_in};
-ghost use Rattle.type_world.specs.World.{KnowsParents};
+ghost use Rattle.type_hierarchy.specs.Tables.{hierarchy_in};
+ghost use Rattle.type_hierarchy.specs.World.{KnowsParents};
 
 use crate::common::common_id;
 use il_lists::NoMemory;
 use sig_pool::{SigId, SigPool};
 use std::alloc::Global;
-use type_world::kept::{Parents, kept_parent};
-use type_world::stack_type::{StackType, TypeKey};
-use type_world::tables::Tables;
+use type_hierarchy::kept::{Parents, kept_parent};
+use type_hierarchy::stack_type::{StackType, TypeKey};
+use type_hierarchy::tables::Tables;
 
 /// Whether two stack types are equal. Takes no memory.
 pub fn is_equal(pool: &SigPool, s: &StackType, t: &StackType) -> bool

@@ -1,12 +1,12 @@
 //! What is asked of a type by its key.
 ghost use Rattle.std.specs.Prelude.{◌≡◌, ◌<◌, length, IfOk};
 ghost use Rattle.sig_pool.specs.Pool.{HasAll};
-ghost use Rattle.type_world.specs.Hierarchy.{interfaces};
+ghost use Rattle.type_hierarchy.specs.Hierarchy.{interfaces};
 ghost use Rattle.assignability.specs.Keys.{vector_element, is_value_name};
-ghost use Rattle.type_world.specs.Meaning.{meant, IsWithin, Means};
-ghost use Rattle.type_world.specs.Pooled.{HasOption};
-ghost use Rattle.type_world.specs.Stack.{stack_of, pointer_to, boxed_of};
-ghost use Rattle.type_world.specs.World.{hierarchy, type_at, Stays};
+ghost use Rattle.type_hierarchy.specs.Meaning.{meant, IsWithin, Means};
+ghost use Rattle.type_hierarchy.specs.Pooled.{HasOption};
+ghost use Rattle.type_hierarchy.specs.Stack.{stack_of, pointer_to, boxed_of};
+ghost use Rattle.type_hierarchy.specs.World.{hierarchy, type_at, Stays};
 
 use crate::arrays::vector_element_id;
 use crate::interfaces::interface_ids;
@@ -16,8 +16,8 @@ use crate::types::World;
 use il_lists::{Items, NoMemory};
 use sig_pool::SigId;
 use std::alloc::Global;
+use type_hierarchy::stack_type::{StackType, TypeKey, TypeKeys};
 use type_terms::{Scope, SigType, TypeName};
-use type_world::stack_type::{StackType, TypeKey, TypeKeys};
 
 /// What a value of the key's type is on the stack (ECMA-335 I.12.3.2.1): int32 for bool, char and integers
 /// of up to 32 bits, int64, native int, F, a reference, a managed pointer to the verification type, of an
@@ -112,7 +112,7 @@ pub(crate) fn keys_at(alloc: Global, ids: &[SigId]) -> Result<TypeKeys, NoMemory
 }
 
 /// The scope of the core, the assembly of the standard's own types.
-#[tactic(auto, unfolding(type_world::specs::Tables::hierarchy_in))]
+#[tactic(auto, unfolding(type_hierarchy::specs::Tables::hierarchy_in))]
 pub fn core_scope(w: &World) -> Scope
     ensures { result ≡ (hierarchy w.now).core }
 {
@@ -120,7 +120,7 @@ pub fn core_scope(w: &World) -> Scope
 }
 
 /// Whether a name of the image is a value type. Takes no memory.
-#[tactic(auto, unfolding(type_world::specs::Tables::hierarchy_in))]
+#[tactic(auto, unfolding(type_hierarchy::specs::Tables::hierarchy_in))]
 pub fn is_value(w: &World, name: &TypeName) -> bool
     ensures { result ≡ is_value_name (hierarchy w.now) name.now }
 {

@@ -1,9 +1,9 @@
 ghost use Rattle.std.specs.Prelude.{ℕ};
 ghost use Rattle.type_terms.specs.declared.term.SigType.{SigType};
-ghost use Rattle.type_world.specs.Hierarchy.{Hierarchy};
+ghost use Rattle.type_hierarchy.specs.Hierarchy.{Hierarchy};
 ghost use Rattle.assignability.specs.Staying.{KeepsKeys};
-ghost use Rattle.type_world.specs.World.{Content, Stays};
-ghost use Rattle.type_world.specs.Laws.{IsGrounded, IsReflexive, IsTransitive, IsOrder, JoinLaws};
+ghost use Rattle.type_hierarchy.specs.World.{Content, Stays};
+ghost use Rattle.type_hierarchy.specs.Laws.{IsGrounded, IsReflexive, IsTransitive, IsOrder, JoinLaws};
 
 /// A value of a type may stand where that type is wanted, save for Bad; and what may stand for a second
 /// type that may stand for a third may stand for the third (ECMA-335 I.8.7.3). It does nothing when it is

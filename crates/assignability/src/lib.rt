@@ -32,6 +32,6 @@ pub use order::{assignable, join};
 pub use owners::{
     arguments_of, core_value, is_reference_key, owner_key, primitive_key, type_key, vector_of,
 };
-pub use type_world::members::Assemblies;
-pub use type_world::stack_type::{StackType, TypeKey, TypeKeys, id_of};
+pub use type_hierarchy::members::Assemblies;
+pub use type_hierarchy::stack_type::{StackType, TypeKey, TypeKeys, id_of};
 pub use written::{key_of, stack_of};

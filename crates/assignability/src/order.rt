@@ -1,16 +1,16 @@
 //! The order of stack types: which may stand for which, and what two merge to.
 ghost use Rattle.std.specs.Prelude.{◌≡◌, ◌+◌, ◌<◌, ◌^◌, ◌↔◌, length, IsTrue, IfOk};
 ghost use Rattle.assignability.specs.Joining.{JoinsAs};
-ghost use Rattle.type_world.specs.Meaning.{meant, IsWithin};
-ghost use Rattle.type_world.specs.Relations.{Assignable};
-ghost use Rattle.type_world.specs.World.{hierarchy, Stays};
+ghost use Rattle.type_hierarchy.specs.Meaning.{meant, IsWithin};
+ghost use Rattle.type_hierarchy.specs.Relations.{Assignable};
+ghost use Rattle.type_hierarchy.specs.World.{hierarchy, Stays};
 
 use crate::fits::is_assignable;
 use crate::joining::join_of;
 use crate::types::World;
 use il_base::Steps;
 use il_lists::NoMemory;
-use type_world::stack_type::StackType;
+use type_hierarchy::stack_type::StackType;
 
 /// Whether a value of type `s` may stand where `t` is wanted (ECMA-335 I.8.7.3, III.1.8.1.2.3): where both
 /// are one type other than Bad; from null to a reference or boxed type; from a reference or boxed value to

@@ -3,13 +3,13 @@ ghost use Rattle.std.specs.Prelude.{◌≡◌, ◌<◌, length, IfOk};
 ghost use Rattle.type_terms.specs.declared.term.SigType.TheVariants as type;
 ghost use Rattle.sig_pool.specs.Pool.{Extends, Has, HasAll};
 ghost use Rattle.sig_pool.specs.Terms.{term_of};
-ghost use Rattle.type_world.specs.Hierarchy.{core_name};
+ghost use Rattle.type_hierarchy.specs.Hierarchy.{core_name};
 ghost use Rattle.assignability.specs.Keys.{reading_of};
-ghost use Rattle.type_world.specs.Normal.{normal, normal_owner};
+ghost use Rattle.type_hierarchy.specs.Normal.{normal, normal_owner};
 ghost use Rattle.assignability.specs.Parts.{type_arguments};
-ghost use Rattle.type_world.specs.Stack.{is_reference};
-ghost use Rattle.type_world.specs.Tables.{hierarchy_in};
-ghost use Rattle.type_world.specs.World.{hierarchy, type_at, Stays};
+ghost use Rattle.type_hierarchy.specs.Stack.{is_reference};
+ghost use Rattle.type_hierarchy.specs.Tables.{hierarchy_in};
+ghost use Rattle.type_hierarchy.specs.World.{hierarchy, type_at, Stays};
 
 use crate::keys::keys_at;
 use crate::stack::is_reference;
@@ -19,11 +19,11 @@ use crate::written::normal_id;
 use il_lists::{Boxed, Items, NoMemory};
 use sig_pool::{Node, SigId, SigPool};
 use std::alloc::Global;
+use type_hierarchy::core_types::intern;
+use type_hierarchy::normal::normalised_owner;
+use type_hierarchy::stack_type::{TypeKey, TypeKeys};
+use type_hierarchy::tables::Tables;
 use type_terms::{Owner, Path, Prim, SigType, TypeName};
-use type_world::core_types::intern;
-use type_world::normal::normalised_owner;
-use type_world::stack_type::{TypeKey, TypeKeys};
-use type_world::tables::Tables;
 
 /// The key of a type of the image, normalised.
 ///
@@ -48,7 +48,7 @@ pub fn owner_key(w: &mut World, owner: &Owner) -> Result<TypeKey, NoMemory>
 }
 
 /// The id of what an owner of the image names, normalised.
-#[tactic(auto, unfolding(type_world::specs::Tables::hierarchy_in))]
+#[tactic(auto, unfolding(type_hierarchy::specs::Tables::hierarchy_in))]
 fn owner_id(
     alloc: Global,
     tables: &Tables,
@@ -123,7 +123,7 @@ fn vector_id(alloc: Global, pool: &mut SigPool, id: SigId) -> Result<SigId, NoMe
 /// The key of the value type of the core with that path.
 ///
 /// NoMemory where there is no memory.
-#[tactic(auto, unfolding(type_world::specs::Tables::hierarchy_in))]
+#[tactic(auto, unfolding(type_hierarchy::specs::Tables::hierarchy_in))]
 pub fn core_value(w: &mut World, path: Path) -> Result<TypeKey, NoMemory>
     ensures ok { IfOk result (λ k. Has w.new.nodes k (type.Value (core_name (hierarchy w.old) path))) }
     ensures stays { Stays w.old w.new }

@@ -1,6 +1,6 @@
 ghost use Rattle.std.specs.Prelude.{◌≡◌, ◌<◌, [], length, slice_get, Some, OnOk};
 ghost use Rattle.std.specs.Option.{option_copied};
-ghost use Rattle.type_world.specs.Queues.{IsAdded, AddsAll, optional};
+ghost use Rattle.type_hierarchy.specs.Queues.{IsAdded, AddsAll, optional};
 
 use il_lists::{Items, NoMemory};
 use indexmap::IndexSet;

@@ -3,15 +3,15 @@ ghost use Rattle.std.specs.Prelude.{◌≡◌, ◌↔◌, ◌<◌, length, IsTru
 ghost use Rattle.std.specs.Option.{option_copied};
 ghost use Rattle.sig_pool.specs.Pool.{Extends, Has};
 ghost use Rattle.sig_pool.specs.Terms.{term_of};
-ghost use Rattle.type_world.specs.Hierarchy.{object, underlying, declared_underlying, instance_underlying};
-ghost use Rattle.type_world.specs.Stack.{is_reference, is_reference_primitive, verified, signed, primitive, counts_as, verification_type, reduced_type};
-ghost use Rattle.type_world.specs.Tables.{hierarchy_in, declaration_in};
+ghost use Rattle.type_hierarchy.specs.Hierarchy.{object, underlying, declared_underlying, instance_underlying};
+ghost use Rattle.type_hierarchy.specs.Stack.{is_reference, is_reference_primitive, verified, signed, primitive, counts_as, verification_type, reduced_type};
+ghost use Rattle.type_hierarchy.specs.Tables.{hierarchy_in, declaration_in};
 
 use il_lists::NoMemory;
 use sig_pool::{Node, SigId, SigPool};
+use type_hierarchy::core_types::intern;
+use type_hierarchy::tables::{Declared, Tables};
 use type_terms::{Prim, SigType};
-use type_world::core_types::intern;
-use type_world::tables::{Declared, Tables};
 
 /// The type that the values of an enum have. Takes no memory.
 pub fn underlying(tables: &Tables, pool: &SigPool, id: SigId) -> Option<Prim>

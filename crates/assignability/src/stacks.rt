@@ -3,17 +3,17 @@ ghost use Rattle.std.specs.Prelude.{◌≡◌, ◌<◌, length, IfOk};
 ghost use Rattle.type_terms.specs.declared.term.SigType.TheVariants as type;
 ghost use Rattle.sig_pool.specs.Pool.{Extends};
 ghost use Rattle.sig_pool.specs.Terms.{term_of};
-ghost use Rattle.type_world.specs.Meaning.{Means, instance_type};
-ghost use Rattle.type_world.specs.Stack.{ref, primitive_stack, plain_stack, stack_of, pointer_to, boxed_of};
-ghost use Rattle.type_world.specs.Tables.{hierarchy_in};
+ghost use Rattle.type_hierarchy.specs.Meaning.{Means, instance_type};
+ghost use Rattle.type_hierarchy.specs.Stack.{ref, primitive_stack, plain_stack, stack_of, pointer_to, boxed_of};
+ghost use Rattle.type_hierarchy.specs.Tables.{hierarchy_in};
 
 use crate::stack::{is_reference, underlying, verification_id};
 use il_lists::NoMemory;
 use sig_pool::{Node, SigId, SigPool};
+use type_hierarchy::core_types::intern;
+use type_hierarchy::stack_type::{StackType, TypeKey};
+use type_hierarchy::tables::Tables;
 use type_terms::{Prim, SigType};
-use type_world::core_types::intern;
-use type_world::stack_type::{StackType, TypeKey};
-use type_world::tables::Tables;
 
 /// What a value of the type of `id` is on the stack.
 pub fn stack_of_id(tables: &Tables, pool: &mut SigPool, id: SigId) -> Result<StackType, NoMemory>

@@ -5,8 +5,8 @@ use il_lists::Items;
 use sig_pool::SigPool;
 use std::alloc::Global;
 use std::marker::Model;
-use type_world::kept::Parents;
-use type_world::tables::Tables;
+use type_hierarchy::kept::Parents;
+use type_hierarchy::tables::Tables;
 
 /// What an image and its references say of types, with the pool that keeps the types (ECMA-335 I.8.7).
 /// Contracts see the nodes of the pool and the tables.
@@ -21,7 +21,7 @@ pub struct World {
 impl Model for World {
     ghost use Rattle.std.specs.Coded.{codes};
     ghost use Rattle.type_terms.specs.contracts.term.SigType as sig_type;
-    ghost use Rattle.type_world.specs.World.{Content, IsReady};
+    ghost use Rattle.type_hierarchy.specs.World.{Content, IsReady};
 
     ghost Value = { Content };
 

@@ -4,25 +4,25 @@ ghost use Rattle.sig_pool.specs.Pool.{Extends, Has};
 ghost use Rattle.sig_pool.specs.Replaced.{replaced, terms_at};
 ghost use Rattle.sig_pool.specs.Terms.{AllBelow};
 ghost use Rattle.assignability.specs.Keys.{reading_of};
-ghost use Rattle.type_world.specs.Meaning.{Means};
-ghost use Rattle.type_world.specs.Normal.{normal};
-ghost use Rattle.type_world.specs.Stack.{stack_of};
-ghost use Rattle.type_world.specs.Tables.{hierarchy_in};
-ghost use Rattle.type_world.specs.World.{hierarchy, Stays};
+ghost use Rattle.type_hierarchy.specs.Meaning.{Means};
+ghost use Rattle.type_hierarchy.specs.Normal.{normal};
+ghost use Rattle.type_hierarchy.specs.Stack.{stack_of};
+ghost use Rattle.type_hierarchy.specs.Tables.{hierarchy_in};
+ghost use Rattle.type_hierarchy.specs.World.{hierarchy, Stays};
 
 use crate::stacks::stack_of_id;
 use crate::types::World;
 use il_lists::{Items, NoMemory};
 use sig_pool::{SigId, SigIds, SigPool};
 use std::alloc::Global;
+use type_hierarchy::core_types::intern;
+use type_hierarchy::normal::normalised;
+use type_hierarchy::stack_type::{StackType, TypeKey, TypeKeys};
+use type_hierarchy::tables::Tables;
 use type_terms::SigType;
-use type_world::core_types::intern;
-use type_world::normal::normalised;
-use type_world::stack_type::{StackType, TypeKey, TypeKeys};
-use type_world::tables::Tables;
 
 /// The id of a type of the image, normalised.
-#[tactic(auto, unfolding(type_world::specs::Tables::hierarchy_in))]
+#[tactic(auto, unfolding(type_hierarchy::specs::Tables::hierarchy_in))]
 pub(crate) fn normal_id(
     alloc: Global,
     tables: &Tables,

@@ -6,24 +6,24 @@ use Rattle.std.proofs.lemmas.Option.{slice_get-map}
 use Rattle.type_terms.specs.declared.term.SigType.{SigType}
 use Rattle.sig_pool.specs.declared.node.Node.{Node}
 use Rattle.sig_pool.specs.Terms.{term_of}
-use Rattle.type_world.specs.declared.stack_type.StackType.{StackType}
-use Rattle.type_world.specs.Hierarchy.{Hierarchy}
-use Rattle.type_world.specs.Meaning.{meant, IsWithin}
-use Rattle.type_world.specs.Pooled.{HasOption}
-use Rattle.type_world.specs.Stack.{Stack, bad, ref}
-use Rattle.type_world.specs.Tables.{hierarchy_in}
-use Rattle.type_world.specs.World.{Content, hierarchy, Stays}
+use Rattle.type_hierarchy.specs.declared.stack_type.StackType.{StackType}
+use Rattle.type_hierarchy.specs.Hierarchy.{Hierarchy}
+use Rattle.type_hierarchy.specs.Meaning.{meant, IsWithin}
+use Rattle.type_hierarchy.specs.Pooled.{HasOption}
+use Rattle.type_hierarchy.specs.Stack.{Stack, bad, ref}
+use Rattle.type_hierarchy.specs.Tables.{hierarchy_in}
+use Rattle.type_hierarchy.specs.World.{Content, hierarchy, Stays}
 use Rattle.body_verifier.specs.Asking.{IsWrongAt, IsUnassignableAt, HasUnassignable, IsUnstored, FailsToFit, IsMismatched}
-use Rattle.stack_rows.specs.declared.row.Demand.{Demand}
-use Rattle.stack_rows.specs.declared.row.Pairing.{Pairing}
-use Rattle.stack_rows.specs.declared.row.Row.{Row}
-use Rattle.stack_rows.specs.declared.row.Together.TheVariants.{Paired, Stored}
+use Rattle.stack_effects.specs.declared.row.Demand.{Demand}
+use Rattle.stack_effects.specs.declared.row.Pairing.{Pairing}
+use Rattle.stack_effects.specs.declared.row.Row.{Row}
+use Rattle.stack_effects.specs.declared.row.Together.TheVariants.{Paired, Stored}
 use Rattle.code_flow.specs.Demands as demands
 use Rattle.code_flow.specs.Demands.{comparable, Meets, HasWrongKind, FailsToAssign, IsUnassignable, NotStored, FailToStore, AreMismatched, IsMismatch, go_together, referent}
 use Rattle.code_flow.specs.Effects.{operands_of, taken}
 use Rattle.code_flow.specs.Rows as rows
-use Rattle.stack_rows.specs.RowMeanings.{stack_meant, IsStackWithin, comparable_test, demand_meant, together_meant, pairing_meant, row_meant, IsRowWithin}
-use Rattle.stack_rows.proofs.Growing.{row_same, stack_same}
+use Rattle.stack_effects.specs.RowMeanings.{stack_meant, IsStackWithin, comparable_test, demand_meant, together_meant, pairing_meant, row_meant, IsRowWithin}
+use Rattle.stack_effects.proofs.Growing.{row_same, stack_same}
 
 -- ---- one operand
 

@@ -2,8 +2,8 @@
 use Rattle.std.proofs.Common.{◌≡◌, ◌≢◌, refl, sym, ◌∙◌, ap, subst, ℕ, ◌+◌, ◌*◌, ◌<◌, ◌≤◌, arith, List, length}
 use Rattle.std.specs.List.{sum_by}
 use Rattle.type_terms.specs.declared.term.SigType.{SigType}
-use Rattle.type_world.specs.Hierarchy.{Hierarchy}
-use Rattle.type_world.specs.Laws.{IsGrounded}
+use Rattle.type_hierarchy.specs.Hierarchy.{Hierarchy}
+use Rattle.type_hierarchy.specs.Laws.{IsGrounded}
 use Rattle.body_verifier.specs.Meetings.{IsNewMeeting}
 use Rattle.body_verifier.specs.Potential.{IsLow, changes, total, potential}
 use Rattle.code_flow.specs.Typings.{State, Typing}

@@ -8,13 +8,13 @@ use Rattle.std.proofs.lemmas.List.{get_or-set_same, get_or-set_other, length-set
 use Rattle.std.proofs.lemmas.List.Elements.{All-get_or, All-set}
 use Rattle.std.proofs.lemmas.List.Sums.{sum_by-append}
 use Rattle.sig_pool.specs.declared.node.Node.{Node}
-use Rattle.type_world.specs.Hierarchy.{Hierarchy}
-use Rattle.type_world.specs.Laws.{IsOrder}
-use Rattle.type_world.specs.Meaning.{meant}
-use Rattle.type_world.specs.Stack as stack
+use Rattle.type_hierarchy.specs.Hierarchy.{Hierarchy}
+use Rattle.type_hierarchy.specs.Laws.{IsOrder}
+use Rattle.type_hierarchy.specs.Meaning.{meant}
+use Rattle.type_hierarchy.specs.Stack as stack
 use Rattle.assignability.specs.Staying.{KeepsKeys}
-use Rattle.type_world.specs.Tables.{hierarchy_in}
-use Rattle.type_world.specs.World.{Content, hierarchy, Stays}
+use Rattle.type_hierarchy.specs.Tables.{hierarchy_in}
+use Rattle.type_hierarchy.specs.World.{Content, hierarchy, Stays}
 use Rattle.code_flow.specs.declared.goings.Carried.{Carried}
 use Rattle.code_flow.specs.declared.goings.Carried.TheVariants.{Flowing, Nothing, Object, Caught}
 use Rattle.code_flow.specs.declared.goings.Going.{Going}

@@ -8,16 +8,16 @@ use Rattle.std.proofs.lemmas.List.{append-nil, get_or_past}
 use Rattle.std.proofs.lemmas.List.Elements.{All-get_or}
 use Rattle.assembly_tree.specs.declared.body.Ins.{Ins}
 use Rattle.sig_pool.specs.declared.node.Node.{Node}
-use Rattle.type_world.specs.Hierarchy.{Hierarchy}
-use Rattle.type_world.specs.Laws.{IsOrder}
-use Rattle.type_world.specs.Stack as stack
+use Rattle.type_hierarchy.specs.Hierarchy.{Hierarchy}
+use Rattle.type_hierarchy.specs.Laws.{IsOrder}
+use Rattle.type_hierarchy.specs.Stack as stack
 use Rattle.assignability.specs.Staying.{KeepsKeys}
-use Rattle.type_world.specs.Tables.{hierarchy_in}
-use Rattle.type_world.specs.World.{Content, hierarchy, Stays}
+use Rattle.type_hierarchy.specs.Tables.{hierarchy_in}
+use Rattle.type_hierarchy.specs.World.{Content, hierarchy, Stays}
 use Rattle.code_flow.specs.declared.goings.Carried.{Carried}
 use Rattle.code_flow.specs.declared.goings.Carried.TheVariants.{Flowing, Nothing, Object, Caught}
 use Rattle.code_flow.specs.declared.goings.Going.{Going}
-use Rattle.stack_rows.specs.declared.row.Row.{Row}
+use Rattle.stack_effects.specs.declared.row.Row.{Row}
 use Rattle.body_verifier.specs.declared.state.State.{State}
 use Rattle.body_verifier.specs.declared.state.State.TheVariants.{Unreached, Stack, Clash}
 use Rattle.body_verifier.specs.declared.stated.Stated.{Stated}
@@ -25,7 +25,7 @@ use Rattle.code_flow.specs.Edges as edges
 use Rattle.code_flow.specs.Effects.{effect}
 use Rattle.code_flow.specs.Frames.{Frame}
 use Rattle.body_verifier.specs.Potential.{IsLow, reached, one_if_reached, total}
-use Rattle.stack_rows.specs.RowMeanings.{row_meant}
+use Rattle.stack_effects.specs.RowMeanings.{row_meant}
 use Rattle.code_flow.specs.Rows as rows
 use Rattle.body_verifier.specs.StateMeanings.{state_meant, state_or_none, is_unreached, IsStateWithin, typing_of}
 use Rattle.code_flow.specs.Typings as typings

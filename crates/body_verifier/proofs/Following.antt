@@ -3,10 +3,10 @@ use Rattle.std.proofs.Common.{◌≡◌, ◌≢◌, ◌⊎◌, inl, inr, refl, s
 use Rattle.std.specs.Prelude.{slice_get, nat_eq, ◌||◌}
 use Rattle.std.proofs.lemmas.Bool.{cases_eq, eqb-true, or_cases}
 use Rattle.assembly_tree.specs.declared.body.Ins.{Ins}
-use Rattle.type_world.specs.Hierarchy.{Hierarchy}
-use Rattle.type_world.specs.Stack.{Stack}
-use Rattle.type_world.specs.Relations.{Below}
-use Rattle.type_world.specs.Laws.{IsOrder}
+use Rattle.type_hierarchy.specs.Hierarchy.{Hierarchy}
+use Rattle.type_hierarchy.specs.Stack.{Stack}
+use Rattle.type_hierarchy.specs.Relations.{Below}
+use Rattle.type_hierarchy.specs.Laws.{IsOrder}
 use Rattle.code_flow.specs.Edges.{Carries, flowing, stated, Edge}
 use Rattle.code_flow.specs.Frames.{Frame}
 use Rattle.code_flow.specs.Laws.{IsMonotone, AreMonotone}

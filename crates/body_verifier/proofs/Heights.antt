@@ -13,13 +13,13 @@ use Rattle.assembly_tree.specs.declared.typedef.TypeDef.{TypeDef}
 use Rattle.assembly_tree.specs.declared.typedef.TypeDef.TheFolds.{fold_out-TypeDef}
 use Rattle.assembly_tree.specs.declared.typedef.TypeDef.TheViews.{out-TypeDef}
 use Rattle.assembly_tree.specs.Weight.{own_weight, typedef_step, typedef_weight, weight_of}
-use Rattle.type_world.specs.Ancestors.{Paths, paths_step, typedef_paths, all_declared, declared_in, declaring, has_number}
-use Rattle.type_world.specs.Hierarchy.{Hierarchy, parent}
-use Rattle.type_world.specs.Laws.{IsGrounded, IsOrder}
-use Rattle.type_world.specs.Names.{same_text}
-use Rattle.type_world.specs.Scopes.{Sources, Member, members, members_from, member_of, name_of, own_scope}
-use Rattle.type_world.specs.Tables.{hierarchy_in}
-use Rattle.type_world.specs.World.{Content, hierarchy}
+use Rattle.type_hierarchy.specs.Ancestors.{Paths, paths_step, typedef_paths, all_declared, declared_in, declaring, has_number}
+use Rattle.type_hierarchy.specs.Hierarchy.{Hierarchy, parent}
+use Rattle.type_hierarchy.specs.Laws.{IsGrounded, IsOrder}
+use Rattle.type_hierarchy.specs.Names.{same_text}
+use Rattle.type_hierarchy.specs.Scopes.{Sources, Member, members, members_from, member_of, name_of, own_scope}
+use Rattle.type_hierarchy.specs.Tables.{hierarchy_in}
+use Rattle.type_hierarchy.specs.World.{Content, hierarchy}
 use Rattle.assignability.specs.Worlds.{IsFit}
 use Rattle.body_verifier.specs.Checking.{IsWorldSince, one_more, above, setup}
 use Rattle.code_flow.specs.Frames.{Frame}
@@ -76,14 +76,14 @@ above_low w (suc n) t = one_more_low w n (parent w t) (above_low w n)
 
 -- ---- the world of a check
 
-pub same_types : (s : Sources) (w : Content) (h : IsWorldSince s w) → hierarchy w ≡ Rattle.type_world.specs.Declarations.hierarchy_of s
+pub same_types : (s : Sources) (w : Content) (h : IsWorldSince s w) → hierarchy w ≡ Rattle.type_hierarchy.specs.Declarations.hierarchy_of s
 same_types s w h = ap hierarchy_in h.stays.tables ∙ h.made.hierarchy
 
 grounded_in : (s : Sources) (w : Content) → IsWorldSince s w → IsGrounded (hierarchy w) (above (hierarchy w) (length (all_declared s) + 4))
 grounded_in s w h =
     let g = h.made.grounded in
     let P : Hierarchy → Type 0 = λ (x : Hierarchy). IsGrounded x (above x (length (all_declared s) + 4)) in
-    subst P (sym (same_types s w h)) (grounded_above (Rattle.type_world.specs.Declarations.hierarchy_of s) g.0 g.1 (length (all_declared s) + 4) g.2)
+    subst P (sym (same_types s w h)) (grounded_above (Rattle.type_hierarchy.specs.Declarations.hierarchy_of s) g.0 g.1 (length (all_declared s) + 4) g.2)
 
 pub grounded_types : (s : Sources) (w : Content) (x : Hierarchy) → IsWorldSince s w → x ≡ hierarchy w → IsGrounded x (above x (length (all_declared s) + 4))
 grounded_types s w x h e =
@@ -155,7 +155,7 @@ heavy m = weight_of m.assembly
 declared_low : (m : Member) → 64 * length (declared_in m) ≤ heavy m
 declared_low m =
     let all = paths_low (sum_by typedef_weight m.assembly.types) m.assembly.types (omega arith) in
-    let l = length-map (flat_map typedef_paths m.assembly.types) (λ (path : List TypeId). let d : Rattle.type_world.specs.Ancestors.Declared = record { member = m; path = path } in d) in
+    let l = length-map (flat_map typedef_paths m.assembly.types) (λ (path : List TypeId). let d : Rattle.type_hierarchy.specs.Ancestors.Declared = record { member = m; path = path } in d) in
     let low = types_low m.assembly in
     omega arith
 

@@ -4,8 +4,8 @@ use Rattle.std.specs.Prelude.{slice_get, is_some, replicate, if◌then◌else◌
 use Rattle.std.proofs.lemmas.Bool.{or_cases, and_parts, and_from, or_left, or_right}
 use Rattle.type_terms.specs.declared.term.SigType.{SigType}
 use Rattle.type_terms.specs.declared.term.SigType.TheVariants as type
-use Rattle.type_world.specs.Hierarchy.{Hierarchy}
-use Rattle.type_world.specs.Stack.{Stack, i4, i8, native, float, null, ref, boxed, val, ptr, bad, is_reference, verification_type, verified}
+use Rattle.type_hierarchy.specs.Hierarchy.{Hierarchy}
+use Rattle.type_hierarchy.specs.Stack.{Stack, i4, i8, native, float, null, ref, boxed, val, ptr, bad, is_reference, verification_type, verified}
 use Rattle.code_flow.specs.declared.operation.Numeric.{Numeric}
 use Rattle.code_flow.specs.Demands.{Demand, nothing, any, number, integer, index, object, condition, comparable, exactly, one_of, to, object_pointer, vector, vector_of, object_vector, Together, apart, paired, stored, Pairing, numeric, integral, equality, ordering, is_number, is_integer, is_index, is_object, is_pointer, referent, element, if_references, object_element, first, second, arithmetic, go_together, outcome, Meets, NullOr, MeetTogether, StoredIn}
 use Rattle.code_flow.specs.Rows.{Row, Pushed, always, same, same_number, same_integer, pointed, fetched, computed, given, kept_if, reference_to, null_or_bad, fetched_from, primitive_of}

@@ -1,9 +1,9 @@
 -- Typings are ordered, so two least ones are the same.
 use Rattle.std.proofs.Common.{◌≡◌, List, [], ◌∷◌, refl, ap}
-use Rattle.type_world.specs.Hierarchy.{Hierarchy}
-use Rattle.type_world.specs.Stack.{Stack}
-use Rattle.type_world.specs.Relations.{Below}
-use Rattle.type_world.specs.Laws.{IsOrder}
+use Rattle.type_hierarchy.specs.Hierarchy.{Hierarchy}
+use Rattle.type_hierarchy.specs.Stack.{Stack}
+use Rattle.type_hierarchy.specs.Relations.{Below}
+use Rattle.type_hierarchy.specs.Laws.{IsOrder}
 use Rattle.code_flow.specs.Stacks.{Each}
 use Rattle.code_flow.specs.Frames.{Frame}
 use Rattle.code_flow.specs.Typings.{State, unreached, stack, clash, AtMost, stacks}

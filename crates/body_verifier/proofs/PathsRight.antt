@@ -5,10 +5,10 @@ use Rattle.std.specs.Prelude.{slice_get, is_some, if◌then◌else◌}
 use Rattle.std.proofs.lemmas.Bool.{cases_lt}
 use Rattle.type_terms.specs.declared.term.SigType.{SigType}
 use Rattle.assembly_tree.specs.declared.body.Ins.{Ins}
-use Rattle.type_world.specs.Hierarchy.{Hierarchy, Up, itself, to_parent, Chain, alone, further}
-use Rattle.type_world.specs.Stack.{Stack, null, ref, boxed, bad}
-use Rattle.type_world.specs.Relations.{Assignable, same, null_ref, null_boxed, ref_up, boxed_parent, Below, equal, below_bad, null_below_ref, null_below_boxed, ref_chain, boxed_chain}
-use Rattle.type_world.specs.Laws.{IsGrounded, IsTransitive}
+use Rattle.type_hierarchy.specs.Hierarchy.{Hierarchy, Up, itself, to_parent, Chain, alone, further}
+use Rattle.type_hierarchy.specs.Stack.{Stack, null, ref, boxed, bad}
+use Rattle.type_hierarchy.specs.Relations.{Assignable, same, null_ref, null_boxed, ref_up, boxed_parent, Below, equal, below_bad, null_below_ref, null_below_boxed, ref_chain, boxed_chain}
+use Rattle.type_hierarchy.specs.Laws.{IsGrounded, IsTransitive}
 use Rattle.code_flow.specs.Demands.{Demand, nothing, any, number, integer, index, object, condition, comparable, exactly, one_of, to, object_pointer, vector, vector_of, object_vector, Together, stored, referent, first, second, go_together, Meets, MeetTogether, StoredIn, HasWrongKind, FailsToAssign, AreMismatched, FailToStore, NotStored}
 use Rattle.code_flow.specs.Frames.{Frame}
 use Rattle.code_flow.specs.Rows.{Row, row_of}

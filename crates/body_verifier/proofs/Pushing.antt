@@ -4,21 +4,21 @@ use Rattle.std.specs.List.{All}
 use Rattle.std.proofs.lemmas.List.{length-map, map_more, append_assoc}
 use Rattle.std.proofs.lemmas.List.Elements.{All-push, All-get_or}
 use Rattle.sig_pool.specs.declared.node.Node.{Node}
-use Rattle.type_world.specs.declared.stack_type.StackType.{StackType}
-use Rattle.type_world.specs.Meaning.{meant, IsWithin, Means}
-use Rattle.type_world.specs.Stack.{Stack, bad}
-use Rattle.type_world.specs.World.{Content, Stays}
-use Rattle.stack_rows.specs.declared.row.Pairing.{Pairing}
-use Rattle.stack_rows.specs.declared.row.Pushed.{Pushed}
-use Rattle.stack_rows.specs.declared.row.Pushed.TheVariants.{SameNumber, SameInteger, Computed}
-use Rattle.stack_rows.specs.declared.row.Row.{Row}
+use Rattle.type_hierarchy.specs.declared.stack_type.StackType.{StackType}
+use Rattle.type_hierarchy.specs.Meaning.{meant, IsWithin, Means}
+use Rattle.type_hierarchy.specs.Stack.{Stack, bad}
+use Rattle.type_hierarchy.specs.World.{Content, Stays}
+use Rattle.stack_effects.specs.declared.row.Pairing.{Pairing}
+use Rattle.stack_effects.specs.declared.row.Pushed.{Pushed}
+use Rattle.stack_effects.specs.declared.row.Pushed.TheVariants.{SameNumber, SameInteger, Computed}
+use Rattle.stack_effects.specs.declared.row.Row.{Row}
 use Rattle.code_flow.specs.Demands.{is_number, is_integer, referent, object_element, outcome}
 use Rattle.code_flow.specs.Effects.{operands_of, below_operands, taken, results, effect}
 use Rattle.code_flow.specs.Rows as rows
 use Rattle.code_flow.specs.Rows.{given, kept_if, reference_to, fetched_from, always, same, same_number, same_integer, pointed, fetched, computed}
-use Rattle.stack_rows.specs.RowMeanings.{stack_meant, IsStackWithin, MeansStack, given_by, demand_meant, pairing_meant, pushed_meant, IsPushedWithin, row_meant}
+use Rattle.stack_effects.specs.RowMeanings.{stack_meant, IsStackWithin, MeansStack, given_by, demand_meant, pairing_meant, pushed_meant, IsPushedWithin, row_meant}
 use Rattle.body_verifier.proofs.Asks.{operand_is}
-use Rattle.stack_rows.proofs.Growing.{type_kept, pushed_kept, stack_kept}
+use Rattle.stack_effects.proofs.Growing.{type_kept, pushed_kept, stack_kept}
 
 -- ---- one value
 

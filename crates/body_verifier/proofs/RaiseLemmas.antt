@@ -2,7 +2,7 @@
 use Rattle.std.proofs.Common.{◌≡◌, ◌≢◌, ◌⊎◌, inl, inr, refl, sym, ◌∙◌, ap, subst, ℕ, ◌<◌, arith, List, length, Some}
 use Rattle.std.specs.Prelude.{slice_get, slice_set}
 use Rattle.sig_pool.specs.declared.node.Node.{Node}
-use Rattle.type_world.specs.Hierarchy.{Hierarchy}
+use Rattle.type_hierarchy.specs.Hierarchy.{Hierarchy}
 use Rattle.body_verifier.specs.declared.state.State.{State}
 use Rattle.body_verifier.specs.Meetings.{IsNewMeeting}
 use Rattle.body_verifier.specs.StateMeanings.{state_meant, state_or_none, MeetsAs, IsStateWithin, typing_of}

@@ -1,10 +1,10 @@
 -- How often what is known before an instruction can still change.
 use Rattle.std.proofs.Common.{◌≡◌, ◌⊎◌, inl, inr, refl, sym, ◌∙◌, ap, subst, ℕ, zero, suc, ◌+◌, ◌*◌, ◌<◌, ◌≤◌, arith, List, [], ◌∷◌, length, Option, None, Some}
 use Rattle.type_terms.specs.declared.term.SigType.{SigType}
-use Rattle.type_world.specs.Hierarchy.{Hierarchy, object, parent, Chain, alone, further}
-use Rattle.type_world.specs.Laws.{IsGrounded}
-use Rattle.type_world.specs.Relations.{Below, equal, below_bad, null_below_ref, null_below_boxed, ref_chain, boxed_chain}
-use Rattle.type_world.specs.Stack.{Stack, i4, i8, native, float, null, ref, boxed, val, ptr, bad}
+use Rattle.type_hierarchy.specs.Hierarchy.{Hierarchy, object, parent, Chain, alone, further}
+use Rattle.type_hierarchy.specs.Laws.{IsGrounded}
+use Rattle.type_hierarchy.specs.Relations.{Below, equal, below_bad, null_below_ref, null_below_boxed, ref_chain, boxed_chain}
+use Rattle.type_hierarchy.specs.Stack.{Stack, i4, i8, native, float, null, ref, boxed, val, ptr, bad}
 use Rattle.body_verifier.specs.Potential.{rank, ranks, changes, IsLow}
 use Rattle.code_flow.specs.Stacks.{Each}
 use Rattle.code_flow.specs.Typings.{State, unreached, stack, clash, AtMost, below_all, above_all, stacks}

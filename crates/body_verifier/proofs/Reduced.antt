@@ -6,10 +6,10 @@ use Rattle.type_terms.specs.declared.term.Owner.{Owner}
 use Rattle.type_terms.specs.declared.term.Owner.TheOpen.{SigType-F, Prim, Class, Value, Inst, Var, MVar, SzArray, Array, ByRef, Pointer, Mod, Pinned}
 use Rattle.type_terms.specs.declared.term.SigType.{SigType, out-SigType, roll-SigType, roll-out-SigType}
 use Rattle.type_terms.specs.declared.term.SigType.TheVariants as type
-use Rattle.type_world.specs.Names.{is_integral}
-use Rattle.type_world.specs.Hierarchy.{Hierarchy, underlying, layer_underlying}
-use Rattle.type_world.specs.Laws.{IsGrounded}
-use Rattle.type_world.specs.Stack.{is_reference, layer_is_reference, reduced_type, verification_type, changed, counts_as, or_else, primitive, layer_primitive, signed, verified}
+use Rattle.type_hierarchy.specs.Names.{is_integral}
+use Rattle.type_hierarchy.specs.Hierarchy.{Hierarchy, underlying, layer_underlying}
+use Rattle.type_hierarchy.specs.Laws.{IsGrounded}
+use Rattle.type_hierarchy.specs.Stack.{is_reference, layer_is_reference, reduced_type, verification_type, changed, counts_as, or_else, primitive, layer_primitive, signed, verified}
 use Rattle.code_flow.specs.declared.operation.Numeric.{Numeric}
 use Rattle.code_flow.specs.declared.operation.Numeric.TheVariants as numeric
 use Rattle.code_flow.specs.Rows.{primitive_of}

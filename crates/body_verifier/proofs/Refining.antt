@@ -4,10 +4,10 @@ use Rattle.std.specs.List.{Contains}
 use Rattle.type_terms.specs.declared.term.Primitive.TheVariants as prim
 use Rattle.type_terms.specs.declared.term.SigType.{SigType}
 use Rattle.type_terms.specs.declared.term.SigType.TheVariants as type
-use Rattle.type_world.specs.Hierarchy.{Hierarchy, object, parent, interfaces, Up, itself, to_parent, to_interface, Chain, alone, further, Elements, elements, layer_elements}
-use Rattle.type_world.specs.Stack.{Stack, i4, i8, native, float, null, ref, boxed, val, ptr, bad, is_reference, reduced_type, verification_type, verified}
-use Rattle.type_world.specs.Relations.{AreAlike, Assignable, same, null_ref, null_boxed, ref_object, boxed_object, ref_up, boxed_parent, boxed_interface, by_elements, by_reduced, Below, equal, below_bad, null_below_ref, null_below_boxed, ref_chain, boxed_chain}
-use Rattle.type_world.specs.Laws.{IsGrounded, IsTransitive, JoinLaws}
+use Rattle.type_hierarchy.specs.Hierarchy.{Hierarchy, object, parent, interfaces, Up, itself, to_parent, to_interface, Chain, alone, further, Elements, elements, layer_elements}
+use Rattle.type_hierarchy.specs.Stack.{Stack, i4, i8, native, float, null, ref, boxed, val, ptr, bad, is_reference, reduced_type, verification_type, verified}
+use Rattle.type_hierarchy.specs.Relations.{AreAlike, Assignable, same, null_ref, null_boxed, ref_object, boxed_object, ref_up, boxed_parent, boxed_interface, by_elements, by_reduced, Below, equal, below_bad, null_below_ref, null_below_boxed, ref_chain, boxed_chain}
+use Rattle.type_hierarchy.specs.Laws.{IsGrounded, IsTransitive, JoinLaws}
 use Rattle.code_flow.specs.declared.operation.Numeric.{Numeric}
 use Rattle.code_flow.specs.Demands.{is_object, element}
 use Rattle.assignability.specs.Keys.{vector_elements}

@@ -9,8 +9,8 @@ use Rattle.std.proofs.Math.Nat.{mul-le-mul_left}
 use Rattle.code_flow.specs.declared.goings.Carried.{Carried}
 use Rattle.code_flow.specs.declared.goings.Carried.TheVariants.{Flowing, Nothing, Object, Caught}
 use Rattle.code_flow.specs.declared.goings.Going.{Going}
-use Rattle.type_world.specs.Hierarchy.{Hierarchy}
-use Rattle.type_world.specs.Stack as stacks
+use Rattle.type_hierarchy.specs.Hierarchy.{Hierarchy}
+use Rattle.type_hierarchy.specs.Stack as stacks
 use Rattle.code_flow.specs.Edges.{Carries, stated, any_object, Edge}
 use Rattle.code_flow.specs.Frames.{Frame}
 use Rattle.code_flow.specs.Goings.{FlowTogether, BringTogether, BringsObject, any_comes, caught_comes, carries_of, found_in, AreGoings, IsGoings}

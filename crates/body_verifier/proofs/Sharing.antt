@@ -3,11 +3,11 @@ use Rattle.std.proofs.Common.{◌≡◌, ◌∙◌, ap, sym, subst, ℕ, ◌-◌
 use Rattle.std.proofs.lemmas.List.{length-take, get_or-take, map-append, take-append-drop, take_all}
 use Rattle.std.proofs.lemmas.List.Elements.{All-append, All-take, All-drop}
 use Rattle.sig_pool.specs.declared.node.Node.{Node}
-use Rattle.type_world.specs.declared.stack_type.StackType.{StackType}
-use Rattle.type_world.specs.declared.stack_type.StackType.TheVariants.{Bad}
-use Rattle.type_world.specs.Meaning.{meant, IsWithin}
-use Rattle.type_world.specs.Stack.{Stack}
-use Rattle.stack_rows.specs.RowMeanings.{stack_meant, IsStackWithin, MeansStack}
+use Rattle.type_hierarchy.specs.declared.stack_type.StackType.{StackType}
+use Rattle.type_hierarchy.specs.declared.stack_type.StackType.TheVariants.{Bad}
+use Rattle.type_hierarchy.specs.Meaning.{meant, IsWithin}
+use Rattle.type_hierarchy.specs.Stack.{Stack}
+use Rattle.stack_effects.specs.RowMeanings.{stack_meant, IsStackWithin, MeansStack}
 use Rattle.body_verifier.proofs.StackLemmas.{same_maps}
 
 -- the first values mean the same

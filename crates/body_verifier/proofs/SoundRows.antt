@@ -6,8 +6,8 @@ use Rattle.type_terms.specs.declared.term.Owner.TheOpen.{Prim}
 use Rattle.type_terms.specs.declared.term.SigType.{SigType}
 use Rattle.assembly_tree.specs.declared.body.Ins.{Ins}
 use Rattle.assembly_tree.specs.declared.body.Operand as operand
-use Rattle.type_world.specs.Hierarchy.{Hierarchy}
-use Rattle.type_world.specs.Stack.{is_reference, pointer_to, ref, val}
+use Rattle.type_hierarchy.specs.Hierarchy.{Hierarchy}
+use Rattle.type_hierarchy.specs.Stack.{is_reference, pointer_to, ref, val}
 use Rattle.code_flow.specs.declared.operation.Numeric.{Numeric}
 use Rattle.code_flow.specs.declared.operation.Numeric.TheVariants as numeric_type
 use Rattle.code_flow.specs.declared.operation.Operation.{Operation}

@@ -6,18 +6,18 @@ use Rattle.std.specs.Prelude.{slice_get}
 use Rattle.std.proofs.lemmas.Option.{get_or_from_slice_get, slice_get_within}
 use Rattle.std.proofs.lemmas.List.Elements.{All-get_or, All-from_get_or, All-weaker}
 use Rattle.sig_pool.specs.declared.node.Node.{Node}
-use Rattle.type_world.specs.declared.stack_type.StackType.{StackType}
-use Rattle.type_world.specs.declared.stack_type.StackType.TheVariants.{Bad}
-use Rattle.type_world.specs.Hierarchy.{Hierarchy}
+use Rattle.type_hierarchy.specs.declared.stack_type.StackType.{StackType}
+use Rattle.type_hierarchy.specs.declared.stack_type.StackType.TheVariants.{Bad}
+use Rattle.type_hierarchy.specs.Hierarchy.{Hierarchy}
 use Rattle.assignability.specs.Joining.{JoinsAs}
-use Rattle.type_world.specs.Meaning.{meant, IsWithin}
-use Rattle.type_world.specs.Relations.{Below, IsJoin}
-use Rattle.type_world.specs.Stack.{Stack, bad}
+use Rattle.type_hierarchy.specs.Meaning.{meant, IsWithin}
+use Rattle.type_hierarchy.specs.Relations.{Below, IsJoin}
+use Rattle.type_hierarchy.specs.Stack.{Stack, bad}
 use Rattle.assignability.specs.Staying.{KeepsKeys}
-use Rattle.type_world.specs.Tables.{hierarchy_in}
-use Rattle.type_world.specs.World.{Content, hierarchy, Stays}
+use Rattle.type_hierarchy.specs.Tables.{hierarchy_in}
+use Rattle.type_hierarchy.specs.World.{Content, hierarchy, Stays}
 use Rattle.body_verifier.specs.Meetings.{IsMeeting, IsNewMeeting}
-use Rattle.stack_rows.specs.RowMeanings.{stack_meant, IsStackWithin}
+use Rattle.stack_effects.specs.RowMeanings.{stack_meant, IsStackWithin}
 use Rattle.code_flow.specs.Stacks.{Each}
 use Rattle.body_verifier.specs.StateMeanings.{AllJoinAs}
 use Rattle.code_flow.specs.Typings.{State, unreached, stack, clash, AtMost, below_all, above_all, stacks}

@@ -1,14 +1,14 @@
 -- What is known where two ways meet.
 use Rattle.std.proofs.Common.{◌≡◌, refl, sym, subst, ℕ, List, [], ◌∷◌}
 use Rattle.sig_pool.specs.declared.node.Node.{Node}
-use Rattle.type_world.specs.declared.stack_type.StackType.{StackType}
-use Rattle.type_world.specs.Hierarchy.{Hierarchy}
-use Rattle.type_world.specs.Relations.{Below, equal}
-use Rattle.type_world.specs.Stack.{Stack}
+use Rattle.type_hierarchy.specs.declared.stack_type.StackType.{StackType}
+use Rattle.type_hierarchy.specs.Hierarchy.{Hierarchy}
+use Rattle.type_hierarchy.specs.Relations.{Below, equal}
+use Rattle.type_hierarchy.specs.Stack.{Stack}
 use Rattle.body_verifier.specs.Meetings.{IsMeeting, IsNewMeeting}
 use Rattle.body_verifier.specs.declared.state.State as code
 use Rattle.body_verifier.specs.declared.state.State.TheVariants as states
-use Rattle.stack_rows.specs.RowMeanings.{stack_meant, IsStackWithin}
+use Rattle.stack_effects.specs.RowMeanings.{stack_meant, IsStackWithin}
 use Rattle.code_flow.specs.Stacks.{Each}
 use Rattle.body_verifier.specs.StateMeanings.{state_meant, IsStateWithin}
 use Rattle.code_flow.specs.Typings.{State, unreached, stack, clash, AtMost, below_all, above_all, stacks}

@@ -9,10 +9,10 @@ use Rattle.assembly_tree.specs.declared.body.ClauseKind.{ClauseKind}
 use Rattle.assembly_tree.specs.declared.body.ClauseKind.TheVariants.{Catch, Filter, Finally, Fault}
 use Rattle.sig_pool.specs.declared.node.Node.{Node}
 use Rattle.sig_pool.specs.Pool.{Extends}
-use Rattle.type_world.specs.Meaning.{IsWithin}
-use Rattle.type_world.specs.Stack.{Stack}
-use Rattle.type_world.specs.Tables.{hierarchy_in}
-use Rattle.type_world.specs.World.{Content, hierarchy, Stays}
+use Rattle.type_hierarchy.specs.Meaning.{IsWithin}
+use Rattle.type_hierarchy.specs.Stack.{Stack}
+use Rattle.type_hierarchy.specs.Tables.{hierarchy_in}
+use Rattle.type_hierarchy.specs.World.{Content, hierarchy, Stays}
 use Rattle.body_verifier.specs.declared.state.State.{State}
 use Rattle.body_verifier.specs.declared.state.State.TheVariants as state
 use Rattle.body_verifier.specs.declared.stated.Stated.{Stated}
@@ -24,8 +24,8 @@ use Rattle.body_verifier.specs.StateMeanings.{state_meant, IsStateWithin}
 use Rattle.body_verifier.specs.Stating.{IsStack, found_at}
 use Rattle.code_flow.specs.Typings as typings
 use Rattle.body_verifier.specs.Ways.{AreStatedFor}
-use Rattle.stack_rows.proofs.Growing.{stack_within, stack_same}
-use Rattle.stack_rows.proofs.Zips.{zip_weaker, zip_end}
+use Rattle.stack_effects.proofs.Growing.{stack_within, stack_same}
+use Rattle.stack_effects.proofs.Zips.{zip_weaker, zip_end}
 
 -- ---- as a pool grows
 

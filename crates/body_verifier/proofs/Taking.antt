@@ -4,11 +4,11 @@ use Rattle.std.proofs.lemmas.List.{length-append, length-map, length-replicate, 
 use Rattle.std.proofs.lemmas.List.Elements.{All-get_or}
 use Rattle.std.proofs.lemmas.Option.{slice_get_within, get_or_from_slice_get}
 use Rattle.sig_pool.specs.declared.node.Node.{Node}
-use Rattle.type_world.specs.declared.stack_type.StackType.{StackType}
-use Rattle.type_world.specs.Meaning.{meant, IsWithin}
-use Rattle.type_world.specs.Stack.{Stack, bad}
+use Rattle.type_hierarchy.specs.declared.stack_type.StackType.{StackType}
+use Rattle.type_hierarchy.specs.Meaning.{meant, IsWithin}
+use Rattle.type_hierarchy.specs.Stack.{Stack, bad}
 use Rattle.code_flow.specs.Effects.{operands_of}
-use Rattle.stack_rows.specs.RowMeanings.{stack_meant, IsStackWithin}
+use Rattle.stack_effects.specs.RowMeanings.{stack_meant, IsStackWithin}
 
 pub operands_long : (n : ℕ) (s : List Stack) → length (operands_of n s) ≡ n
 operands_long n s = simp (length-append, length-replicate, length-drop) (omega arith)

@@ -3,16 +3,16 @@ use Rattle.std.proofs.Common.{◌≡◌, ◌↔◌, ◌∙◌, inl, inr, ap, sym
 use Rattle.std.proofs.lemmas.List.{length-map, length-drop, drop-map}
 use Rattle.std.proofs.lemmas.List.Elements.{All-drop}
 use Rattle.sig_pool.specs.declared.node.Node.{Node}
-use Rattle.type_world.specs.declared.stack_type.StackType.{StackType}
-use Rattle.type_world.specs.Hierarchy.{Hierarchy}
-use Rattle.type_world.specs.Meaning.{meant, IsWithin}
-use Rattle.type_world.specs.Stack.{Stack, bad}
+use Rattle.type_hierarchy.specs.declared.stack_type.StackType.{StackType}
+use Rattle.type_hierarchy.specs.Hierarchy.{Hierarchy}
+use Rattle.type_hierarchy.specs.Meaning.{meant, IsWithin}
+use Rattle.type_hierarchy.specs.Stack.{Stack, bad}
 use Rattle.body_verifier.specs.Asking.{HasWrongOperand, HasUnassignable, FailsToFit, IsMismatched}
-use Rattle.stack_rows.specs.declared.row.Row as code
+use Rattle.stack_effects.specs.declared.row.Row as code
 use Rattle.code_flow.specs.Demands.{HasWrongKind, FailsToAssign, FailToStore, AreMismatched}
 use Rattle.code_flow.specs.Effects.{operands_of, taken}
 use Rattle.code_flow.specs.Rows.{Row}
-use Rattle.stack_rows.specs.RowMeanings.{stack_meant, IsStackWithin, demand_meant, row_meant}
+use Rattle.stack_effects.specs.RowMeanings.{stack_meant, IsStackWithin, demand_meant, row_meant}
 
 operands_above : (n : ℕ) (s : List Stack) → operands_of n (drop (length s - n) s) ≡ operands_of n s
 operands_above n s =

@@ -3,7 +3,7 @@ use Rattle.std.proofs.Common.{◌≡◌, ◌⊎◌, inl, inr, refl, sym, ◌∙�
 use Rattle.std.specs.Prelude.{slice_get, ◌&&◌, ◌||◌, ◌↔◌}
 use Rattle.std.proofs.lemmas.Bool.{and_parts, or_cases}
 use Rattle.assembly_tree.specs.declared.body.Ins.{Ins}
-use Rattle.type_world.specs.Stack.{Stack}
+use Rattle.type_hierarchy.specs.Stack.{Stack}
 use Rattle.body_verifier.specs.declared.judging.StackBreaks.{StackBreaks}
 use Rattle.body_verifier.specs.declared.judging.CodeBreaks.{CodeBreaks}
 use Rattle.code_flow.specs.declared.operation.Operation.{Operation}

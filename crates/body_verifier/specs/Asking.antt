@@ -1,7 +1,7 @@
 -- Stacks that don't meet what an instruction asks of them (ECMA-335 III.1.5).
 use Rattle.std.specs.Prelude.{◌≡◌, ℕ, ◌⊎◌, List, get_or, slice_get, Some}
-use Rattle.type_world.specs.Hierarchy.{Hierarchy}
-use Rattle.type_world.specs.Stack.{Stack, bad}
+use Rattle.type_hierarchy.specs.Hierarchy.{Hierarchy}
+use Rattle.type_hierarchy.specs.Stack.{Stack, bad}
 use Rattle.code_flow.specs.Demands.{Demand, HasWrongKind, FailsToAssign, AreMismatched, FailToStore}
 use Rattle.code_flow.specs.Rows.{Row}
 use Rattle.code_flow.specs.Effects.{taken}

@@ -3,7 +3,7 @@ use Rattle.std.specs.Prelude.{List, [], ◌∷◌, Option, None, Some}
 use Rattle.std.specs.Rc.{rc_value}
 use Rattle.std.specs.declared.alloc.Global.{Global}
 use Rattle.std.specs.declared.rc.Rc.{Rc}
-use Rattle.type_world.specs.declared.stack_type.StackType.{StackType}
+use Rattle.type_hierarchy.specs.declared.stack_type.StackType.{StackType}
 use Rattle.body_verifier.specs.declared.stack.Cell.{Cell, Cell', Held-Cell-below, None', Some'}
 
 abbrev mutual

@@ -4,7 +4,7 @@ use Rattle.std.specs.List.{Contains}
 use Rattle.type_terms.specs.declared.term.SigType.{SigType}
 use Rattle.assembly_tree.specs.declared.body.Clause.{Clause}
 use Rattle.assembly_tree.specs.declared.body.Ins.{Ins}
-use Rattle.type_world.specs.Stack.{Stack}
+use Rattle.type_hierarchy.specs.Stack.{Stack}
 use Rattle.code_flow.specs.declared.operation.Operation.{Operation}
 use Rattle.code_flow.specs.declared.operation.Operation.TheVariants as does
 use Rattle.code_flow.specs.declared.operation.Prefix.{Prefix}

@@ -1,6 +1,6 @@
 -- Where two ways meet (ECMA-335 III.1.8.1.3).
 use Rattle.std.specs.Prelude.{◌≡◌}
-use Rattle.type_world.specs.Hierarchy.{Hierarchy}
+use Rattle.type_hierarchy.specs.Hierarchy.{Hierarchy}
 use Rattle.code_flow.specs.Typings.{State, AtMost}
 
 -- the least state that both are at most

@@ -4,7 +4,7 @@ use Rattle.assembly_tree.specs.declared.assembly.Assembly.{Assembly}
 use Rattle.assembly_tree.specs.declared.body.Body.{Body}
 use Rattle.assembly_tree.specs.declared.typedef.MethodPath.{MethodPath}
 use Rattle.assembly_tree.specs.WellFormedBodies.{offset_of}
-use Rattle.type_world.specs.Hierarchy.{Hierarchy}
+use Rattle.type_hierarchy.specs.Hierarchy.{Hierarchy}
 use Rattle.body_verifier.specs.declared.report.Broken.{Broken}
 use Rattle.body_verifier.specs.declared.report.Failure.{Failure}
 use Rattle.code_flow.specs.Methods.{Declared, method_at, all_methods}

@@ -2,11 +2,11 @@
 use Rattle.std.specs.Prelude.{◌≡◌, ℕ, Bool, true, false, ◌<◌, List, [], length, map, get_or, slice_get, Option, None, Some}
 use Rattle.std.specs.List.{All}
 use Rattle.sig_pool.specs.declared.node.Node.{Node}
-use Rattle.type_world.specs.declared.stack_type.StackType.{StackType}
-use Rattle.type_world.specs.declared.stack_type.StackType.TheVariants.{Bad}
-use Rattle.type_world.specs.Hierarchy.{Hierarchy}
+use Rattle.type_hierarchy.specs.declared.stack_type.StackType.{StackType}
+use Rattle.type_hierarchy.specs.declared.stack_type.StackType.TheVariants.{Bad}
+use Rattle.type_hierarchy.specs.Hierarchy.{Hierarchy}
 use Rattle.assignability.specs.Joining.{JoinsAs}
-use Rattle.stack_rows.specs.RowMeanings.{stack_meant, IsStackWithin}
+use Rattle.stack_effects.specs.RowMeanings.{stack_meant, IsStackWithin}
 use Rattle.code_flow.specs.Typings as typings
 use Rattle.body_verifier.specs.Meetings.{IsMeeting, IsNewMeeting}
 use Rattle.body_verifier.specs.declared.state.State.{State}

@@ -2,7 +2,7 @@
 use Rattle.std.specs.Prelude.{◌≡◌, List, length}
 use Rattle.assembly_tree.specs.declared.body.Clause.{Clause}
 use Rattle.sig_pool.specs.declared.node.Node.{Node}
-use Rattle.type_world.specs.Stack.{Stack}
+use Rattle.type_hierarchy.specs.Stack.{Stack}
 use Rattle.body_verifier.specs.declared.state.State.{State}
 use Rattle.code_flow.specs.Frames.{Frame}
 use Rattle.code_flow.specs.Goings.{found_by}

@@ -1,8 +1,8 @@
 -- How many joins and parents a check of a body takes at most.
 use Rattle.std.specs.Prelude.{◌≡◌, ℕ, ◌+◌, ◌*◌, ◌<◌, List, length}
 use Rattle.std.specs.List.{Contains, AllPairs}
-use Rattle.type_world.specs.Scopes.{Sources}
-use Rattle.type_world.specs.Ancestors.{all_declared}
+use Rattle.type_hierarchy.specs.Scopes.{Sources}
+use Rattle.type_hierarchy.specs.Ancestors.{all_declared}
 use Rattle.code_flow.specs.Frames.{Frame}
 use Rattle.code_flow.specs.Edges.{Carries, Edge}
 

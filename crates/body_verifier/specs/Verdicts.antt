@@ -2,8 +2,8 @@
 use Rattle.std.specs.Prelude.{◌≡◌, ◌⊎◌, ◌↔◌, ℕ, ◌+◌, ◌<◌, Bool, true, false, ◌&&◌, ◌||◌, List, [], ◌∷◌, length, get_or, Option, None, Some, IsTrue}
 use Rattle.std.specs.List.{Contains}
 use Rattle.assembly_tree.specs.declared.body.Clause.{Clause}
-use Rattle.type_world.specs.Hierarchy.{Hierarchy}
-use Rattle.type_world.specs.Stack.{Stack}
+use Rattle.type_hierarchy.specs.Hierarchy.{Hierarchy}
+use Rattle.type_hierarchy.specs.Stack.{Stack}
 use Rattle.body_verifier.specs.declared.judging.StackBreaks.{StackBreaks}
 use Rattle.body_verifier.specs.declared.judging.CodeBreaks.{CodeBreaks}
 use Rattle.code_flow.specs.declared.operation.Operation.{Operation}

@@ -4,13 +4,13 @@ use Rattle.std.specs.List.{All, sum_by}
 use Rattle.type_terms.specs.declared.term.SigType.{SigType}
 use Rattle.assembly_tree.specs.declared.body.Ins.{Ins}
 use Rattle.sig_pool.specs.declared.node.Node.{Node}
-use Rattle.type_world.specs.Hierarchy.{Hierarchy}
-use Rattle.type_world.specs.Laws.{IsGrounded, IsOrder}
-use Rattle.type_world.specs.Stack.{Stack}
+use Rattle.type_hierarchy.specs.Hierarchy.{Hierarchy}
+use Rattle.type_hierarchy.specs.Laws.{IsGrounded, IsOrder}
+use Rattle.type_hierarchy.specs.Stack.{Stack}
 use Rattle.code_flow.specs.declared.goings.Carried.{Carried}
 use Rattle.code_flow.specs.declared.goings.Carried.TheVariants.{Flowing, Nothing, Object, Caught}
 use Rattle.code_flow.specs.declared.goings.Going.{Going}
-use Rattle.stack_rows.specs.declared.row.Row.{Row}
+use Rattle.stack_effects.specs.declared.row.Row.{Row}
 use Rattle.body_verifier.specs.declared.state.State.{State}
 use Rattle.body_verifier.specs.declared.stated.Stated.{Stated}
 use Rattle.code_flow.specs.Edges as edges
@@ -20,7 +20,7 @@ use Rattle.code_flow.specs.Goings.{found_in}
 use Rattle.code_flow.specs.Laws.{AreMonotone}
 use Rattle.body_verifier.specs.Meetings.{IsNewMeeting, IsMeeting}
 use Rattle.body_verifier.specs.Potential.{IsLow, reached, potential, potential_at}
-use Rattle.stack_rows.specs.RowMeanings.{row_meant, IsRowWithin}
+use Rattle.stack_effects.specs.RowMeanings.{row_meant, IsRowWithin}
 use Rattle.code_flow.specs.Rows as rows
 use Rattle.body_verifier.specs.StateMeanings.{state_meant, IsStateWithin, typing_of}
 use Rattle.code_flow.specs.Typings as typings

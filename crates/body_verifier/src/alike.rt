@@ -1,7 +1,7 @@
 //! Whether types and stacks of the code mean the same.
 ghost use Rattle.std.specs.Prelude.{◌≡◌, ◌<◌, ◌≤◌, ◌↔◌, length, take, IsTrue};
-ghost use Rattle.type_world.specs.Meaning.{meant, IsWithin};
-ghost use Rattle.stack_rows.specs.RowMeanings.{stack_meant, IsStackWithin};
+ghost use Rattle.type_hierarchy.specs.Meaning.{meant, IsWithin};
+ghost use Rattle.stack_effects.specs.RowMeanings.{stack_meant, IsStackWithin};
 
 use assignability::{StackType, id_of};
 use sig_pool::SigPool;

@@ -2,12 +2,12 @@
 //! alone is given a stack's values, or the topmost of them.
 ghost use Rattle.std.specs.Prelude.{◌≡◌, ◌↔◌, ◌<◌, ◌≤◌, List, length, IsTrue, IfOk};
 ghost use Rattle.sig_pool.specs.declared.node.Node.{Node};
-ghost use Rattle.type_world.specs.Hierarchy.{Hierarchy};
-ghost use Rattle.type_world.specs.Stack as stack;
-ghost use Rattle.type_world.specs.World.{hierarchy, Stays};
+ghost use Rattle.type_hierarchy.specs.Hierarchy.{Hierarchy};
+ghost use Rattle.type_hierarchy.specs.Stack as stack;
+ghost use Rattle.type_hierarchy.specs.World.{hierarchy, Stays};
 ghost use Rattle.body_verifier.specs.Asking.{IsWrongAt, HasWrongOperand, IsUnassignableAt, HasUnassignable, IsUnstored, FailsToFit, IsMismatched};
 ghost use Rattle.code_flow.specs.Effects.{effect};
-ghost use Rattle.stack_rows.specs.RowMeanings.{row_meant, stack_meant, IsRowWithin, IsStackWithin};
+ghost use Rattle.stack_effects.specs.RowMeanings.{row_meant, stack_meant, IsRowWithin, IsStackWithin};
 
 use crate::meeting::{fails_to_assign, is_unassignable, is_wrong, referent};
 use crate::operands::operand;
@@ -16,7 +16,7 @@ use crate::stack::Stack;
 use assignability::StackType;
 use assignability::types::World;
 use il_lists::NoMemory;
-use stack_rows::row::{Row, Together};
+use stack_effects::row::{Row, Together};
 
 /// Whether there are too few operands. Takes no memory.
 pub(crate) fn has_too_few(row: &Row, stack: &Stack) -> bool

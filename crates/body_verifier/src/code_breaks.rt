@@ -1,9 +1,9 @@
 //! Which rules an instruction breaks whatever the stack is.
 ghost use Rattle.std.specs.Prelude.{◌≡◌, ◌<◌, ◌^◌, length};
-ghost use Rattle.type_world.specs.Indexed.{KnowsTypes};
+ghost use Rattle.type_hierarchy.specs.Indexed.{KnowsTypes};
 ghost use Rattle.body_verifier.specs.CodeMarks.{AreAsMany, IsBody};
 ghost use Rattle.code_flow.specs.Frames.{Frame};
-ghost use Rattle.stack_rows.specs.RowMeanings.{IsFrameWithin};
+ghost use Rattle.stack_effects.specs.RowMeanings.{IsFrameWithin};
 ghost use Rattle.body_verifier.specs.Verdicts.{AreCodeBreaks};
 
 use crate::code_marks::CodeMarks;
@@ -17,8 +17,8 @@ use code_flow::code_rules::{
 };
 use code_flow::prefixes::is_stray;
 use code_flow::variable_rules::{lacks_argument, lacks_local};
-use stack_rows::frame::CodeFrame;
-use stack_rows::variables::variable_number;
+use stack_effects::frame::CodeFrame;
+use stack_effects::variables::variable_number;
 
 /// What instruction `k` of a body breaks whatever the stack is. Takes no memory.
 ///

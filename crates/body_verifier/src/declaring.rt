@@ -3,7 +3,7 @@ ghost use Rattle.std.specs.Prelude.{◌≡◌};
 ghost use Rattle.std.specs.Option.{option_copied};
 ghost use Rattle.type_terms.specs.declared.term.SigType.{out-SigType};
 ghost use Rattle.assignability.specs.Fields.{fields_of};
-ghost use Rattle.type_world.specs.Indexed.{KnowsTypes};
+ghost use Rattle.type_hierarchy.specs.Indexed.{KnowsTypes};
 ghost use Rattle.code_flow.specs.Methods.{layer_name, written_name};
 
 use assembly_tree::{Assembly, Field};

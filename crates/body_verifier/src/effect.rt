@@ -2,11 +2,11 @@
 ghost use Rattle.std.specs.Prelude.{◌≡◌, ◌<◌, ◌-◌, ◌++◌, ℕ, List, length, map, take, IfOk, OnOk};
 ghost use Rattle.std.specs.List.{All};
 ghost use Rattle.sig_pool.specs.declared.node.Node.{Node};
-ghost use Rattle.type_world.specs.Meaning.{meant, IsWithin, Means};
-ghost use Rattle.type_world.specs.World.{Stays};
+ghost use Rattle.type_hierarchy.specs.Meaning.{meant, IsWithin, Means};
+ghost use Rattle.type_hierarchy.specs.World.{Stays};
 ghost use Rattle.code_flow.specs.Demands.{object_element, referent};
 ghost use Rattle.code_flow.specs.Effects.{effect};
-ghost use Rattle.stack_rows.specs.RowMeanings.{given_by, pushed_meant, IsPushedWithin, row_meant, IsRowWithin, stack_meant, IsStackWithin, MeansStack};
+ghost use Rattle.stack_effects.specs.RowMeanings.{given_by, pushed_meant, IsPushedWithin, row_meant, IsRowWithin, stack_meant, IsStackWithin, MeansStack};
 ghost use Rattle.code_flow.specs.Rows.{kept_if, reference_to, fetched_from};
 
 use crate::meeting::{object_element, referent};
@@ -16,8 +16,8 @@ use crate::stack::Stack;
 use assignability::StackType;
 use assignability::types::World;
 use il_lists::NoMemory;
-use stack_rows::kinds::{is_integer, is_null, is_number};
-use stack_rows::row::{Pushed, Row};
+use stack_effects::kinds::{is_integer, is_null, is_number};
+use stack_effects::row::{Pushed, Row};
 use std::alloc::Global;
 
 /// An element of a vector of a reference type, and null of null.

@@ -2,12 +2,12 @@
 ghost use Rattle.std.specs.Prelude.{◌≡◌, ◌↔◌, ◌⊎◌, ◌<◌, ◌≤◌, ◌&&◌, ◌||◌, ℕ, List, [], length, slice_get, Some, IsTrue, IfOk};
 ghost use Rattle.assembly_tree.specs.declared.body.Ins.{Ins};
 ghost use Rattle.sig_pool.specs.declared.node.Node.{Node};
-ghost use Rattle.type_world.specs.World.{hierarchy, Stays};
+ghost use Rattle.type_hierarchy.specs.World.{hierarchy, Stays};
 ghost use Rattle.code_flow.specs.Effects.{effect};
 ghost use Rattle.code_flow.specs.Frames.{Frame};
 ghost use Rattle.code_flow.specs.Operations.{operation};
 ghost use Rattle.code_flow.specs.Rows.{row_of};
-ghost use Rattle.stack_rows.specs.RowMeanings.{row_meant, stack_meant, IsRowWithin, IsStackWithin};
+ghost use Rattle.stack_effects.specs.RowMeanings.{row_meant, stack_meant, IsRowWithin, IsStackWithin};
 ghost use Rattle.code_flow.specs.Typings as typings;
 ghost use Rattle.body_verifier.specs.Verdicts.{AreStackBreaks, AreCodeBreaks, is_return, is_filter_end, tests_of, IsFirst, Judges};
 
@@ -19,7 +19,7 @@ use assignability::keys_keep_their_types;
 use assignability::types::World;
 use code_flow::operation::Operation;
 use il_lists::NoMemory;
-use stack_rows::row::Row;
+use stack_effects::row::Row;
 use std::alloc::Global;
 
 /// What an instruction breaks that asks its stack.

@@ -1,6 +1,6 @@
 ghost use Rattle.std.specs.Prelude.{ℕ};
 ghost use Rattle.type_terms.specs.declared.term.SigType.{SigType};
-ghost use Rattle.type_world.specs.Laws.{IsGrounded};
+ghost use Rattle.type_hierarchy.specs.Laws.{IsGrounded};
 ghost use Rattle.code_flow.specs.Frames.{Frame};
 ghost use Rattle.code_flow.specs.Laws.{AreMonotone, HasOneLeast, IsFormed, PathsAreRight};
 

@@ -2,11 +2,11 @@
 ghost use Rattle.std.specs.Prelude.{◌≡◌, ◌↔◌, ◌<◌, ◌||◌, ◌⊎◌, List, length, IsTrue, IfOk};
 ghost use Rattle.sig_pool.specs.declared.node.Node.{Node};
 ghost use Rattle.sig_pool.specs.Terms.{term_of};
-ghost use Rattle.type_world.specs.Meaning.{meant, IsWithin};
-ghost use Rattle.type_world.specs.Pooled.{HasOption};
-ghost use Rattle.type_world.specs.World.{hierarchy, Stays};
+ghost use Rattle.type_hierarchy.specs.Meaning.{meant, IsWithin};
+ghost use Rattle.type_hierarchy.specs.Pooled.{HasOption};
+ghost use Rattle.type_hierarchy.specs.World.{hierarchy, Stays};
 ghost use Rattle.code_flow.specs.Demands.{is_integer, is_object, is_pointer, if_reference, referent, object_element, vector, vector_of, object_vector, HasWrongKind, FailsToAssign, IsUnassignable};
-ghost use Rattle.stack_rows.specs.RowMeanings.{demand_meant, IsDemandWithin};
+ghost use Rattle.stack_effects.specs.RowMeanings.{demand_meant, IsDemandWithin};
 
 use crate::alike::same_type;
 use crate::pairs::is_comparable;
@@ -14,9 +14,11 @@ use assignability::types::World;
 use assignability::{StackType, TypeKey, assignable, element_of, id_of, pointer_to};
 use il_lists::NoMemory;
 use sig_pool::SigPool;
-use stack_rows::kinds::{is_bad, is_index, is_integer, is_null, is_number, is_object, is_pointer};
-use stack_rows::row::Demand;
-use stack_rows::type_kinds::is_reference;
+use stack_effects::kinds::{
+    is_bad, is_index, is_integer, is_null, is_number, is_object, is_pointer,
+};
+use stack_effects::row::Demand;
+use stack_effects::type_kinds::is_reference;
 
 /// What a managed pointer to a reference type points to; None for anything else. Takes no memory.
 pub(crate) fn referent(pool: &SigPool, s: &StackType) -> Option<TypeKey>

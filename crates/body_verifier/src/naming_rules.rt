@@ -1,14 +1,14 @@
 //! The rules on the member or the variable that an instruction names (V10, V19). Nothing here takes memory.
 ghost use Rattle.std.specs.Prelude.{◌≡◌, ◌↔◌, ◌<◌, ℕ, length, slice_get, codes, IsTrue, Some};
 ghost use Rattle.sig_pool.specs.Terms.{AllBelow};
-ghost use Rattle.type_world.specs.Indexed.{KnowsTypes};
-ghost use Rattle.type_world.specs.Names.{same_text};
+ghost use Rattle.type_hierarchy.specs.Indexed.{KnowsTypes};
+ghost use Rattle.type_hierarchy.specs.Names.{same_text};
 ghost use Rattle.code_flow.specs.Frames.{Frame};
 ghost use Rattle.body_verifier.specs.Judging.{Misfits, PointsToReference};
 ghost use Rattle.body_verifier.specs.MemberTests.{IsOther, HasOther, is_reference_there, addresses_reference};
 ghost use Rattle.code_flow.specs.Methods.{is_static};
 ghost use Rattle.code_flow.specs.Operations.{operation};
-ghost use Rattle.stack_rows.specs.RowMeanings.{type_option, MeansFrame, IsFrameWithin};
+ghost use Rattle.stack_effects.specs.RowMeanings.{type_option, MeansFrame, IsFrameWithin};
 ghost use Rattle.code_flow.specs.Rows.{variable};
 ghost use Rattle.code_flow.specs.Rules.{misfits_method, wants_static, MisfitsField, MisfitsMember};
 
@@ -17,9 +17,9 @@ use assembly_tree::{Assembly, Field, Ins, Operand};
 use assignability::types::World;
 use assignability::{TypeKeys, id_of};
 use code_flow::operation::{Operation, operation_of};
-use stack_rows::frame::CodeFrame;
-use stack_rows::type_kinds::is_by_reference;
-use stack_rows::variables::variable_key;
+use stack_effects::frame::CodeFrame;
+use stack_effects::type_kinds::is_by_reference;
+use stack_effects::variables::variable_key;
 use std::cmp::Ordering;
 use type_terms::{FieldRef, MethodRef, SigType, compare_terms};
 

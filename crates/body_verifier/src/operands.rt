@@ -1,10 +1,10 @@
 //! The operands of an instruction on a stack.
 ghost use Rattle.std.specs.Prelude.{◌≡◌, ℕ, get_or, List};
 ghost use Rattle.sig_pool.specs.declared.node.Node.{Node};
-ghost use Rattle.type_world.specs.Meaning.{meant, IsWithin};
-ghost use Rattle.type_world.specs.Stack.{bad};
+ghost use Rattle.type_hierarchy.specs.Meaning.{meant, IsWithin};
+ghost use Rattle.type_hierarchy.specs.Stack.{bad};
 ghost use Rattle.code_flow.specs.Effects.{operands_of};
-ghost use Rattle.stack_rows.specs.RowMeanings.{stack_meant, IsStackWithin};
+ghost use Rattle.stack_effects.specs.RowMeanings.{stack_meant, IsStackWithin};
 
 use assignability::StackType;
 

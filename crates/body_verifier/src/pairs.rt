@@ -2,14 +2,14 @@
 ghost use Rattle.std.specs.Prelude.{◌≡◌, ◌&&◌, not, ℕ, List, IfSome};
 ghost use Rattle.std.specs.Option.{option_map};
 ghost use Rattle.sig_pool.specs.declared.node.Node.{Node};
-ghost use Rattle.type_world.specs.Meaning.{meant, IsWithin};
-ghost use Rattle.type_world.specs.Stack.{i4, native};
+ghost use Rattle.type_hierarchy.specs.Meaning.{meant, IsWithin};
+ghost use Rattle.type_hierarchy.specs.Stack.{i4, native};
 ghost use Rattle.code_flow.specs.Demands.{arithmetic, go_together, outcome};
-ghost use Rattle.stack_rows.specs.RowMeanings.{comparable_test, pairing_meant};
+ghost use Rattle.stack_effects.specs.RowMeanings.{comparable_test, pairing_meant};
 
 use assignability::StackType;
-use stack_rows::kinds::{is_integer, is_number, is_object, is_pointer};
-use stack_rows::row::Pairing;
+use stack_effects::kinds::{is_integer, is_number, is_object, is_pointer};
+use stack_effects::row::Pairing;
 
 /// Whether it may be one of a pair.
 pub(crate) fn is_comparable(t: &StackType) -> bool

@@ -1,10 +1,10 @@
 //! The least typing of a body, by the instructions that wait.
 ghost use Rattle.std.specs.Prelude.{◌≡◌, ℕ, List, ◌+◌, ◌-◌, ◌*◌, ◌<◌, ◌≤◌, ◌^◌, [], ◌∷◌, length, min, replicate, slice_get, Some, IfOk, OnOk};
 ghost use Rattle.std.specs.List.{All};
-ghost use Rattle.type_world.specs.World.{hierarchy, Stays};
+ghost use Rattle.type_hierarchy.specs.World.{hierarchy, Stays};
 ghost use Rattle.code_flow.specs.Goings.{IsGoings};
 ghost use Rattle.body_verifier.specs.StepBound.{AreEdges, step_bound};
-ghost use Rattle.stack_rows.specs.RowMeanings.{row_meant, IsRowWithin};
+ghost use Rattle.stack_effects.specs.RowMeanings.{row_meant, IsRowWithin};
 ghost use Rattle.body_verifier.specs.StateMeanings.{state_meant, IsStateWithin, state_depth, depth_or_none, typing_of};
 ghost use Rattle.assembly_tree.specs.declared.body.Ins.{Ins};
 ghost use Rattle.code_flow.specs.Rows.{row_of};
@@ -22,7 +22,7 @@ use assignability::types::World;
 use code_flow::goings::{Going, Goings};
 use il_base::Steps;
 use il_lists::{Items, NoMemory};
-use stack_rows::row::Row;
+use stack_effects::row::Row;
 use std::alloc::Global;
 
 /// What is known after an instruction with that row.

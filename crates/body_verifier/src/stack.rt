@@ -27,7 +27,7 @@ pub(crate) struct Stack {
 
 impl Model for Stack {
     ghost use Rattle.std.specs.Prelude.{◌≡◌, List, length, reverse};
-    ghost use Rattle.type_world.specs.declared.stack_type.StackType.{StackType};
+    ghost use Rattle.type_hierarchy.specs.declared.stack_type.StackType.{StackType};
     ghost use Rattle.body_verifier.specs.Chains.{values_of};
 
     ghost Value = { List StackType };

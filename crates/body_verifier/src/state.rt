@@ -1,7 +1,7 @@
 //! What is known before each instruction, and what is known where two ways meet.
 ghost use Rattle.std.specs.Prelude.{◌≡◌, ◌+◌, ◌≤◌, ◌^◌, length, min, IfOk};
-ghost use Rattle.type_world.specs.World.{hierarchy, Stays};
-ghost use Rattle.stack_rows.specs.RowMeanings.{stack_meant, IsStackWithin, MeansStack};
+ghost use Rattle.type_hierarchy.specs.World.{hierarchy, Stays};
+ghost use Rattle.stack_effects.specs.RowMeanings.{stack_meant, IsStackWithin, MeansStack};
 ghost use Rattle.body_verifier.specs.StateMeanings.{AllJoinAs, is_unreached, IsStateWithin, state_depth, MeetsAs};
 
 use crate::alike::{same_count, same_stack};

@@ -1,8 +1,8 @@
 //! The stacks that edges state.
 ghost use Rattle.std.specs.Prelude.{◌≡◌, [], ◌∷◌, map, IfOk};
 ghost use Rattle.std.specs.List.{AllZip};
-ghost use Rattle.type_world.specs.World.{hierarchy, Stays};
-ghost use Rattle.type_world.specs.Stack.{boxed_of};
+ghost use Rattle.type_hierarchy.specs.World.{hierarchy, Stays};
+ghost use Rattle.type_hierarchy.specs.Stack.{boxed_of};
 ghost use Rattle.code_flow.specs.Frames.{Frame, owner_in};
 ghost use Rattle.code_flow.specs.Edges.{any_object};
 ghost use Rattle.code_flow.specs.Goings.{found_by};

@@ -1,11 +1,11 @@
 //! The first rule that an instruction breaks, by what is known before it.
 ghost use Rattle.std.specs.Prelude.{◌≡◌, ◌<◌, ◌^◌, ℕ, length, slice_get, Some, IfOk};
 ghost use Rattle.assembly_tree.specs.declared.body.Ins.{Ins};
-ghost use Rattle.type_world.specs.Indexed.{KnowsTypes};
-ghost use Rattle.type_world.specs.World.{hierarchy, Stays};
+ghost use Rattle.type_hierarchy.specs.Indexed.{KnowsTypes};
+ghost use Rattle.type_hierarchy.specs.World.{hierarchy, Stays};
 ghost use Rattle.body_verifier.specs.CodeMarks.{AreAsMany, IsBody};
 ghost use Rattle.code_flow.specs.Frames.{Frame};
-ghost use Rattle.stack_rows.specs.RowMeanings.{row_meant, IsRowWithin, IsFrameWithin};
+ghost use Rattle.stack_effects.specs.RowMeanings.{row_meant, IsRowWithin, IsFrameWithin};
 ghost use Rattle.code_flow.specs.Rows.{row_of};
 ghost use Rattle.body_verifier.specs.StateMeanings.{state_meant, IsStateWithin};
 ghost use Rattle.code_flow.specs.Typings.{Typing};
@@ -20,8 +20,8 @@ use assignability::types::World;
 use code_flow::blocks::Spans;
 use code_flow::operation::operation_of;
 use il_lists::NoMemory;
-use stack_rows::frame::CodeFrame;
-use stack_rows::row::Row;
+use stack_effects::frame::CodeFrame;
+use stack_effects::row::Row;
 use std::alloc::Global;
 
 /// The number of the first rule that instruction `k` of a body breaks, by its row and what is known before it; none where

@@ -9,7 +9,7 @@ use Rattle.assembly_tree.specs.declared.body.Clause.{Clause}
 use Rattle.assembly_tree.specs.declared.body.ClauseKind.{ClauseKind}
 use Rattle.assembly_tree.specs.declared.body.ClauseKind.TheVariants.{Catch, Filter, Finally, Fault}
 use Rattle.assembly_tree.specs.WellFormedBodies.{is_forward, filter_before}
-use Rattle.type_world.specs.Stack.{Stack}
+use Rattle.type_hierarchy.specs.Stack.{Stack}
 use Rattle.code_flow.specs.declared.blocks.Handling.{Handling}
 use Rattle.code_flow.specs.declared.blocks.Handling.TheVariants as handles
 use Rattle.code_flow.specs.declared.blocks.Span.{Span}

@@ -7,8 +7,8 @@ use Rattle.assembly_tree.specs.declared.body.ClauseKind.{ClauseKind}
 use Rattle.assembly_tree.specs.declared.body.ClauseKind.TheVariants.{Catch, Filter, Finally, Fault}
 use Rattle.assembly_tree.specs.declared.body.Ins.{Ins}
 use Rattle.assembly_tree.specs.declared.body.Operand as operand
-use Rattle.type_world.specs.Hierarchy.{object}
-use Rattle.type_world.specs.Stack.{Stack, ref, boxed_of}
+use Rattle.type_hierarchy.specs.Hierarchy.{object}
+use Rattle.type_hierarchy.specs.Stack.{Stack, ref, boxed_of}
 use Rattle.code_flow.specs.declared.operation.Operation.{Operation}
 use Rattle.code_flow.specs.declared.operation.Operation.TheVariants as does
 use Rattle.code_flow.specs.Operations.{operation}

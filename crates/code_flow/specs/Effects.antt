@@ -1,6 +1,6 @@
 -- The stack after an instruction (ECMA-335 III.1.5). What was pushed first stands first.
 use Rattle.std.specs.Prelude.{ℕ, ◌-◌, if◌then◌else◌, List, [], ◌++◌, map, length, take, drop, replicate}
-use Rattle.type_world.specs.Stack.{Stack, bad}
+use Rattle.type_hierarchy.specs.Stack.{Stack, bad}
 use Rattle.code_flow.specs.Rows.{Row, given}
 
 -- the last `n` values of a stack; those that are missing count as Bad

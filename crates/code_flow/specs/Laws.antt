@@ -3,9 +3,9 @@ use Rattle.std.specs.Prelude.{◌≡◌, ℕ, ◌<◌, List, length, slice_get, 
 use Rattle.std.specs.List.{list_all}
 use Rattle.assembly_tree.specs.declared.body.Ins.{Ins}
 use Rattle.assembly_tree.specs.WellFormedBodies.{is_instruction, is_clause}
-use Rattle.type_world.specs.Hierarchy.{Hierarchy}
-use Rattle.type_world.specs.Stack.{Stack, bad}
-use Rattle.type_world.specs.Relations.{Assignable, Below}
+use Rattle.type_hierarchy.specs.Hierarchy.{Hierarchy}
+use Rattle.type_hierarchy.specs.Stack.{Stack, bad}
+use Rattle.type_hierarchy.specs.Relations.{Assignable, Below}
 use Rattle.code_flow.specs.Frames.{Frame}
 use Rattle.code_flow.specs.Stacks.{Each}
 use Rattle.code_flow.specs.Demands.{Demand, Meets, MeetTogether}

@@ -2,9 +2,9 @@
 -- and a value may have any type that may stand where its type is stated.
 use Rattle.std.specs.Prelude.{◌≡◌, ℕ, ◌<◌, ◌≤◌, List, [], length, get_or, slice_get, Some}
 use Rattle.assembly_tree.specs.declared.body.Ins.{Ins}
-use Rattle.type_world.specs.Hierarchy.{Hierarchy}
-use Rattle.type_world.specs.Stack.{Stack, bad}
-use Rattle.type_world.specs.Relations.{Assignable}
+use Rattle.type_hierarchy.specs.Hierarchy.{Hierarchy}
+use Rattle.type_hierarchy.specs.Stack.{Stack, bad}
+use Rattle.type_hierarchy.specs.Relations.{Assignable}
 use Rattle.code_flow.specs.Stacks.{Each}
 use Rattle.code_flow.specs.Frames.{Frame}
 use Rattle.code_flow.specs.Demands.{Demand, Meets, MeetTogether}

@@ -13,9 +13,9 @@ use Rattle.opcode_table.specs.declared.op.Op.{Op}
 use Rattle.opcode_table.specs.declared.op.Op.TheVariants as op
 use Rattle.assembly_tree.specs.declared.body.Ins.{Ins}
 use Rattle.assembly_tree.specs.declared.body.Operand as operand
-use Rattle.type_world.specs.Names.{system}
-use Rattle.type_world.specs.Hierarchy.{Hierarchy, core_name}
-use Rattle.type_world.specs.Stack.{Stack, i4, i8, native, float, null, ref, boxed, val, ptr, bad, is_reference, verified, primitive_stack, stack_of, pointer_to, boxed_of}
+use Rattle.type_hierarchy.specs.Names.{system}
+use Rattle.type_hierarchy.specs.Hierarchy.{Hierarchy, core_name}
+use Rattle.type_hierarchy.specs.Stack.{Stack, i4, i8, native, float, null, ref, boxed, val, ptr, bad, is_reference, verified, primitive_stack, stack_of, pointer_to, boxed_of}
 use Rattle.code_flow.specs.declared.operation.Number.{Number}
 use Rattle.code_flow.specs.declared.operation.Number.TheVariants as number_of
 use Rattle.code_flow.specs.declared.operation.Numeric.{Numeric}

@@ -11,8 +11,8 @@ use Rattle.assembly_tree.specs.declared.body.ClauseKind.TheVariants.{Catch, Filt
 use Rattle.assembly_tree.specs.declared.body.Ins.{Ins}
 use Rattle.assembly_tree.specs.declared.body.Operand as operand
 use Rattle.assembly_tree.specs.declared.members.Field.{Field}
-use Rattle.type_world.specs.Names.{same_text}
-use Rattle.type_world.specs.Stack.{Stack, bad}
+use Rattle.type_hierarchy.specs.Names.{same_text}
+use Rattle.type_hierarchy.specs.Stack.{Stack, bad}
 use Rattle.code_flow.specs.declared.operation.Operation.{Operation}
 use Rattle.code_flow.specs.declared.operation.Operation.TheVariants as does
 use Rattle.code_flow.specs.declared.operation.Prefix.{Prefix}

@@ -1,6 +1,6 @@
 -- Two stacks value by value. What was pushed first stands first.
 use Rattle.std.specs.Prelude.{List, [], ◌∷◌}
-use Rattle.type_world.specs.Stack.{Stack}
+use Rattle.type_hierarchy.specs.Stack.{Stack}
 
 -- they have one depth, and the relation holds of each two values at one place
 abbrev pub Each : (Stack → Stack → Type 0) → List Stack → List Stack → Type 0

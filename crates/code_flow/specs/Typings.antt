@@ -1,9 +1,9 @@
 -- Typings of a body: the stack before each instruction (ECMA-335 III.1.8.1.1 to III.1.8.1.3).
 use Rattle.std.specs.Prelude.{ℕ, ◌<◌, List, [], length, slice_get, Option, None, Some}
 use Rattle.assembly_tree.specs.declared.body.Ins.{Ins}
-use Rattle.type_world.specs.Hierarchy.{Hierarchy}
-use Rattle.type_world.specs.Stack.{Stack}
-use Rattle.type_world.specs.Relations.{Below}
+use Rattle.type_hierarchy.specs.Hierarchy.{Hierarchy}
+use Rattle.type_hierarchy.specs.Stack.{Stack}
+use Rattle.type_hierarchy.specs.Relations.{Below}
 use Rattle.code_flow.specs.Stacks.{Each}
 use Rattle.code_flow.specs.Frames.{Frame}
 use Rattle.code_flow.specs.Rows.{row_of}

@@ -18,19 +18,19 @@ use Rattle.source_model.specs.Nodes.{nothing_around}
 use Rattle.source_model.specs.Source.{Source}
 use Rattle.source_model.specs.Values.{name_text}
 use Rattle.source_flags.specs.Lines.{productions_of}
-use Rattle.source_parts.specs.Chosen.{are_of}
+use Rattle.lower_manifest.specs.Chosen.{are_of}
 use Rattle.source_flags.specs.declared.gathering.Kind.TheVariants.{Declarations, One}
-use Rattle.source_parts.proofs.Among.{externs_declared}
+use Rattle.lower_manifest.proofs.Among.{externs_declared}
 use Rattle.source_flags.proofs.Gathered.{IsSought, all_follow, of_parts}
-use Rattle.source_reading.specs.Derived.{Fits, HasBodies}
-use Rattle.source_reading.specs.Namings.{tokens_named}
-use Rattle.source_reading.specs.Places.{IsAt}
-use Rattle.source_reading.specs.Readers.{Reads}
-use Rattle.source_reading.specs.declared.name_lists.Naming.TheVariants as naming
-use Rattle.source_reading.specs.declared.place.Place.{Place}
-use Rattle.source_reading.proofs.PieceLemmas.{mapped_below}
-use Rattle.source_reading.proofs.SizeLemmas.{few_each}
-use Rattle.source_parts.proofs.ExternLemmas.{mapped_flat}
+use Rattle.source_syntax.specs.Derived.{Fits, HasBodies}
+use Rattle.source_syntax.specs.Namings.{tokens_named}
+use Rattle.source_syntax.specs.Places.{IsAt}
+use Rattle.source_syntax.specs.Readers.{Reads}
+use Rattle.source_syntax.specs.declared.name_lists.Naming.TheVariants as naming
+use Rattle.source_syntax.specs.declared.place.Place.{Place}
+use Rattle.source_syntax.proofs.PieceLemmas.{mapped_below}
+use Rattle.source_syntax.proofs.SizeLemmas.{few_each}
+use Rattle.lower_manifest.proofs.ExternLemmas.{mapped_flat}
 use Rattle.elaborate.specs.ClassParts.{AreGlobals}
 use Rattle.elaborate.specs.WholeParts.{AllWhole, IsWhole, IsWholePart}
 use Rattle.elaborate.specs.declared.assemblies.Globals.{Globals}

@@ -9,12 +9,12 @@ use Rattle.source_model.specs.Classes.{core_scope, is_core, object_scope, system
 use Rattle.source_model.specs.Manifests.{extern_assemblies, extern_assembly}
 use Rattle.source_model.specs.Names.{externs, is_declared_path}
 use Rattle.source_model.specs.Source.{Source}
-use Rattle.source_reading.specs.ClassNumbers.{Knows, class_in, id_of, outer_of}
-use Rattle.source_reading.specs.Nested.{onward, reached}
-use Rattle.source_reading.specs.declared.class_paths.ClassName.{ClassName}
-use Rattle.source_reading.proofs.LabelLemmas.{position_first}
-use Rattle.source_rules.specs.DeclaredClasses.{declared_paths}
-use Rattle.source_rules.proofs.NamedTypeLemmas.{declared_is}
+use Rattle.source_syntax.specs.ClassNumbers.{Knows, class_in, id_of, outer_of}
+use Rattle.source_syntax.specs.Nested.{onward, reached}
+use Rattle.source_syntax.specs.declared.class_paths.ClassName.{ClassName}
+use Rattle.source_syntax.proofs.LabelLemmas.{position_first}
+use Rattle.check_names.specs.DeclaredClasses.{declared_paths}
+use Rattle.check_names.proofs.NamedTypeLemmas.{declared_is}
 use Rattle.elaborate.specs.Cores.{is_core_assembly}
 
 -- the first of what a list gives is the first that gives it

@@ -16,9 +16,9 @@ use Rattle.ilasm_grammar.specs.declared.nonterminals.TheConstants.{SOURCE}
 use Rattle.ilasm_grammar.specs.declared.symbol.Symbol.TheVariants.{Nonterminal}
 use Rattle.ilasm_grammar.specs.declared.tree.TreeNode.{TreeNode}
 use Rattle.ilasm_grammar.specs.declared.productions.TheConstants.{ASSEMBLY_ASSEMBLY_ATTR_STAR}
-use Rattle.formed_assemblies.specs.Laws.{DenotedIsFormed}
-use Rattle.source_faults.specs.SourceFaults.{BreaksFirst}
-use Rattle.source_faults.specs.declared.faults.Fault.{Fault}
+use Rattle.laws_formed_sources.specs.Laws.{DenotedIsFormed}
+use Rattle.check_source.specs.SourceFaults.{BreaksFirst}
+use Rattle.check_source.specs.declared.faults.Fault.{Fault}
 use Rattle.source_model.specs.BodyFaults.{labels_undeclared, variables_undeclared}
 use Rattle.source_model.specs.Classes.{assembly}
 use Rattle.source_model.specs.Denotes.{Denotes, HasNameFault, IsRead, broken, broken_n}
@@ -28,8 +28,8 @@ use Rattle.source_model.specs.Laws.{OneMeaning}
 use Rattle.source_model.specs.Source.{Source}
 use Rattle.source_model.specs.Undeclared.{types_undeclared, scopes_undeclared, objects_undeclared, typars_undeclared, accessors_undeclared, assembly_undeclared, data_undeclared, end_unless_some}
 use Rattle.source_model.specs.declared.fault.NameClass.{NameClass}
-use Rattle.source_reading.specs.Readers.{Reads}
-use Rattle.source_reading.specs.declared.reader.Reader.{Reader}
+use Rattle.source_syntax.specs.Readers.{Reads}
+use Rattle.source_syntax.specs.declared.reader.Reader.{Reader}
 use Rattle.elaborate.specs.Elaborated.{IsCause}
 use Rattle.elaborate.specs.declared.name_fault.NameFault.{NameFault}
 use Rattle.elaborate.specs.declared.name_fault.NameFault.TheVariants.{Bad, NoMemory}

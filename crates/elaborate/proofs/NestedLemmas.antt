@@ -23,12 +23,12 @@ use Rattle.ilasm_grammar.proofs.Tables.{all_below}
 use Rattle.source_model.specs.Forest.{Forest, Part, none, leaf, branch, part, parts, parts_outside, is_among}
 use Rattle.source_model.specs.Items.{members}
 use Rattle.source_model.specs.Source.{Source}
-use Rattle.source_reading.specs.Derived.{Fits, FitsBody, FitsRule, HasBodies}
+use Rattle.source_syntax.specs.Derived.{Fits, FitsBody, FitsRule, HasBodies}
 use Rattle.source_flags.specs.Lines.{productions_of}
 use Rattle.source_flags.specs.declared.gathering.Kind.TheVariants.{Members, One}
 use Rattle.source_flags.proofs.Apart.{all_in, all_outside, are_apart, stays}
-use Rattle.source_parts.specs.Chosen.{are_of}
-use Rattle.source_parts.proofs.Among.{in_outer, some_of_parts, stays_outside}
+use Rattle.lower_manifest.specs.Chosen.{are_of}
+use Rattle.lower_manifest.proofs.Among.{in_outer, some_of_parts, stays_outside}
 use Rattle.elaborate.specs.HeadForms.{head_forms}
 use Rattle.elaborate.proofs.ClassLemmas.{neither}
 use Rattle.elaborate.proofs.ClassWalks.{turned}

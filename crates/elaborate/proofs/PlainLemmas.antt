@@ -4,7 +4,7 @@ use Rattle.std.specs.Prelude.{Bool, true, false, ◌||◌, ◌==◌, if◌then�
 use Rattle.ilasm_grammar.specs.declared.tree.TreeNode.TheVariants.{Leaf}
 use Rattle.source_model.specs.Forest as tree
 use Rattle.source_model.specs.Forest.{Forest, Part, is_among, is_any_part, part, parts_outside, preorder}
-use Rattle.source_faults.proofs.CensusLemmas.{count_of, count_branch, count_first, one_if}
+use Rattle.check_source.proofs.CensusLemmas.{count_of, count_branch, count_first, one_if}
 use Rattle.elaborate.specs.Standing.{IsStanding, HaveNeither, passed_forms, stands_outside}
 use Rattle.elaborate.specs.declared.standing.Standing.{Standing}
 

@@ -16,14 +16,14 @@ use Rattle.source_model.specs.OutOfRange.{counted, is_32_bits}
 use Rattle.source_model.specs.Shapes.{natural}
 use Rattle.source_model.specs.Source.{Source}
 use Rattle.source_model.specs.Values.{int_at}
-use Rattle.source_reading.specs.ClassNumbers.{class_numbered}
-use Rattle.source_reading.specs.declared.class_paths.ClassName.{ClassName}
+use Rattle.source_syntax.specs.ClassNumbers.{class_numbered}
+use Rattle.source_syntax.specs.declared.class_paths.ClassName.{ClassName}
 use Rattle.source_flags.specs.InRange.{AllInRange, IsInRange}
 use Rattle.source_flags.proofs.Bits.{of_32_bits, passes_at}
 use Rattle.source_flags.proofs.Gathered.{all_append}
-use Rattle.member_parts.specs.ClassSizes as word
-use Rattle.member_parts.specs.Ranged.{IsRanged}
-use Rattle.data_rules.specs.DeclaredSizes as counts
+use Rattle.lower_members.specs.ClassSizes as word
+use Rattle.lower_members.specs.Ranged.{IsRanged}
+use Rattle.check_data.specs.DeclaredSizes as counts
 use Rattle.elaborate.specs.KnownSizes.{in_word}
 use Rattle.elaborate.proofs.ClassLemmas.{members_ranged}
 

@@ -13,8 +13,8 @@ use Rattle.source_model.specs.Items.{members}
 use Rattle.source_model.specs.Names.{class_at, is_path}
 use Rattle.source_model.specs.Nodes.{Around, Node, entered, nodes, nodes_in, nodes_of, nothing_around}
 use Rattle.source_model.specs.Source.{Source}
-use Rattle.source_reading.specs.Derived.{OfEach}
-use Rattle.member_parts.specs.ClassSizes.{size_numbered}
+use Rattle.source_syntax.specs.Derived.{OfEach}
+use Rattle.lower_members.specs.ClassSizes.{size_numbered}
 use Rattle.source_flags.specs.Lines.{productions_of}
 use Rattle.source_flags.specs.declared.gathering.Kind.TheVariants.{Members}
 use Rattle.source_flags.proofs.Gathered.{IsSought, all_append, all_follow, of_parts}

@@ -1,12 +1,12 @@
 -- What is known of a source wherever its members are read.
 use Rattle.source_flags.specs.InRange.{AllInRange}
 use Rattle.source_model.specs.Source.{Source}
-use Rattle.source_reading.specs.Readers.{Reads}
-use Rattle.source_reading.specs.declared.reader.Reader.{Reader}
-use Rattle.member_parts.specs.ClassSizes.{AreSizes}
-use Rattle.member_parts.specs.LabelledData.{AreData}
-use Rattle.member_parts.specs.declared.class_sizes.ClassSizes.{ClassSizes}
-use Rattle.member_parts.specs.declared.labelled_data.LabelledData.{LabelledData}
+use Rattle.source_syntax.specs.Readers.{Reads}
+use Rattle.source_syntax.specs.declared.reader.Reader.{Reader}
+use Rattle.lower_members.specs.ClassSizes.{AreSizes}
+use Rattle.lower_members.specs.LabelledData.{AreData}
+use Rattle.lower_members.specs.declared.class_sizes.ClassSizes.{ClassSizes}
+use Rattle.lower_members.specs.declared.labelled_data.LabelledData.{LabelledData}
 
 -- its data and the sizes of its classes; its numbers are in their ranges
 pub record AreDeclared (r : Reader) (d : LabelledData) (c : ClassSizes) (s : Source) : Type 0 where

@@ -3,7 +3,7 @@
 use Rattle.std.specs.Prelude.{ℕ}
 use Rattle.source_model.specs.Forest.{Forest, Part}
 use Rattle.source_model.specs.Source.{Source}
-use Rattle.method_parts.specs.SoundMethods as sound
+use Rattle.lower_methods.specs.SoundMethods as sound
 
 abbrev pub IsWhole : Source → ℕ → Forest → Type 0
 IsWhole s p f = sound.IsWhole s p f

@@ -12,9 +12,9 @@ ghost use Rattle.source_model.specs.Items.{members};
 ghost use Rattle.source_model.specs.Nodes.{Around};
 ghost use Rattle.source_model.specs.Source.{Source};
 ghost use Rattle.source_model.specs.Types.{owners_in};
-ghost use Rattle.source_reading.specs.Pieces.{ArePieces, AreParts};
-ghost use Rattle.source_reading.specs.Places.{IsAt};
-ghost use Rattle.source_reading.specs.Walk.{IsForest};
+ghost use Rattle.source_syntax.specs.Pieces.{ArePieces, AreParts};
+ghost use Rattle.source_syntax.specs.Places.{IsAt};
+ghost use Rattle.source_syntax.specs.Walk.{IsForest};
 
 use crate::bases::{base, is_root};
 use crate::interfaces::rising;
@@ -22,11 +22,11 @@ use assembly_tree::Layout;
 use il_base::{Items, NoMemory};
 use ilasm_grammar::TreeNode;
 use ilasm_grammar::productions::IMPLEMENTS_OPT_SOME;
-use member_parts::layouts::layout;
+use lower_members::layouts::layout;
 use source_flags::declared_flags::type_flags;
-use source_reading::pieces::Piece;
-use source_reading::place::Place;
-use source_reading::walk::{child, leaf_at};
+use source_syntax::pieces::Piece;
+use source_syntax::place::Place;
+use source_syntax::walk::{child, leaf_at};
 use std::alloc::Global;
 use type_terms::{Owner, Owners, Scope, TypeId};
 

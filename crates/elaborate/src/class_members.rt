@@ -11,10 +11,10 @@ ghost use Rattle.source_model.specs.Manifests.{attributes};
 ghost use Rattle.source_model.specs.Members.{methods};
 ghost use Rattle.source_model.specs.Nodes.{Around};
 ghost use Rattle.source_model.specs.Source.{Source};
-ghost use Rattle.source_parts.specs.Runs.{is_custom};
-ghost use Rattle.source_reading.specs.Pieces.{ArePieces, AreParts};
-ghost use Rattle.source_reading.specs.Places.{IsAt};
-ghost use Rattle.source_reading.specs.Walk.{IsForest};
+ghost use Rattle.lower_manifest.specs.Runs.{is_custom};
+ghost use Rattle.source_syntax.specs.Pieces.{ArePieces, AreParts};
+ghost use Rattle.source_syntax.specs.Places.{IsAt};
+ghost use Rattle.source_syntax.specs.Walk.{IsForest};
 
 use crate::member_reader::MemberReader;
 use assembly_tree::{Attributes, Events, Fields, Generics, Method, Methods, Properties};
@@ -23,13 +23,13 @@ use ilasm_grammar::TreeNode;
 use ilasm_grammar::productions::{
     DECL_CUSTOM, ITEM_CUSTOM, MEMBER_CUSTOM, MEMBER_EVENT, MEMBER_PROPERTY,
 };
-use member_parts::events::events;
-use member_parts::method_tables::MethodTable;
-use member_parts::properties::properties;
-use source_parts::attributes::attributes;
-use source_parts::runs::own_customs;
-use source_reading::pieces::Piece;
-use source_reading::place::Place;
+use lower_manifest::attributes::attributes;
+use lower_manifest::runs::own_customs;
+use lower_members::events::events;
+use lower_members::method_tables::MethodTable;
+use lower_members::properties::properties;
+use source_syntax::pieces::Piece;
+use source_syntax::place::Place;
 use std::alloc::Global;
 
 /// The members of a class that have accessors.

@@ -12,23 +12,23 @@ ghost use Rattle.il_lexer.specs.Lexing.{Lexes, all_placed};
 ghost use Rattle.ilasm_grammar.specs.Parsing.{IsTreeOf};
 ghost use Rattle.ilasm_grammar.specs.declared.productions.TheConstants.{DATA, MEMBER_SIZE};
 ghost use Rattle.ilasm_grammar.specs.declared.tree.TreeNode.{TreeNode};
-ghost use Rattle.source_faults.specs.Census.{IsCensus};
+ghost use Rattle.check_source.specs.Census.{IsCensus};
 ghost use Rattle.source_model.specs.Denotes.{Denotes, HasNameFault};
 ghost use Rattle.source_model.specs.declared.fault.NameClass.{NameClass};
 
 use crate::faultless_sources::read_faultless;
 use crate::name_fault::NameFault;
 use assembly_tree::Assembly;
-use formed_assemblies::laws::what_is_denoted_is_formed;
+use check_source::census::{Census, census_of};
+use check_source::faults::first_fault_by;
 use il_lexer::types::{Spans, Tokens};
 use il_lexer::{spans_are_tokens, spans_of};
 use ilasm_grammar::productions::{DATA, MEMBER_SIZE};
 use ilasm_grammar::{Tree, one_derivation};
-use method_parts::laws::faultless_sources_are_whole;
-use source_faults::census::{Census, census_of};
-use source_faults::faults::first_fault_by;
+use laws_formed_sources::laws::what_is_denoted_is_formed;
+use lower_methods::laws::faultless_sources_are_whole;
 use source_model::{derivations_are_forests, one_meaning};
-use source_reading::reader::Reader;
+use source_syntax::reader::Reader;
 use std::alloc::Global;
 
 /// The assembly that a source of at most 2^27 bytes denotes, which is well formed, from its at most 2^24 tokens and their

@@ -5,13 +5,13 @@ ghost use Rattle.elaborate.specs.SourceMembers.{ReadsSome};
 ghost use Rattle.elaborate.specs.Standing.{HaveNeither, stands_outside};
 ghost use Rattle.elaborate.specs.WholeParts.{AllWhole};
 ghost use Rattle.ilasm_grammar.specs.declared.productions.TheConstants.{ASSEMBLY_ASSEMBLY_ATTR_STAR, DATA, MEMBER_SIZE};
-ghost use Rattle.member_parts.specs.LabelledData.{AreData};
+ghost use Rattle.lower_members.specs.LabelledData.{AreData};
 ghost use Rattle.source_flags.specs.InRange.{AllInRange};
 ghost use Rattle.source_model.specs.Classes.{assembly};
 ghost use Rattle.source_model.specs.Forest.{has};
 ghost use Rattle.source_model.specs.Source.{Source};
-ghost use Rattle.source_reading.specs.Readers.{Reads};
-ghost use Rattle.source_reading.specs.Walk.{IsForest};
+ghost use Rattle.source_syntax.specs.Readers.{Reads};
+ghost use Rattle.source_syntax.specs.Walk.{IsForest};
 
 use crate::assemblies::read_assembly;
 use crate::known_sizes::read_sizes;
@@ -20,8 +20,8 @@ use crate::standing::standing_of;
 use assembly_tree::Assembly;
 use il_base::NoMemory;
 use ilasm_grammar::productions::{DATA, MEMBER_SIZE};
-use member_parts::labelled_data::{LabelledData, collect_data, no_data};
-use source_reading::reader::Reader;
+use lower_members::labelled_data::{LabelledData, collect_data, no_data};
+use source_syntax::reader::Reader;
 use std::alloc::Global;
 
 /// The assembly that a source denotes, whose productions are whole and which has the declaration of an assembly; `plain` where it

@@ -4,19 +4,19 @@ ghost use Rattle.std.specs.Prelude.{◌≡◌, ◌∷◌, [], IfOk, map, min};
 ghost use Rattle.elaborate.specs.KnownSizes.{in_word};
 ghost use Rattle.elaborate.specs.Standing.{stands_outside};
 ghost use Rattle.ilasm_grammar.specs.declared.productions.TheConstants.{MEMBER_SIZE};
-ghost use Rattle.member_parts.specs.ClassSizes.{AreSizes};
+ghost use Rattle.lower_members.specs.ClassSizes.{AreSizes};
 ghost use Rattle.source_flags.specs.InRange.{AllInRange};
 ghost use Rattle.source_model.specs.Forest.{parts};
 ghost use Rattle.source_model.specs.Source.{Source};
-ghost use Rattle.source_reading.specs.Readers.{Reads};
-ghost use Rattle.source_reading.specs.Walk.{IsForest};
+ghost use Rattle.source_syntax.specs.Readers.{Reads};
+ghost use Rattle.source_syntax.specs.Walk.{IsForest};
 
-use data_rules::declared_sizes::collect_sizes;
+use check_data::declared_sizes::collect_sizes;
+use check_names::class_rules::collect_classes;
 use il_base::{Items, NoMemory};
-use member_parts::class_sizes::ClassSizes;
-use source_reading::class_paths::ClassPaths;
-use source_reading::reader::Reader;
-use source_rules::class_rules::collect_classes;
+use lower_members::class_sizes::ClassSizes;
+use source_syntax::class_paths::ClassPaths;
+use source_syntax::reader::Reader;
 use std::alloc::Global;
 
 /// The sizes of the classes of a source, from whether a class states one.

@@ -6,14 +6,14 @@ use crate::member_reader::MemberReader;
 use assembly_tree::{Fields, Generics, Methods};
 use il_base::NoMemory;
 use ilasm_grammar::TreeNode;
-use member_parts::class_sizes::ClassSizes;
-use member_parts::fields::{FieldContext, fields};
-use member_parts::generics::generics;
-use member_parts::labelled_data::LabelledData;
-use method_parts::method_lists::methods;
-use source_reading::pieces::Piece;
-use source_reading::place::Place;
-use source_reading::reader::Reader;
+use lower_members::class_sizes::ClassSizes;
+use lower_members::fields::{FieldContext, fields};
+use lower_members::generics::generics;
+use lower_members::labelled_data::LabelledData;
+use lower_methods::method_lists::methods;
+use source_syntax::pieces::Piece;
+use source_syntax::place::Place;
+use source_syntax::reader::Reader;
 use std::alloc::Global;
 
 /// A source with its data and the sizes of its classes.

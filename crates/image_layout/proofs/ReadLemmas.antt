@@ -10,7 +10,7 @@ use Rattle.metadata_tables.specs.Stream.{heap_sizes}
 use Rattle.pe_layout.specs.Fields.{round_up}
 use Rattle.image_layout.specs.Laws.{ReadsTables, TablesAreRead}
 use Rattle.image_layout.specs.Sizes.{heap_flags}
-use Rattle.image_references.specs.declared.references.References.{References}
+use Rattle.image_tokens.specs.declared.references.References.{References}
 use Rattle.image_rows.specs.Pushing.{Tables}
 
 -- what fills a stream up

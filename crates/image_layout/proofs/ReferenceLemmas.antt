@@ -7,8 +7,8 @@ use Rattle.metadata_tables.specs.Encoding.{rows_of, rows_in, AddsRow, IsRowOf}
 use Rattle.metadata_tables.specs.Laws.{RowOfColumns}
 use Rattle.metadata_tables.specs.Schema.{schema}
 use Rattle.image_layout.specs.Referred.{first_cells, LacksReferences, KeepsOthers}
-use Rattle.image_references.specs.declared.references.References.{References}
-use Rattle.image_references.specs.declared.row_set.Cells.{Cells}
+use Rattle.image_tokens.specs.declared.references.References.{References}
+use Rattle.image_tokens.specs.declared.row_set.Cells.{Cells}
 use Rattle.image_rows.specs.Filled.{HoldsReferences}
 use Rattle.image_rows.specs.Pushing.{Tables, AddsRows}
 

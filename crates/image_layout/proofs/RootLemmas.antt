@@ -15,7 +15,7 @@ use Rattle.image_model.specs.Written.{stream_names}
 use Rattle.pe_layout.specs.CliHeader.{metadata_of, metadata_size_of}
 use Rattle.pe_layout.specs.Fields.{round_up}
 use Rattle.image_layout.specs.LaidOut.{HoldsMetadata, HoldsParts}
-use Rattle.image_references.specs.declared.references.References.{References}
+use Rattle.image_tokens.specs.declared.references.References.{References}
 use Rattle.image_rows.specs.Pushing.{Tables}
 
 -- ---- the stream with a name

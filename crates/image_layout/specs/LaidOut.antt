@@ -14,7 +14,7 @@ use Rattle.pe_layout.specs.Frame.{HasFrame, IsFilled}
 use Rattle.pe_layout.specs.Numbers.{numbers_of}
 use Rattle.pe_layout.specs.declared.parts.Kind.{Kind}
 use Rattle.pe_layout.specs.declared.parts.ManifestNumbers.{ManifestNumbers}
-use Rattle.image_references.specs.declared.references.References.{References}
+use Rattle.image_tokens.specs.declared.references.References.{References}
 use Rattle.image_layout.specs.Sizes.{heap_flags}
 use Rattle.image_rows.specs.Pushing.{Tables}
 

@@ -7,7 +7,7 @@ use Rattle.metadata_tables.specs.Encoding.{rows_in, cell_of}
 use Rattle.metadata_tables.specs.Faults.{IsWhole}
 use Rattle.metadata_tables.specs.Schema.{columns_of}
 use Rattle.metadata_tables.specs.Stream.{heap_sizes, row_count, cell}
-use Rattle.image_references.specs.declared.references.References.{References}
+use Rattle.image_tokens.specs.declared.references.References.{References}
 use Rattle.image_layout.specs.LaidOut.{HoldsMetadata}
 use Rattle.image_layout.specs.Sizes.{heap_flags}
 use Rattle.image_rows.specs.Pushing.{Tables}

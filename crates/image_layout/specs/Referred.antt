@@ -2,7 +2,7 @@
 -- II.22.39).
 use Rattle.std.specs.Prelude.{◌≡◌, ◌≢◌, ℕ, List, [], take}
 use Rattle.metadata_tables.specs.Encoding.{rows_of}
-use Rattle.image_references.specs.declared.row_set.Cells.{Cells}
+use Rattle.image_tokens.specs.declared.row_set.Cells.{Cells}
 use Rattle.image_rows.specs.Filled.{three_cells}
 use Rattle.image_rows.specs.Pushing.{Tables}
 

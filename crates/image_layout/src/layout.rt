@@ -9,7 +9,7 @@ ghost use Rattle.pe_layout.specs.Numbers.{IsFileAlignment, IsImageBase};
 use assembly_tree::Manifest;
 use il_base::{Bytes, NoMemory};
 use image_model::{Streams, put_together};
-use image_references::references::References;
+use image_tokens::references::References;
 use metadata_tables::{Rows, encode, indexes_fit};
 use pe_layout::{Kind, ManifestNumbers, Parts};
 use std::alloc::Global;

@@ -2,15 +2,15 @@
 //! II.22.36, II.22.38, II.22.39).
 ghost use Rattle.std.specs.Prelude.{◌≡◌, ◌≤◌, [], map, OnOk};
 ghost use Rattle.metadata_tables.specs.Encoding.{rows_of, IsRowOf};
-ghost use Rattle.image_references.specs.declared.row_set.Cells.{Cells};
+ghost use Rattle.image_tokens.specs.declared.row_set.Cells.{Cells};
 ghost use Rattle.image_layout.specs.Referred.{first_cells, LacksReferences, KeepsOthers};
 ghost use Rattle.image_rows.specs.Filled.{HoldsReferences};
 ghost use Rattle.image_rows.specs.Pushing.{AddsRows};
 
 use il_base::NoMemory;
-use image_references::references::References;
-use image_references::row_set::RowSet;
-use image_references::tokens::{MEMBER_REF, METHOD_SPEC, STAND_ALONE_SIG, TYPE_REF, TYPE_SPEC};
+use image_tokens::references::References;
+use image_tokens::row_set::RowSet;
+use image_tokens::tokens::{MEMBER_REF, METHOD_SPEC, STAND_ALONE_SIG, TYPE_REF, TYPE_SPEC};
 use metadata_tables::{Rows, row_of_columns};
 
 /// Adds the rows of references, each as it was made, to tables that have none.

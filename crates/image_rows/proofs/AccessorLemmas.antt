@@ -10,7 +10,7 @@ use Rattle.metadata_tables.specs.Schema.{schema}
 use Rattle.metadata_tables.specs.declared.coded.Coded.TheVariants.{HasSemantics}
 use Rattle.assembly_tree.specs.declared.members.Accessor.{Accessor}
 use Rattle.image_rows.specs.ByNumber.{or_none, owned_in}
-use Rattle.image_references.specs.Indexes.{index_of}
+use Rattle.image_tokens.specs.Indexes.{index_of}
 use Rattle.image_rows.specs.Pushing.{Tables, AddsRows}
 use Rattle.image_rows.specs.SemanticsRows.{accessors_with, methods_of, accessors_in, semantics_row, CanAddAccessors}
 use Rattle.image_rows.specs.declared.semantics_rows.Access.{Access}

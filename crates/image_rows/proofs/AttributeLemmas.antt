@@ -7,15 +7,15 @@ use Rattle.metadata_tables.specs.declared.coded.Coded.TheVariants.{CustomAttribu
 use Rattle.assembly_tree.specs.Weight.{method_ref_weight}
 use Rattle.assembly_tree.specs.declared.members.Attribute.{Attribute}
 use Rattle.image_rows.specs.AttributeRows.{attributes_with, attribute_bytes, IsAttributeRow, CanPushAttribute}
-use Rattle.image_references.specs.Blobs.{HoldsBlob}
-use Rattle.image_references.specs.Indexes.{index_of_token}
-use Rattle.image_references.specs.KnownTokens.{methods_apart}
-use Rattle.image_references.specs.Members.{Leaves, HasMethod}
+use Rattle.image_tokens.specs.Blobs.{HoldsBlob}
+use Rattle.image_tokens.specs.Indexes.{index_of_token}
+use Rattle.image_tokens.specs.KnownTokens.{methods_apart}
+use Rattle.image_tokens.specs.Members.{Leaves, HasMethod}
 use Rattle.image_rows.specs.Pushing.{Tables, Pushes}
-use Rattle.image_references.specs.References.{Grows, Goes, size}
-use Rattle.image_references.specs.declared.references.References.{References}
-use Rattle.image_references.proofs.BodyLemmas.{method_can}
-use Rattle.image_references.proofs.GrowthLemmas.{grows_trans, token_kept}
+use Rattle.image_tokens.specs.References.{Grows, Goes, size}
+use Rattle.image_tokens.specs.declared.references.References.{References}
+use Rattle.image_tokens.proofs.BodyLemmas.{method_can}
+use Rattle.image_tokens.proofs.GrowthLemmas.{grows_trans, token_kept}
 use Rattle.image_rows.proofs.KindLemmas.{RowKind, one_pushed}
 use Rattle.image_rows.proofs.ManifestLemmas.{blob_kept}
 

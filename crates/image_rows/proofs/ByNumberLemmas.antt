@@ -6,7 +6,7 @@ use Rattle.std.specs.List.{range_with_len}
 use Rattle.std.specs.Option.{option_map}
 use Rattle.metadata_tables.specs.declared.coded.Coded.{Coded}
 use Rattle.image_rows.specs.ByNumber.{or_none, owned_in}
-use Rattle.image_references.specs.Indexes.{index_of}
+use Rattle.image_tokens.specs.Indexes.{index_of}
 use Rattle.image_rows.specs.Places.{lent}
 
 -- the next of the numbers

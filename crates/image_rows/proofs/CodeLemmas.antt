@@ -19,20 +19,20 @@ use Rattle.body_codec.specs.declared.fault.BodyFault.TheVariants as faults
 use Rattle.body_codec.specs.Instruction.{kind}
 use Rattle.body_codec.specs.Names.{TokenMap}
 use Rattle.type_terms.specs.declared.term.SigType.{SigType}
-use Rattle.image_references.specs.BodyTokens.{HasOperandToken, HasInstructionToken, HasHandledToken, HasClauseToken, HaveLocalsToken, HasBodyTokens, Notes}
+use Rattle.image_tokens.specs.BodyTokens.{HasOperandToken, HasInstructionToken, HasHandledToken, HasClauseToken, HaveLocalsToken, HasBodyTokens, Notes}
 use Rattle.image_rows.specs.CodeBytes.{all_tokens, any_token, KeepsTokens, IsBodyAt, HasBody, code_room, stated_weight, stated_room, AddsBodies, AddsBody, CanPushBody, CanPushStated, CanPushBodies}
-use Rattle.image_references.specs.KnownTokens.{methods_apart, fields_apart, locals_apart, texts_apart}
-use Rattle.image_references.specs.NamesWeight.{names_weight}
+use Rattle.image_tokens.specs.KnownTokens.{methods_apart, fields_apart, locals_apart, texts_apart}
+use Rattle.image_tokens.specs.NamesWeight.{names_weight}
 use Rattle.image_rows.specs.Placing.{StandsIn, Puts}
-use Rattle.image_references.specs.References.{size, Grows, AreKnown, IsLocalsToken}
-use Rattle.image_references.specs.Writable.{IsInstructionWritable, IsClauseWritable, IsBodyWritable}
-use Rattle.image_references.specs.declared.references.References.{References}
+use Rattle.image_tokens.specs.References.{size, Grows, AreKnown, IsLocalsToken}
+use Rattle.image_tokens.specs.Writable.{IsInstructionWritable, IsClauseWritable, IsBodyWritable}
+use Rattle.image_tokens.specs.declared.references.References.{References}
 use Rattle.image_rows.proofs.BodyEnds.{body_few}
-use Rattle.image_references.proofs.BodyLemmas.{instruction_can, clause_can}
-use Rattle.image_references.proofs.GrowthLemmas.{grows_refl, grows_trans, token_kept, tokens_kept}
-use Rattle.image_references.proofs.NameLemmas.{holds_of_found, all_weaker}
+use Rattle.image_tokens.proofs.BodyLemmas.{instruction_can, clause_can}
+use Rattle.image_tokens.proofs.GrowthLemmas.{grows_refl, grows_trans, token_kept, tokens_kept}
+use Rattle.image_tokens.proofs.NameLemmas.{holds_of_found, all_weaker}
 use Rattle.image_rows.proofs.PlacingLemmas.{stands_later, puts_long}
-use Rattle.image_references.proofs.WritableLemmas.{still_writable_each}
+use Rattle.image_tokens.proofs.WritableLemmas.{still_writable_each}
 use Rattle.image_rows.proofs.ZipLemmas.{zip_both, zip_later}
 
 -- ---- tokens for all that a body names

@@ -8,16 +8,16 @@ use Rattle.metadata_tables.specs.Laws.{RowOfColumns}
 use Rattle.metadata_tables.specs.Schema.{schema}
 use Rattle.metadata_tables.specs.declared.coded.Coded.TheVariants.{HasConstant}
 use Rattle.assembly_tree.specs.declared.members.Constant.{Constant}
-use Rattle.image_references.specs.Blobs.{HoldsBlob}
+use Rattle.image_tokens.specs.Blobs.{HoldsBlob}
 use Rattle.image_rows.specs.ByNumber.{or_none, owned_in}
 use Rattle.image_rows.specs.ConstantRows.{stated_constant, constant_with, constants_in, constant_bytes, IsConstantRow, CanPushConstant}
 use Rattle.image_rows.specs.Constants.{element_of, value_of}
-use Rattle.image_references.specs.Indexes.{index_of}
+use Rattle.image_tokens.specs.Indexes.{index_of}
 use Rattle.image_rows.specs.Places.{lent}
 use Rattle.image_rows.specs.Pushing.{Tables, Pushes}
-use Rattle.image_references.specs.References.{Grows, Goes, AreKnown, size}
+use Rattle.image_tokens.specs.References.{Grows, Goes, AreKnown, size}
 use Rattle.image_rows.specs.declared.constant_rows.Valued.{Valued}
-use Rattle.image_references.specs.declared.references.References.{References}
+use Rattle.image_tokens.specs.declared.references.References.{References}
 use Rattle.image_rows.proofs.ByNumberLemmas.{lent_at}
 use Rattle.image_rows.proofs.KindLemmas.{RowKind, one_pushed, none_pushed}
 use Rattle.image_rows.proofs.ManifestLemmas.{blob_kept}

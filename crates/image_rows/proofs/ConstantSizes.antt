@@ -5,7 +5,7 @@ use Rattle.std.proofs.lemmas.List.{length-append}
 use Rattle.assembly_tree.specs.declared.members.Constant.{Constant}
 use Rattle.assembly_tree.specs.declared.members.Constant.TheVariants as constant
 use Rattle.image_rows.specs.Constants.{value_of}
-use Rattle.image_references.specs.Units.{bytes_of_units}
+use Rattle.image_tokens.specs.Units.{bytes_of_units}
 
 as_many : (units : List ℕ) → length units ≤ length (bytes_of_units units)
 as_many [] = omega arith

@@ -11,19 +11,19 @@ use Rattle.assembly_tree.specs.declared.members.Method.{Method}
 use Rattle.sig_codec.specs.Spelling.{Notation}
 use Rattle.sig_codec.specs.Signature.{SpellsField, SpellsMethod}
 use Rattle.image_rows.specs.DeclaredMembers.{owned, IsOwnRow, IsFieldOf, IsMethodOf, DeclaresMembers, field_bytes, method_bytes, IsFieldDeclarable, IsMethodDeclarable, DeclaresFields, DeclaresMethods, class_fields, class_methods, with_members, HasMembers, AreDeclarable}
-use Rattle.image_references.specs.Members.{Leaves, IsTextAt}
-use Rattle.image_references.specs.Noted.{IsSigned}
-use Rattle.image_references.specs.References.{size, Grows, Widens, AreKnown}
+use Rattle.image_tokens.specs.Members.{Leaves, IsTextAt}
+use Rattle.image_tokens.specs.Noted.{IsSigned}
+use Rattle.image_tokens.specs.References.{size, Grows, Widens, AreKnown}
 use Rattle.image_rows.specs.declared.classes.Class.{Class}
-use Rattle.image_references.specs.declared.references.Declared.{Declared}
-use Rattle.image_references.specs.declared.references.References.{References}
-use Rattle.image_references.specs.declared.row_set.Cells.{Cells}
-use Rattle.image_references.proofs.BodyLemmas.{signature_can}
-use Rattle.image_references.proofs.GrowthLemmas.{grows_refl, grows_trans, widened, widens_trans}
-use Rattle.image_references.proofs.NameLemmas.{all_weaker}
-use Rattle.image_references.proofs.PathLemmas.{text_kept}
-use Rattle.image_references.proofs.WidenedLemmas.{wide_signature, same_rows, wide_known}
-use Rattle.image_references.proofs.WritableLemmas.{still_writable}
+use Rattle.image_tokens.specs.declared.references.Declared.{Declared}
+use Rattle.image_tokens.specs.declared.references.References.{References}
+use Rattle.image_tokens.specs.declared.row_set.Cells.{Cells}
+use Rattle.image_tokens.proofs.BodyLemmas.{signature_can}
+use Rattle.image_tokens.proofs.GrowthLemmas.{grows_refl, grows_trans, widened, widens_trans}
+use Rattle.image_tokens.proofs.NameLemmas.{all_weaker}
+use Rattle.image_tokens.proofs.PathLemmas.{text_kept}
+use Rattle.image_tokens.proofs.WidenedLemmas.{wide_signature, same_rows, wide_known}
+use Rattle.image_tokens.proofs.WritableLemmas.{still_writable}
 use Rattle.image_rows.proofs.ZipLemmas.{zip_both, zip_long, zip_later}
 
 -- members weigh the same whatever the row of their type

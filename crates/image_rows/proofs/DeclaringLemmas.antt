@@ -9,13 +9,13 @@ use Rattle.heaps.specs.Content.{HasText}
 use Rattle.heaps.specs.Heap.{Heap}
 use Rattle.type_terms.specs.declared.name.TypeId.{TypeId}
 use Rattle.image_rows.specs.Declaring.{Place, class_id, class_place, class_size, module_place, places, AreApart, HoldsPlace, AreDeclared, Declares, IsDeclaring}
-use Rattle.image_references.specs.Rows.{IsRowAt, Lacks}
-use Rattle.image_references.specs.Texts.{KeepsTexts, IsPlainId, HoldsId, id_size}
+use Rattle.image_tokens.specs.Rows.{IsRowAt, Lacks}
+use Rattle.image_tokens.specs.Texts.{KeepsTexts, IsPlainId, HoldsId, id_size}
 use Rattle.image_rows.specs.declared.classes.Class.{Class}
-use Rattle.image_references.specs.declared.row_set.Cells.{Cells}
-use Rattle.image_references.proofs.ChainLemmas.{snoc_old, snoc_new}
-use Rattle.image_references.proofs.LoadedLemmas.{front}
-use Rattle.image_references.proofs.PathLemmas.{text_kept, keeps_trans}
+use Rattle.image_tokens.specs.declared.row_set.Cells.{Cells}
+use Rattle.image_tokens.proofs.ChainLemmas.{snoc_old, snoc_new}
+use Rattle.image_tokens.proofs.LoadedLemmas.{front}
+use Rattle.image_tokens.proofs.PathLemmas.{text_kept, keeps_trans}
 use Rattle.image_rows.proofs.ZipLemmas.{zip_both, zip_at, zip_long, zip_later}
 
 -- at most one text stands at an index

@@ -9,7 +9,7 @@ use Rattle.assembly_tree.specs.declared.members.Event.{Event}
 use Rattle.assembly_tree.specs.declared.members.Property.{Property}
 use Rattle.metadata_tables.specs.declared.coded.Coded.{Coded}
 use Rattle.metadata_tables.specs.declared.coded.Coded.TheVariants.{HasSemantics}
-use Rattle.image_references.specs.Indexes.{index_of}
+use Rattle.image_tokens.specs.Indexes.{index_of}
 use Rattle.image_rows.specs.ByNumber.{or_none, owned_at, owned_in, by_number}
 use Rattle.image_rows.specs.DeclaredMembers.{class_methods}
 use Rattle.image_rows.specs.Emptiness.{any_has_item, has_item}

@@ -7,15 +7,15 @@ use Rattle.assembly_tree.specs.Weight.{owner_weight}
 use Rattle.assembly_tree.specs.declared.members.Event.{Event}
 use Rattle.type_terms.specs.declared.term.Owner.{Owner}
 use Rattle.image_rows.specs.EventRows.{event_bytes, IsEventRow, CanPushEvent}
-use Rattle.image_references.specs.Members.{Leaves, IsTextAt}
+use Rattle.image_tokens.specs.Members.{Leaves, IsTextAt}
 use Rattle.image_rows.specs.Pushing.{Tables, Pushes}
-use Rattle.image_references.specs.References.{Grows, size}
+use Rattle.image_tokens.specs.References.{Grows, size}
 use Rattle.image_rows.specs.TypeIndexes.{IsTypeIndex}
-use Rattle.image_references.specs.declared.references.References.{References}
-use Rattle.image_references.proofs.GrowthLemmas.{grows_trans, tokens_kept}
+use Rattle.image_tokens.specs.declared.references.References.{References}
+use Rattle.image_tokens.proofs.GrowthLemmas.{grows_trans, tokens_kept}
 use Rattle.image_rows.proofs.KindLemmas.{RowKind, one_pushed}
-use Rattle.image_references.proofs.PathLemmas.{text_kept}
-use Rattle.image_references.proofs.WritableLemmas.{still_writable_owner}
+use Rattle.image_tokens.proofs.PathLemmas.{text_kept}
+use Rattle.image_tokens.proofs.WritableLemmas.{still_writable_owner}
 
 pub event_cells : RowOfColumns → (flags name type : ℕ) → flags < 2 ^ 16 → IsRowOf 0x14 (flags ∷ name ∷ type ∷ [])
 unfolding schema

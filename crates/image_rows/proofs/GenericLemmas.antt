@@ -11,15 +11,15 @@ use Rattle.metadata_tables.specs.declared.coded.Coded.TheVariants.{TypeOrMethodD
 use Rattle.assembly_tree.specs.declared.members.Generic.{Generic}
 use Rattle.image_rows.specs.ByNumber.{or_none}
 use Rattle.image_rows.specs.GenericRows.{generic_of, generics_in, generics_with, generic_bytes, IsGenericRow, CanPushGeneric}
-use Rattle.image_references.specs.Indexes.{index_of}
-use Rattle.image_references.specs.Members.{Leaves, IsTextAt}
+use Rattle.image_tokens.specs.Indexes.{index_of}
+use Rattle.image_tokens.specs.Members.{Leaves, IsTextAt}
 use Rattle.image_rows.specs.Places.{lent}
 use Rattle.image_rows.specs.Pushing.{Tables, Pushes, CanPush}
-use Rattle.image_references.specs.References.{Grows, size}
+use Rattle.image_tokens.specs.References.{Grows, size}
 use Rattle.image_rows.specs.declared.generic_rows.Parametric.{Parametric}
-use Rattle.image_references.specs.declared.references.References.{References}
+use Rattle.image_tokens.specs.declared.references.References.{References}
 use Rattle.image_rows.proofs.KindLemmas.{RowKind, Pushing, begin, front, go_on, end, one_pushed}
-use Rattle.image_references.proofs.PathLemmas.{text_kept}
+use Rattle.image_tokens.proofs.PathLemmas.{text_kept}
 
 pub generic_cells : RowOfColumns → (number flags owner name : ℕ) → number < 2 ^ 16 → flags < 2 ^ 16 → IsRowOf 0x2A (number ∷ flags ∷ owner ∷ name ∷ [])
 unfolding schema

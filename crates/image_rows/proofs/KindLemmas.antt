@@ -6,9 +6,9 @@ use Rattle.std.proofs.lemmas.List.{length-append}
 use Rattle.std.proofs.lemmas.List.Sums.{sum_by-cons, sum_by-append}
 use Rattle.metadata_tables.specs.Encoding.{rows_in, AddsRow}
 use Rattle.image_rows.specs.Pushing.{Tables, Pushes, CanPush}
-use Rattle.image_references.specs.References.{size, Grows, AreKnown}
-use Rattle.image_references.specs.declared.references.References.{References}
-use Rattle.image_references.proofs.NameLemmas.{all_weaker}
+use Rattle.image_tokens.specs.References.{size, Grows, AreKnown}
+use Rattle.image_tokens.specs.declared.references.References.{References}
+use Rattle.image_tokens.proofs.NameLemmas.{all_weaker}
 use Rattle.image_rows.proofs.PushLemmas.{all_front, all_back, pushes_none, pushes_one, pushes_both, pushes_count}
 
 -- the rows of a table: when a row is that of an item, what can be written, and how many bytes come; both stay true

@@ -6,14 +6,14 @@ use Rattle.metadata_tables.specs.Schema.{schema}
 use Rattle.assembly_tree.specs.declared.assembly.ExternAssembly.{ExternAssembly}
 use Rattle.assembly_tree.specs.declared.assembly.Manifest.{Manifest}
 use Rattle.heaps.specs.Heap.{Heap}
-use Rattle.image_references.specs.Blobs.{HoldsBlob, KeepsBlobs}
+use Rattle.image_tokens.specs.Blobs.{HoldsBlob, KeepsBlobs}
 use Rattle.image_rows.specs.ManifestRows.{assembly_cells, extern_cells, IsModuleRow, IsAssemblyRow, IsExternRow, module_bytes, assembly_bytes, extern_bytes, IsPlainExtern}
-use Rattle.image_references.specs.Members.{Leaves, IsTextAt}
+use Rattle.image_tokens.specs.Members.{Leaves, IsTextAt}
 use Rattle.image_rows.specs.Pushing.{Tables, Pushes}
-use Rattle.image_references.specs.References.{Grows, Goes, size}
-use Rattle.image_references.specs.declared.references.References.{References}
-use Rattle.image_references.proofs.GrowthLemmas.{grows_trans}
-use Rattle.image_references.proofs.PathLemmas.{text_kept}
+use Rattle.image_tokens.specs.References.{Grows, Goes, size}
+use Rattle.image_tokens.specs.declared.references.References.{References}
+use Rattle.image_tokens.proofs.GrowthLemmas.{grows_trans}
+use Rattle.image_tokens.proofs.PathLemmas.{text_kept}
 use Rattle.image_rows.proofs.PushLemmas.{pushes_one}
 
 -- ---- cells that make rows

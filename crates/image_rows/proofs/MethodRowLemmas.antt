@@ -13,8 +13,8 @@ use Rattle.image_rows.specs.FieldRows.{AddsItems}
 use Rattle.image_rows.specs.MethodRows.{PlacedMethod, placed_methods, method_cells, IsMethodRow, IsMethodAt}
 use Rattle.image_rows.specs.Places.{lent, params_of}
 use Rattle.image_rows.specs.Pushing.{Tables, AddsRows}
-use Rattle.image_references.specs.declared.references.References.{References}
-use Rattle.image_references.specs.declared.row_set.Cells.{Cells}
+use Rattle.image_tokens.specs.declared.references.References.{References}
+use Rattle.image_tokens.specs.declared.row_set.Cells.{Cells}
 use Rattle.image_rows.proofs.FieldLemmas.{drop_at, lent_long, items_none, items_both}
 use Rattle.image_rows.proofs.ZipLemmas.{zip_long}
 

@@ -9,19 +9,19 @@ use Rattle.metadata_tables.specs.Laws.{RowOfColumns}
 use Rattle.metadata_tables.specs.Schema.{schema}
 use Rattle.metadata_tables.specs.declared.coded.Coded.TheVariants.{MethodDefOrRef}
 use Rattle.type_terms.specs.declared.reference.MethodRef.{MethodRef}
-use Rattle.image_references.specs.Indexes.{index_of, index_of_token}
-use Rattle.image_references.specs.KnownTokens.{methods_apart}
-use Rattle.image_references.specs.Members.{Leaves, HasMethod}
+use Rattle.image_tokens.specs.Indexes.{index_of, index_of_token}
+use Rattle.image_tokens.specs.KnownTokens.{methods_apart}
+use Rattle.image_tokens.specs.Members.{Leaves, HasMethod}
 use Rattle.image_rows.specs.OverrideRows.{Override, overrides, overrides_from, override_bytes, IsOverrideRow, CanPushOverride}
 use Rattle.image_rows.specs.Places.{lent}
 use Rattle.image_rows.specs.Pushing.{Tables, Pushes, CanPush}
-use Rattle.image_references.specs.References.{Grows}
-use Rattle.image_references.specs.declared.references.Declared.{Declared}
-use Rattle.image_references.specs.declared.references.References.{References}
-use Rattle.image_references.specs.declared.row_set.Cells.{Cells}
-use Rattle.image_references.proofs.BodyLemmas.{method_can}
+use Rattle.image_tokens.specs.References.{Grows}
+use Rattle.image_tokens.specs.declared.references.Declared.{Declared}
+use Rattle.image_tokens.specs.declared.references.References.{References}
+use Rattle.image_tokens.specs.declared.row_set.Cells.{Cells}
+use Rattle.image_tokens.proofs.BodyLemmas.{method_can}
 use Rattle.image_rows.proofs.FieldLemmas.{drop_at}
-use Rattle.image_references.proofs.GrowthLemmas.{token_kept}
+use Rattle.image_tokens.proofs.GrowthLemmas.{token_kept}
 use Rattle.image_rows.proofs.KindLemmas.{RowKind, Pushing, begin, front, go_on, end, one_pushed}
 
 pub override_cells : RowOfColumns → (type body of : ℕ) → IsRowOf 0x19 (type ∷ body ∷ of ∷ [])

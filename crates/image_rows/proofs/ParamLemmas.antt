@@ -4,12 +4,12 @@ use Rattle.metadata_tables.specs.Encoding.{AddsRow, IsRowOf}
 use Rattle.metadata_tables.specs.Laws.{RowOfColumns}
 use Rattle.metadata_tables.specs.Schema.{schema}
 use Rattle.assembly_tree.specs.declared.members.Param.{Param}
-use Rattle.image_references.specs.Members.{Leaves, IsTextAt}
+use Rattle.image_tokens.specs.Members.{Leaves, IsTextAt}
 use Rattle.image_rows.specs.ParamRows.{param_flags, IsParamRow, param_bytes, IsPlainParam}
 use Rattle.image_rows.specs.Pushing.{Tables, Pushes}
-use Rattle.image_references.specs.References.{Grows, size}
-use Rattle.image_references.specs.declared.references.References.{References}
-use Rattle.image_references.proofs.PathLemmas.{text_kept}
+use Rattle.image_tokens.specs.References.{Grows, size}
+use Rattle.image_tokens.specs.declared.references.References.{References}
+use Rattle.image_tokens.proofs.PathLemmas.{text_kept}
 use Rattle.image_rows.proofs.PushLemmas.{pushes_one}
 
 pub param_cells : RowOfColumns → (flags number name : ℕ) → flags < 2 ^ 16 → number < 2 ^ 16 → IsRowOf 0x08 (flags ∷ number ∷ name ∷ [])

@@ -7,17 +7,17 @@ use Rattle.assembly_tree.specs.Weight.{signature_weight}
 use Rattle.assembly_tree.specs.declared.members.Property.{Property}
 use Rattle.sig_codec.specs.Signature.{SpellsProperty}
 use Rattle.type_terms.specs.declared.reference.MethodSig.{MethodSig}
-use Rattle.image_references.specs.Members.{Leaves, IsTextAt}
-use Rattle.image_references.specs.Noted.{IsSigned}
+use Rattle.image_tokens.specs.Members.{Leaves, IsTextAt}
+use Rattle.image_tokens.specs.Noted.{IsSigned}
 use Rattle.image_rows.specs.PropertyRows.{property_flags, property_bytes, IsPropertyRow, CanPushProperty}
 use Rattle.image_rows.specs.Pushing.{Tables, Pushes}
-use Rattle.image_references.specs.References.{Grows, size}
-use Rattle.image_references.specs.Writable.{IsPropertyWritable}
-use Rattle.image_references.specs.declared.references.References.{References}
-use Rattle.image_references.proofs.GrowthLemmas.{grows_trans, signature_kept}
+use Rattle.image_tokens.specs.References.{Grows, size}
+use Rattle.image_tokens.specs.Writable.{IsPropertyWritable}
+use Rattle.image_tokens.specs.declared.references.References.{References}
+use Rattle.image_tokens.proofs.GrowthLemmas.{grows_trans, signature_kept}
 use Rattle.image_rows.proofs.KindLemmas.{RowKind, one_pushed}
-use Rattle.image_references.proofs.PathLemmas.{text_kept}
-use Rattle.image_references.proofs.WritableLemmas.{still_writable, still_writable_each}
+use Rattle.image_tokens.proofs.PathLemmas.{text_kept}
+use Rattle.image_tokens.proofs.WritableLemmas.{still_writable, still_writable_each}
 
 pub property_cells : RowOfColumns → (flags name signature : ℕ) → flags < 2 ^ 16 → IsRowOf 0x17 (flags ∷ name ∷ signature ∷ [])
 unfolding schema

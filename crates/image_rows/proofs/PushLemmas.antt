@@ -6,10 +6,10 @@ use Rattle.std.proofs.lemmas.List.{append-nil, append_assoc, length-append}
 use Rattle.std.proofs.lemmas.List.Sums.{sum_by-cons, sum_by-append}
 use Rattle.metadata_tables.specs.Encoding.{rows_of, rows_in, AddsRow}
 use Rattle.image_rows.specs.Pushing.{Tables, AddsRows, Pushes}
-use Rattle.image_references.specs.References.{size, Grows, AreKnown}
-use Rattle.image_references.specs.declared.references.References.{References}
-use Rattle.image_references.proofs.GrowthLemmas.{grows_refl, grows_trans}
-use Rattle.image_references.proofs.NameLemmas.{all_weaker}
+use Rattle.image_tokens.specs.References.{size, Grows, AreKnown}
+use Rattle.image_tokens.specs.declared.references.References.{References}
+use Rattle.image_tokens.proofs.GrowthLemmas.{grows_refl, grows_trans}
+use Rattle.image_tokens.proofs.NameLemmas.{all_weaker}
 use Rattle.image_rows.proofs.ZipLemmas.{zip_both, zip_long, zip_later}
 
 -- ---- rows alone

@@ -10,7 +10,7 @@ use Rattle.assembly_tree.specs.declared.typedef.TypeDef.{TypeDef}
 use Rattle.assembly_tree.specs.declared.typedef.TypeDef.TheViews.{out-TypeDef}
 use Rattle.assembly_tree.specs.declared.typedef.TypeDef.TheFolds.{fold_out-TypeDef}
 use Rattle.heaps.specs.Heap.{Heap}
-use Rattle.image_references.specs.Loaded.{AreLoaded}
+use Rattle.image_tokens.specs.Loaded.{AreLoaded}
 
 pub flat_mapped : (ts : List TypeDef) → flat_map (λ xs. xs) (map typedef_texts ts) ≡ flat_map typedef_texts ts
 flat_mapped [] = refl

@@ -13,8 +13,8 @@ use Rattle.assembly_tree.specs.declared.body.Operand.TheVariants as operand
 use Rattle.assembly_tree.specs.declared.members.Method.{Method}
 use Rattle.assembly_tree.specs.declared.typedef.TypeDef.{TypeDef}
 use Rattle.assembly_tree.specs.declared.typedef.TypeDef.TheFolds.{fold-roll-TypeDef, ind-TypeDef}
-use Rattle.image_references.specs.Loaded.{entry_sizes}
-use Rattle.image_references.proofs.LoadsLemmas.{sizes_both}
+use Rattle.image_tokens.specs.Loaded.{entry_sizes}
+use Rattle.image_tokens.proofs.LoadsLemmas.{sizes_both}
 use Rattle.image_rows.proofs.TextLemmas.{flat_mapped, whole_texts}
 
 most : (a b : Bool) → cond a 1 (cond b 2 4) ≤ 4

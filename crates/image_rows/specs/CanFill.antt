@@ -2,8 +2,8 @@
 use Rattle.std.specs.Prelude.{◌^◌, ◌<◌, List, map}
 use Rattle.std.specs.List.{AllByRecursion}
 use Rattle.assembly_tree.specs.declared.assembly.Assembly.{Assembly}
-use Rattle.image_references.specs.Writable.{IsOwnerWritable, IsMethodRefWritable}
-use Rattle.image_references.specs.declared.references.References.{References}
+use Rattle.image_tokens.specs.Writable.{IsOwnerWritable, IsMethodRefWritable}
+use Rattle.image_tokens.specs.declared.references.References.{References}
 use Rattle.image_rows.specs.AttributeRows.{CanPushAttribute}
 use Rattle.image_rows.specs.CodeBytes.{body_of, CanPushStated}
 use Rattle.image_rows.specs.ConstantRows.{CanPushConstant}
@@ -19,7 +19,7 @@ use Rattle.image_rows.specs.Places.{all_fields, all_methods}
 use Rattle.image_rows.specs.PropertyRows.{CanPushProperty}
 use Rattle.image_rows.specs.TypeRows.{base_of, CanBeBase}
 use Rattle.image_rows.specs.declared.classes.Class.{Class}
-use Rattle.image_references.specs.Texts.{IsPlainId}
+use Rattle.image_tokens.specs.Texts.{IsPlainId}
 
 -- the types of an assembly can be declared
 pub record AreDeclarableTypes (classes : List Class) : Type 0 where

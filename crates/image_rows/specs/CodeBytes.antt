@@ -11,13 +11,13 @@ use Rattle.type_terms.specs.declared.reference.FieldRef.{FieldRef}
 use Rattle.type_terms.specs.declared.reference.MethodRef.{MethodRef}
 use Rattle.type_terms.specs.declared.term.Owner.{Owner}
 use Rattle.type_terms.specs.declared.term.SigType.{SigType}
-use Rattle.image_references.specs.Found.{token_in}
-use Rattle.image_references.specs.KnownTokens.{methods_apart, fields_apart, locals_apart, texts_apart}
-use Rattle.image_references.specs.NamesWeight.{names_weight}
+use Rattle.image_tokens.specs.Found.{token_in}
+use Rattle.image_tokens.specs.KnownTokens.{methods_apart, fields_apart, locals_apart, texts_apart}
+use Rattle.image_tokens.specs.NamesWeight.{names_weight}
 use Rattle.image_rows.specs.Placing.{StandsIn}
-use Rattle.image_references.specs.References.{tokens_of, size, Grows, AreKnown}
-use Rattle.image_references.specs.Writable.{IsBodyWritable}
-use Rattle.image_references.specs.declared.references.References.{References}
+use Rattle.image_tokens.specs.References.{tokens_of, size, Grows, AreKnown}
+use Rattle.image_tokens.specs.Writable.{IsBodyWritable}
+use Rattle.image_tokens.specs.declared.references.References.{References}
 
 -- ---- tokens
 

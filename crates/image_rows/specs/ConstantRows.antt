@@ -2,12 +2,12 @@
 use Rattle.std.specs.Prelude.{◌≡◌, ℕ, ◌+◌, ◌^◌, ◌<◌, List, [], ◌∷◌, map, length, Option, None, Some}
 use Rattle.assembly_tree.specs.declared.members.Constant.{Constant}
 use Rattle.metadata_tables.specs.declared.coded.Coded.TheVariants.{HasConstant}
-use Rattle.image_references.specs.Blobs.{HoldsBlob}
+use Rattle.image_tokens.specs.Blobs.{HoldsBlob}
 use Rattle.image_rows.specs.ByNumber.{owned_in, owned_at, by_number}
 use Rattle.image_rows.specs.Constants.{element_of, value_of}
 use Rattle.image_rows.specs.Places.{lent}
 use Rattle.image_rows.specs.declared.constant_rows.Valued.{Valued}
-use Rattle.image_references.specs.declared.references.References.{References}
+use Rattle.image_tokens.specs.declared.references.References.{References}
 
 abbrev pub stated_constant : Option Constant → List Constant
 stated_constant None = []

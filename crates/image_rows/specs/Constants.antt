@@ -6,7 +6,7 @@ use Rattle.assembly_tree.specs.declared.members.Constant.{Constant}
 use Rattle.assembly_tree.specs.declared.members.Constant.TheVariants as constant
 use Rattle.type_terms.specs.declared.term.Primitive.{Primitive}
 use Rattle.type_terms.specs.declared.term.Primitive.TheVariants as prim
-use Rattle.image_references.specs.Units.{bytes_of_units}
+use Rattle.image_tokens.specs.Units.{bytes_of_units}
 
 -- an integer type as an element type; the others have no constants that are integers
 abbrev pub integer_element : Primitive → ℕ

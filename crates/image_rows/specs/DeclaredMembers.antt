@@ -9,12 +9,12 @@ use Rattle.assembly_tree.specs.declared.members.Method.{Method}
 use Rattle.assembly_tree.specs.declared.typedef.TypeDef.TheViews.{out-TypeDef}
 use Rattle.sig_codec.specs.Spelling.{Notation}
 use Rattle.sig_codec.specs.Signature.{SpellsField, SpellsMethod}
-use Rattle.image_references.specs.References.{size, HasSignature, Grows, Widens, AreKnown}
-use Rattle.image_references.specs.Texts.{HasNoZero, HoldsText}
-use Rattle.image_references.specs.Writable.{IsWritable, IsMethodWritable}
+use Rattle.image_tokens.specs.References.{size, HasSignature, Grows, Widens, AreKnown}
+use Rattle.image_tokens.specs.Texts.{HasNoZero, HoldsText}
+use Rattle.image_tokens.specs.Writable.{IsWritable, IsMethodWritable}
 use Rattle.image_rows.specs.declared.classes.Class.{Class}
-use Rattle.image_references.specs.declared.references.References.{References}
-use Rattle.image_references.specs.declared.row_set.Cells.{Cells}
+use Rattle.image_tokens.specs.declared.references.References.{References}
+use Rattle.image_tokens.specs.declared.row_set.Cells.{Cells}
 
 -- ---- members in the order of their rows
 

@@ -4,9 +4,9 @@ use Rattle.std.specs.List.{AllZip}
 use Rattle.assembly_tree.specs.declared.typedef.TypeDef.TheViews.{out-TypeDef}
 use Rattle.heaps.specs.Heap.{Heap}
 use Rattle.type_terms.specs.declared.name.TypeId.{TypeId}
-use Rattle.image_references.specs.Texts.{KeepsTexts, HoldsId, id_size}
+use Rattle.image_tokens.specs.Texts.{KeepsTexts, HoldsId, id_size}
 use Rattle.image_rows.specs.declared.classes.Class.{Class}
-use Rattle.image_references.specs.declared.row_set.Cells.{Cells}
+use Rattle.image_tokens.specs.declared.row_set.Cells.{Cells}
 
 -- where a type is declared: the row of its encloser, or 0 at the top, and its name and space
 pub record Place : Type 0 where

@@ -2,10 +2,10 @@
 use Rattle.std.specs.Prelude.{◌≡◌, ℕ, ◌+◌, List, [], ◌∷◌, length}
 use Rattle.assembly_tree.specs.Weight.{owner_weight}
 use Rattle.assembly_tree.specs.declared.members.Event.{Event}
-use Rattle.image_references.specs.Texts.{HasNoZero, HoldsText}
+use Rattle.image_tokens.specs.Texts.{HasNoZero, HoldsText}
 use Rattle.image_rows.specs.TypeIndexes.{IsTypeIndex}
-use Rattle.image_references.specs.Writable.{IsOwnerWritable}
-use Rattle.image_references.specs.declared.references.References.{References}
+use Rattle.image_tokens.specs.Writable.{IsOwnerWritable}
+use Rattle.image_tokens.specs.declared.references.References.{References}
 
 -- flags, name and type
 pub record IsEventRow (r : References) (cells : List ℕ) (e : Event) : Type 0 where

@@ -5,10 +5,10 @@ use Rattle.assembly_tree.specs.declared.members.Field.{Field}
 use Rattle.sig_codec.specs.Signature.{SpellsField}
 use Rattle.image_rows.specs.DeclaredMembers.{IsFieldOf}
 use Rattle.image_rows.specs.Pushing.{Tables, AddsRows}
-use Rattle.image_references.specs.References.{HasSignature}
-use Rattle.image_references.specs.Texts.{HoldsText}
-use Rattle.image_references.specs.declared.references.References.{References}
-use Rattle.image_references.specs.declared.row_set.Cells.{Cells}
+use Rattle.image_tokens.specs.References.{HasSignature}
+use Rattle.image_tokens.specs.Texts.{HoldsText}
+use Rattle.image_tokens.specs.declared.references.References.{References}
+use Rattle.image_tokens.specs.declared.row_set.Cells.{Cells}
 
 -- a bit where something is there
 abbrev pub flag_if : {X : Type 0} → ℕ → Option X → ℕ

@@ -5,9 +5,9 @@ use Rattle.std.specs.List.{AllZip, enumerate_from, flat_map}
 use Rattle.assembly_tree.specs.declared.assembly.Assembly.{Assembly}
 use Rattle.assembly_tree.specs.declared.members.Method.{Method}
 use Rattle.metadata_tables.specs.Encoding.{rows_of, rows_in}
-use Rattle.image_references.specs.References.{AreKnown}
-use Rattle.image_references.specs.declared.references.References.{References}
-use Rattle.image_references.specs.declared.row_set.Cells.{Cells}
+use Rattle.image_tokens.specs.References.{AreKnown}
+use Rattle.image_tokens.specs.declared.references.References.{References}
+use Rattle.image_tokens.specs.declared.row_set.Cells.{Cells}
 use Rattle.image_rows.specs.AttributeRows.{IsAttributeRow}
 use Rattle.image_rows.specs.ClassRows.{class_rows, nested_rows, layout_rows}
 use Rattle.image_rows.specs.Classes.{AreClasses}

@@ -7,11 +7,11 @@ use Rattle.metadata_tables.specs.declared.coded.Coded.TheVariants.{TypeOrMethodD
 use Rattle.type_terms.specs.declared.term.Owner.{Owner}
 use Rattle.image_rows.specs.ByNumber.{owned_in, owned_at, by_number}
 use Rattle.image_rows.specs.Places.{lent}
-use Rattle.image_references.specs.Texts.{HasNoZero, HoldsText}
+use Rattle.image_tokens.specs.Texts.{HasNoZero, HoldsText}
 use Rattle.image_rows.specs.TypeIndexes.{IsTypeIndex}
-use Rattle.image_references.specs.Writable.{IsOwnerWritable}
+use Rattle.image_tokens.specs.Writable.{IsOwnerWritable}
 use Rattle.image_rows.specs.declared.generic_rows.Parametric.{Parametric}
-use Rattle.image_references.specs.declared.references.References.{References}
+use Rattle.image_tokens.specs.declared.references.References.{References}
 
 -- ---- GenericParam
 

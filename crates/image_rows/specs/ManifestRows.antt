@@ -2,9 +2,9 @@
 use Rattle.std.specs.Prelude.{◌≡◌, ℕ, ◌+◌, List, [], ◌∷◌, length, slice_index}
 use Rattle.assembly_tree.specs.declared.assembly.ExternAssembly.{ExternAssembly}
 use Rattle.assembly_tree.specs.declared.assembly.Manifest.{Manifest}
-use Rattle.image_references.specs.Blobs.{HoldsBlob}
-use Rattle.image_references.specs.Texts.{HasNoZero, HoldsText}
-use Rattle.image_references.specs.declared.references.References.{References}
+use Rattle.image_tokens.specs.Blobs.{HoldsBlob}
+use Rattle.image_tokens.specs.Texts.{HasNoZero, HoldsText}
+use Rattle.image_tokens.specs.declared.references.References.{References}
 
 -- Module: generation 0, the name, the first identifier, and none for edits
 pub record IsModuleRow (r : References) (cells : List ℕ) (m : Manifest) : Type 0 where

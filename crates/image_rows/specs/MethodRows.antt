@@ -4,10 +4,10 @@ use Rattle.metadata_tables.specs.Indexes.{run_cell}
 use Rattle.assembly_tree.specs.declared.members.Method.{Method}
 use Rattle.sig_codec.specs.Signature.{SpellsMethod}
 use Rattle.image_rows.specs.DeclaredMembers.{IsMethodOf}
-use Rattle.image_references.specs.References.{HasSignature}
-use Rattle.image_references.specs.Texts.{HoldsText}
-use Rattle.image_references.specs.declared.references.References.{References}
-use Rattle.image_references.specs.declared.row_set.Cells.{Cells}
+use Rattle.image_tokens.specs.References.{HasSignature}
+use Rattle.image_tokens.specs.Texts.{HoldsText}
+use Rattle.image_tokens.specs.declared.references.References.{References}
+use Rattle.image_tokens.specs.declared.row_set.Cells.{Cells}
 
 -- a method, where its body stands, and the row of its first parameter, or where that would stand
 pub record PlacedMethod : Type 0 where

@@ -4,11 +4,11 @@ use Rattle.assembly_tree.specs.Weight.{method_ref_weight}
 use Rattle.assembly_tree.specs.declared.members.Method.{Method}
 use Rattle.metadata_tables.specs.declared.coded.Coded.TheVariants.{MethodDefOrRef}
 use Rattle.type_terms.specs.declared.reference.MethodRef.{MethodRef}
-use Rattle.image_references.specs.Indexes.{index_of, index_of_token}
-use Rattle.image_references.specs.Members.{HasMethod}
-use Rattle.image_references.specs.Writable.{IsMethodRefWritable}
-use Rattle.image_references.specs.declared.references.References.{References}
-use Rattle.image_references.specs.declared.row_set.Cells.{Cells}
+use Rattle.image_tokens.specs.Indexes.{index_of, index_of_token}
+use Rattle.image_tokens.specs.Members.{HasMethod}
+use Rattle.image_tokens.specs.Writable.{IsMethodRefWritable}
+use Rattle.image_tokens.specs.declared.references.References.{References}
+use Rattle.image_tokens.specs.declared.row_set.Cells.{Cells}
 
 -- a method that another one of this type is the body of: the rows of the type and of the body, and the method
 pub record Override : Type 0 where

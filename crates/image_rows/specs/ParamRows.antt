@@ -6,9 +6,9 @@ use Rattle.assembly_tree.specs.declared.members.Param.{Param}
 use Rattle.image_rows.specs.DeclaredMembers.{class_methods}
 use Rattle.image_rows.specs.FieldRows.{flag_if}
 use Rattle.image_rows.specs.Places.{params_of}
-use Rattle.image_references.specs.Texts.{HasNoZero, HoldsText}
+use Rattle.image_tokens.specs.Texts.{HasNoZero, HoldsText}
 use Rattle.image_rows.specs.declared.classes.Class.{Class}
-use Rattle.image_references.specs.declared.references.References.{References}
+use Rattle.image_tokens.specs.declared.references.References.{References}
 
 abbrev pub class_params : Class → List Param
 class_params c = flat_map params_of (class_methods c)

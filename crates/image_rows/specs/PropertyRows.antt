@@ -4,10 +4,10 @@ use Rattle.assembly_tree.specs.Weight.{signature_weight}
 use Rattle.assembly_tree.specs.declared.members.Property.{Property}
 use Rattle.sig_codec.specs.Signature.{SpellsProperty}
 use Rattle.image_rows.specs.FieldRows.{flag_if}
-use Rattle.image_references.specs.References.{HasSignature}
-use Rattle.image_references.specs.Texts.{HasNoZero, HoldsText}
-use Rattle.image_references.specs.Writable.{IsPropertyWritable}
-use Rattle.image_references.specs.declared.references.References.{References}
+use Rattle.image_tokens.specs.References.{HasSignature}
+use Rattle.image_tokens.specs.Texts.{HasNoZero, HoldsText}
+use Rattle.image_tokens.specs.Writable.{IsPropertyWritable}
+use Rattle.image_tokens.specs.declared.references.References.{References}
 
 -- the flags, with HasDefault where there is a constant
 abbrev pub property_flags : Property → ℕ

@@ -2,8 +2,8 @@
 use Rattle.std.specs.Prelude.{◌≡◌, ◌≢◌, ℕ, ◌+◌, ◌^◌, ◌<◌, ◌≤◌, List, ◌++◌, length, sum_by}
 use Rattle.std.specs.List.{AllByRecursion, AllZip}
 use Rattle.metadata_tables.specs.Encoding.{rows_of, rows_in}
-use Rattle.image_references.specs.References.{size, Grows, AreKnown}
-use Rattle.image_references.specs.declared.references.References.{References}
+use Rattle.image_tokens.specs.References.{size, Grows, AreKnown}
+use Rattle.image_tokens.specs.declared.references.References.{References}
 
 -- the tables, each the list of its rows, each the list of its cells
 abbrev pub Tables : Type 0

@@ -2,9 +2,9 @@
 use Rattle.std.specs.Prelude.{◌≡◌, ℕ, Some}
 use Rattle.metadata_tables.specs.declared.coded.Coded.TheVariants.{TypeDefOrRef}
 use Rattle.type_terms.specs.declared.term.Owner.{Owner}
-use Rattle.image_references.specs.Indexes.{index_of_token}
-use Rattle.image_references.specs.References.{tokens_of}
-use Rattle.image_references.specs.declared.references.References.{References}
+use Rattle.image_tokens.specs.Indexes.{index_of_token}
+use Rattle.image_tokens.specs.References.{tokens_of}
+use Rattle.image_tokens.specs.declared.references.References.{References}
 
 -- the coded index of the row with the token of a type
 abbrev pub IsTypeIndex : Owner → References → ℕ → Type 0

@@ -7,14 +7,14 @@ use Rattle.metadata_tables.specs.declared.coded.Coded.TheVariants.{TypeDefOrRef}
 use Rattle.type_terms.specs.declared.term.Owner.{Owner}
 use Rattle.image_rows.specs.Declaring.{Place, module_id, class_id, HoldsPlace}
 use Rattle.image_rows.specs.DeclaredMembers.{class_fields, class_methods}
-use Rattle.image_references.specs.Indexes.{index_of_token}
+use Rattle.image_tokens.specs.Indexes.{index_of_token}
 use Rattle.image_rows.specs.Pushing.{Tables, AddsRows}
-use Rattle.image_references.specs.References.{tokens_of, size, Grows, AreKnown}
-use Rattle.image_references.specs.Texts.{HoldsId}
-use Rattle.image_references.specs.Writable.{IsOwnerWritable}
+use Rattle.image_tokens.specs.References.{tokens_of, size, Grows, AreKnown}
+use Rattle.image_tokens.specs.Texts.{HoldsId}
+use Rattle.image_tokens.specs.Writable.{IsOwnerWritable}
 use Rattle.image_rows.specs.declared.classes.Class.{Class}
-use Rattle.image_references.specs.declared.references.References.{References}
-use Rattle.image_references.specs.declared.row_set.Cells.{Cells}
+use Rattle.image_tokens.specs.declared.references.References.{References}
+use Rattle.image_tokens.specs.declared.row_set.Cells.{Cells}
 
 -- a type, and the rows of its first field and its first method, or where they would stand
 pub record Numbered : Type 0 where

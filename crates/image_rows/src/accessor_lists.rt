@@ -11,7 +11,7 @@ use crate::order::Ordered;
 use crate::semantics_rows::{Access, Accessing};
 use assembly_tree::{Accessors, Assembly};
 use il_base::{Items, NoMemory};
-use image_references::tokens::{EVENT, PROPERTY};
+use image_tokens::tokens::{EVENT, PROPERTY};
 use std::alloc::Global;
 
 /// The events and the properties, with the accessors of each; the methods that follow those of `<Module>` are

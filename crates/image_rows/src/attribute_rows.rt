@@ -8,10 +8,10 @@ ghost use Rattle.image_rows.specs.Pushing.{Pushes, CanPush};
 use crate::emptiness::have_items;
 use assembly_tree::{Attribute, Attributes};
 use il_base::{Items, NoMemory};
-use image_references::blobs::refer_blob;
-use image_references::methods::refer_method;
-use image_references::references::References;
-use image_references::tokens::{CUSTOM_ATTRIBUTE, index_of, index_of_token};
+use image_tokens::blobs::refer_blob;
+use image_tokens::methods::refer_method;
+use image_tokens::references::References;
+use image_tokens::tokens::{CUSTOM_ATTRIBUTE, index_of, index_of_token};
 use metadata_tables::{Coded, Rows, row_of_columns};
 use std::alloc::Global;
 

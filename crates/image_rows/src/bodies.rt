@@ -1,18 +1,18 @@
 //! The bodies of methods, one after another (ECMA-335 II.25.4).
 ghost use Rattle.std.specs.Prelude.{◌≡◌, ℕ, ◌+◌, ◌^◌, ◌≤◌, ◌∷◌, [], map, Some, length, IfOk, OnOk};
 ghost use Rattle.body_codec.specs.Encoding.{CanBeWritten, IsFirstFar, IsWritten};
-ghost use Rattle.image_references.specs.BodyTokens.{HasBodyTokens};
-ghost use Rattle.image_references.specs.NamesWeight.{names_weight};
+ghost use Rattle.image_tokens.specs.BodyTokens.{HasBodyTokens};
+ghost use Rattle.image_tokens.specs.NamesWeight.{names_weight};
 ghost use Rattle.image_rows.specs.CodeBytes.{all_tokens, any_token, code_room, body_of, IsBodyAt, AddsBodies, AddsBody, CanPushBody, CanPushBodies};
 ghost use Rattle.image_rows.specs.Places.{lent};
-ghost use Rattle.image_references.specs.References.{size, AreKnown};
+ghost use Rattle.image_tokens.specs.References.{size, AreKnown};
 
 use crate::placing::put_bytes;
 use assembly_tree::{Body, Method};
 use body_codec::{BodyFault, BodyWriter};
 use il_base::{Bytes, Items, NoMemory};
-use image_references::body_tokens::note_body;
-use image_references::references::References;
+use image_tokens::body_tokens::note_body;
+use image_tokens::references::References;
 use std::alloc::Global;
 
 /// Where bodies are written, one after another, before they are added to the code.

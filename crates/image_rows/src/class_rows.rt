@@ -8,7 +8,7 @@ ghost use Rattle.image_rows.specs.Pushing.{AddsRows};
 use crate::classes::Class;
 use assembly_tree::Layout;
 use il_base::NoMemory;
-use image_references::tokens::{CLASS_LAYOUT, NESTED_CLASS};
+use image_tokens::tokens::{CLASS_LAYOUT, NESTED_CLASS};
 use metadata_tables::{Rows, row_of_columns};
 
 /// Adds a row of NestedClass for each type that another one nests.

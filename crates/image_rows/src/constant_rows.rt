@@ -6,9 +6,9 @@ ghost use Rattle.image_rows.specs.Pushing.{Pushes, CanPush};
 use crate::constants::{element_of, value_of};
 use assembly_tree::Constant;
 use il_base::{Items, NoMemory};
-use image_references::blobs::refer_blob;
-use image_references::references::References;
-use image_references::tokens::{CONSTANT, index_of};
+use image_tokens::blobs::refer_blob;
+use image_tokens::references::References;
+use image_tokens::tokens::{CONSTANT, index_of};
 use metadata_tables::{Coded, Rows, row_of_columns};
 use std::alloc::Global;
 

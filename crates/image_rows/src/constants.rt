@@ -4,7 +4,7 @@ ghost use Rattle.image_rows.specs.Constants.{integer_element, integer_width, ele
 
 use assembly_tree::Constant;
 use il_base::{Bytes, NoMemory};
-use image_references::heap_contents::bytes_of_units;
+use image_tokens::heap_contents::bytes_of_units;
 use std::alloc::Global;
 use type_terms::Prim;
 

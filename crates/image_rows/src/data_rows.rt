@@ -7,7 +7,7 @@ ghost use Rattle.image_rows.specs.Places.{lent};
 use crate::placing::put_bytes;
 use assembly_tree::Field;
 use il_base::{Bytes, NoMemory};
-use image_references::tokens::FIELD_RVA;
+use image_tokens::tokens::FIELD_RVA;
 use metadata_tables::{Rows, row_of_columns};
 
 /// Adds a row of FieldRVA for each field that has data, and the data behind the code.

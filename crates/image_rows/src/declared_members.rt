@@ -4,16 +4,16 @@ ghost use Rattle.std.specs.List.{AllByRecursion};
 ghost use Rattle.assembly_tree.specs.declared.members.Field.{Field};
 ghost use Rattle.assembly_tree.specs.declared.members.Method.{Method};
 ghost use Rattle.image_rows.specs.DeclaredMembers.{owned, class_fields, class_methods, field_bytes, method_bytes, DeclaresFields, DeclaresMethods, fields_bytes, methods_bytes, fields_count, methods_count, with_members, HasMembers, IsFieldDeclarable, IsMethodDeclarable, AreDeclarable};
-ghost use Rattle.image_references.specs.References.{size, AreKnown};
+ghost use Rattle.image_tokens.specs.References.{size, AreKnown};
 
 use crate::classes::Class;
 use assembly_tree::{Assembly, Field, Method};
 use il_base::NoMemory;
-use image_references::members::refer_text;
-use image_references::references::References;
-use image_references::row_list::RowList;
-use image_references::row_set::Cells;
-use image_references::signatures::{field_signature, method_signature};
+use image_tokens::members::refer_text;
+use image_tokens::references::References;
+use image_tokens::row_list::RowList;
+use image_tokens::row_set::Cells;
+use image_tokens::signatures::{field_signature, method_signature};
 use std::alloc::Global;
 
 /// Declares the fields and the methods of `<Module>` and of each type. Item k of each list is row k + 1 of

@@ -2,13 +2,13 @@
 ghost use Rattle.std.specs.Prelude.{◌≡◌, ◌+◌, ◌-◌, ◌^◌, ◌<◌, ◌∷◌, [], length, map, sum_by, IfOk, OnOk};
 ghost use Rattle.std.specs.List.{AllByRecursion};
 ghost use Rattle.image_rows.specs.Declaring.{module_id, class_id, class_place, class_size, places, AreApart, Declares, IsDeclaring};
-ghost use Rattle.image_references.specs.Texts.{IsPlainId, id_size};
+ghost use Rattle.image_tokens.specs.Texts.{IsPlainId, id_size};
 
 use crate::classes::Class;
 use heaps::{StringHeap, one_content_at_an_index};
 use il_base::{NoMemory, Text};
-use image_references::row_set::{Cells, RowSet};
-use image_references::texts::add_id;
+use image_tokens::row_set::{Cells, RowSet};
+use image_tokens::texts::add_id;
 use std::alloc::Global;
 use type_terms::TypeId;
 

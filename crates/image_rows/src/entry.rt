@@ -4,7 +4,7 @@ ghost use Rattle.image_rows.specs.Filled.{entry_from};
 ghost use Rattle.image_rows.specs.Places.{lent};
 
 use assembly_tree::Method;
-use image_references::tokens::{METHOD_DEF, token_of};
+use image_tokens::tokens::{METHOD_DEF, token_of};
 
 /// The token of the first of these methods that is the entry point, where row 1 is that of the first method;
 /// 0 where none is.

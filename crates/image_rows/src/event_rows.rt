@@ -7,9 +7,9 @@ ghost use Rattle.image_rows.specs.Pushing.{Pushes, CanPush};
 use crate::type_indexes::type_index;
 use assembly_tree::Event;
 use il_base::NoMemory;
-use image_references::members::refer_text;
-use image_references::references::References;
-use image_references::tokens::EVENT;
+use image_tokens::members::refer_text;
+use image_tokens::references::References;
+use image_tokens::tokens::EVENT;
 use metadata_tables::{Rows, row_of_columns};
 use std::alloc::Global;
 

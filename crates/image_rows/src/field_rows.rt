@@ -8,9 +8,9 @@ ghost use Rattle.image_rows.specs.Pushing.{AddsRows};
 
 use assembly_tree::Field;
 use il_base::NoMemory;
-use image_references::references::References;
-use image_references::row_set::Cells;
-use image_references::tokens::{FIELD, FIELD_LAYOUT};
+use image_tokens::references::References;
+use image_tokens::row_set::Cells;
+use image_tokens::tokens::{FIELD, FIELD_LAYOUT};
 use metadata_tables::{Rows, row_of_columns};
 
 /// Adds a row of Field for each declared field, in the order of the declared rows.

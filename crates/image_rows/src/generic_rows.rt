@@ -8,9 +8,9 @@ ghost use Rattle.image_rows.specs.Pushing.{Pushes, CanPush};
 use crate::emptiness::have_items;
 use assembly_tree::{Generic, Generics};
 use il_base::{Items, NoMemory};
-use image_references::members::refer_text;
-use image_references::references::References;
-use image_references::tokens::{GENERIC_PARAM, index_of};
+use image_tokens::members::refer_text;
+use image_tokens::references::References;
+use image_tokens::tokens::{GENERIC_PARAM, index_of};
 use metadata_tables::{Coded, Rows, row_of_columns};
 
 /// A table whose rows have generic parameters, and those of each row.

@@ -4,12 +4,12 @@ ghost use Rattle.std.specs.Prelude.{◌≡◌, ◌+◌, ◌^◌, ◌≤◌, [], 
 ghost use Rattle.std.specs.List.{flat_map};
 ghost use Rattle.assembly_tree.specs.Room.{operand_texts, instruction_texts, body_texts, method_texts, typedef_texts, texts};
 ghost use Rattle.assembly_tree.specs.Weight.{weight_of};
-ghost use Rattle.image_references.specs.Loaded.{AreLoaded, Loads, entry_sizes};
+ghost use Rattle.image_tokens.specs.Loaded.{AreLoaded, Loads, entry_sizes};
 
 use assembly_tree::{Assembly, Ins, Method, Operand, TypeDef};
 use heaps::UserHeap;
 use il_base::NoMemory;
-use image_references::user_texts::add_units;
+use image_tokens::user_texts::add_units;
 use std::alloc::Global;
 
 /// The heap with each text that the assembly loads. `loads` may be false only where it loads none: then no walk looks

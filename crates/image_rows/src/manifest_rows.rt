@@ -5,14 +5,14 @@ ghost use Rattle.std.specs.List.{AllByRecursion};
 ghost use Rattle.metadata_tables.specs.Encoding.{rows_in, IsRowOf};
 ghost use Rattle.image_rows.specs.ManifestRows.{assembly_cells, extern_cells, IsModuleRow, IsAssemblyRow, IsExternRow, module_bytes, assembly_bytes, extern_bytes, IsPlainManifest, IsPlainExtern};
 ghost use Rattle.image_rows.specs.Pushing.{Pushes};
-ghost use Rattle.image_references.specs.References.{size, AreKnown};
+ghost use Rattle.image_tokens.specs.References.{size, AreKnown};
 
 use assembly_tree::{ExternAssembly, Manifest};
 use il_base::NoMemory;
-use image_references::blobs::refer_blob;
-use image_references::members::refer_text;
-use image_references::references::References;
-use image_references::tokens::{ASSEMBLY, ASSEMBLY_REF, MODULE};
+use image_tokens::blobs::refer_blob;
+use image_tokens::members::refer_text;
+use image_tokens::references::References;
+use image_tokens::tokens::{ASSEMBLY, ASSEMBLY_REF, MODULE};
 use metadata_tables::{Rows, row_of_columns};
 
 /// Adds the row of Module, whose identifier is the first of the heap of identifiers.

@@ -9,7 +9,7 @@ ghost use Rattle.image_rows.specs.Pushing.{AddsRows};
 use crate::classes::Class;
 use assembly_tree::{Event, Property};
 use il_base::NoMemory;
-use image_references::tokens::{EVENT_MAP, PROPERTY_MAP, run_cell};
+use image_tokens::tokens::{EVENT_MAP, PROPERTY_MAP, run_cell};
 use metadata_tables::{Rows, row_of_columns};
 
 /// Adds a row of EventMap for each type that has events; all of them are `events`.

@@ -9,9 +9,9 @@ ghost use Rattle.image_rows.specs.Pushing.{AddsRows};
 
 use assembly_tree::Method;
 use il_base::NoMemory;
-use image_references::references::References;
-use image_references::row_set::Cells;
-use image_references::tokens::{METHOD_DEF, run_cell};
+use image_tokens::references::References;
+use image_tokens::row_set::Cells;
+use image_tokens::tokens::{METHOD_DEF, run_cell};
 use metadata_tables::{Rows, row_of_columns};
 
 /// Adds a row of MethodDef for each declared method, in the order of the declared rows. Bodies stand at

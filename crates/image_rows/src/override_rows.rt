@@ -6,9 +6,9 @@ ghost use Rattle.image_rows.specs.Pushing.{Pushes, CanPush};
 
 use assembly_tree::Method;
 use il_base::NoMemory;
-use image_references::methods::refer_method;
-use image_references::references::References;
-use image_references::tokens::{METHOD_DEF, METHOD_IMPL, index_of, index_of_token};
+use image_tokens::methods::refer_method;
+use image_tokens::references::References;
+use image_tokens::tokens::{METHOD_DEF, METHOD_IMPL, index_of, index_of_token};
 use metadata_tables::{Coded, Rows, row_of_columns};
 use std::alloc::Global;
 use type_terms::MethodRef;

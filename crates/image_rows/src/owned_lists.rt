@@ -17,7 +17,7 @@ use crate::generic_rows::Parametric;
 use crate::order::Ordered;
 use assembly_tree::{Assembly, Attributes, Generic, Generics};
 use il_base::{Items, NoMemory};
-use image_references::tokens::{
+use image_tokens::tokens::{
     ASSEMBLY, EVENT, FIELD, GENERIC_PARAM, METHOD_DEF, MODULE, PARAM, PROPERTY, TYPE_DEF,
 };
 use std::alloc::Global;

@@ -5,13 +5,13 @@ ghost use Rattle.metadata_tables.specs.Encoding.{rows_in};
 ghost use Rattle.image_rows.specs.ParamRows.{param_flags, IsParamRow, param_bytes, IsPlainParam};
 ghost use Rattle.image_rows.specs.Places.{lent};
 ghost use Rattle.image_rows.specs.Pushing.{Pushes};
-ghost use Rattle.image_references.specs.References.{size, AreKnown};
+ghost use Rattle.image_tokens.specs.References.{size, AreKnown};
 
 use assembly_tree::Param;
 use il_base::NoMemory;
-use image_references::members::refer_text;
-use image_references::references::References;
-use image_references::tokens::PARAM;
+use image_tokens::members::refer_text;
+use image_tokens::references::References;
+use image_tokens::tokens::PARAM;
 use metadata_tables::{Rows, row_of_columns};
 
 /// Adds the rows of parameters.

@@ -6,10 +6,10 @@ ghost use Rattle.image_rows.specs.Pushing.{Pushes, CanPush};
 
 use assembly_tree::Property;
 use il_base::NoMemory;
-use image_references::members::refer_text;
-use image_references::references::References;
-use image_references::signatures::property_signature;
-use image_references::tokens::PROPERTY;
+use image_tokens::members::refer_text;
+use image_tokens::references::References;
+use image_tokens::signatures::property_signature;
+use image_tokens::tokens::PROPERTY;
 use metadata_tables::{Rows, row_of_columns};
 use std::alloc::Global;
 

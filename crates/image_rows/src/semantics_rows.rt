@@ -5,7 +5,7 @@ ghost use Rattle.image_rows.specs.SemanticsRows.{accessors_with, accessors_in, a
 
 use assembly_tree::{Accessor, Accessors};
 use il_base::{Items, NoMemory};
-use image_references::tokens::{METHOD_SEMANTICS, index_of};
+use image_tokens::tokens::{METHOD_SEMANTICS, index_of};
 use metadata_tables::{Coded, Rows, row_of_columns};
 
 /// The accessors of an event or a property, and the row of the first method of its type.

@@ -1,15 +1,15 @@
 //! Types as coded indexes (ECMA-335 II.24.2.6).
 ghost use Rattle.std.specs.Prelude.{◌+◌, ◌^◌, ◌≤◌, IfOk};
 ghost use Rattle.assembly_tree.specs.Weight.{owner_weight};
-ghost use Rattle.image_references.specs.Members.{Leaves};
-ghost use Rattle.image_references.specs.References.{size, AreKnown};
+ghost use Rattle.image_tokens.specs.Members.{Leaves};
+ghost use Rattle.image_tokens.specs.References.{size, AreKnown};
 ghost use Rattle.image_rows.specs.TypeIndexes.{IsTypeIndex};
-ghost use Rattle.image_references.specs.Writable.{IsOwnerWritable};
+ghost use Rattle.image_tokens.specs.Writable.{IsOwnerWritable};
 
 use il_base::NoMemory;
-use image_references::noting::refer_owner;
-use image_references::references::References;
-use image_references::tokens::index_of_token;
+use image_tokens::noting::refer_owner;
+use image_tokens::references::References;
+use image_tokens::tokens::index_of_token;
 use metadata_tables::Coded;
 use std::alloc::Global;
 use type_terms::Owner;

@@ -6,17 +6,17 @@ use Rattle.std.proofs.lemmas.List.{length-map}
 use Rattle.assembly_tree.specs.Room.{texts}
 use Rattle.assembly_tree.specs.declared.assembly.Assembly.{Assembly}
 use Rattle.heaps.specs.Heap.{Heap}
-use Rattle.image_references.specs.Loaded.{AreLoaded}
-use Rattle.image_references.specs.NameTokens.{AreNames}
-use Rattle.image_references.specs.References.{size, Widens, IsNameRow, IsSpecRow, IsLocalsRow, IsReferredMember, IsInstanceRow, AreKnown}
-use Rattle.image_references.specs.Rows.{EachRow}
-use Rattle.image_references.specs.declared.heap_contents.Heaps.{Heaps}
-use Rattle.image_references.specs.declared.known.Known.{Known}
-use Rattle.image_references.specs.declared.references.Declared.{Declared}
-use Rattle.image_references.specs.declared.references.Referred.{Referred}
-use Rattle.image_references.specs.declared.references.References.{References}
-use Rattle.image_references.specs.declared.row_set.Cells.{Cells}
-use Rattle.image_references.proofs.GrowthLemmas.{grows_refl, widened, widens_trans}
+use Rattle.image_tokens.specs.Loaded.{AreLoaded}
+use Rattle.image_tokens.specs.NameTokens.{AreNames}
+use Rattle.image_tokens.specs.References.{size, Widens, IsNameRow, IsSpecRow, IsLocalsRow, IsReferredMember, IsInstanceRow, AreKnown}
+use Rattle.image_tokens.specs.Rows.{EachRow}
+use Rattle.image_tokens.specs.declared.heap_contents.Heaps.{Heaps}
+use Rattle.image_tokens.specs.declared.known.Known.{Known}
+use Rattle.image_tokens.specs.declared.references.Declared.{Declared}
+use Rattle.image_tokens.specs.declared.references.Referred.{Referred}
+use Rattle.image_tokens.specs.declared.references.References.{References}
+use Rattle.image_tokens.specs.declared.row_set.Cells.{Cells}
+use Rattle.image_tokens.proofs.GrowthLemmas.{grows_refl, widened, widens_trans}
 use Rattle.image_rows.specs.CanFill.{CanFill}
 use Rattle.image_rows.specs.DeclaredMembers.{class_fields, class_methods, fields_bytes, methods_bytes, IsFieldDeclarable, IsMethodDeclarable, AreDeclarable, HasMembers}
 use Rattle.image_rows.specs.Declaring.{Place, class_place, class_size, places, HoldsPlace, AreDeclared, IsDeclaring}

@@ -11,13 +11,13 @@ use Rattle.heaps.specs.Content.{HasBlob, HasUnits}
 use Rattle.heaps.specs.Heap.{Heap}
 use Rattle.metadata_tables.specs.Encoding.{rows_of, rows_in}
 use Rattle.image_layout.specs.Referred.{KeepsOthers}
-use Rattle.image_references.specs.Loaded.{AreLoaded}
-use Rattle.image_references.specs.References.{size, Widens, Grows}
-use Rattle.image_references.specs.Units.{HoldsUnits, KeepsUnits, IsLoadable, bytes_of_units}
-use Rattle.image_references.specs.declared.references.Declared.{Declared}
-use Rattle.image_references.specs.declared.references.References.{References}
-use Rattle.image_references.specs.declared.row_set.Cells.{Cells}
-use Rattle.image_references.proofs.NameLemmas.{all_weaker}
+use Rattle.image_tokens.specs.Loaded.{AreLoaded}
+use Rattle.image_tokens.specs.References.{size, Widens, Grows}
+use Rattle.image_tokens.specs.Units.{HoldsUnits, KeepsUnits, IsLoadable, bytes_of_units}
+use Rattle.image_tokens.specs.declared.references.Declared.{Declared}
+use Rattle.image_tokens.specs.declared.references.References.{References}
+use Rattle.image_tokens.specs.declared.row_set.Cells.{Cells}
+use Rattle.image_tokens.proofs.NameLemmas.{all_weaker}
 use Rattle.image_rows.specs.CanFill.{CanFill}
 use Rattle.image_rows.specs.Classes.{AreClasses}
 use Rattle.image_rows.specs.Declaring.{places, AreDeclared, HoldsPlace}
@@ -29,13 +29,13 @@ use Rattle.image_rows.proofs.DeclaringLemmas.{place_kept}
 use Rattle.image_rows.proofs.ZipLemmas.{zip_later}
 use Rattle.image_writer.specs.Beginning.{begun_bytes, CanDeclare, DeclaresTypes, DeclaresAll}
 use Rattle.image_writer.specs.Contents.{HasNoRows, IsContents}
-use Rattle.image_filling.specs.Filling.{method_part, type_part, property_part, filled_bytes, IsReady, IsFull, Lengthens}
-use Rattle.image_filling.specs.Parts.{LacksFrom}
+use Rattle.image_tables.specs.Filling.{method_part, type_part, property_part, filled_bytes, IsReady, IsFull, Lengthens}
+use Rattle.image_tables.specs.Parts.{LacksFrom}
 use Rattle.image_writer.proofs.BeginLemmas.{begun_bytes_are}
-use Rattle.image_filling.proofs.FillLemmas.{filled_bytes_are}
-use Rattle.image_filling.proofs.MethodPart.{method_part_is}
-use Rattle.image_filling.proofs.PropertyPart.{property_part_is}
-use Rattle.image_filling.proofs.TypePart.{type_part_is}
+use Rattle.image_tables.proofs.FillLemmas.{filled_bytes_are}
+use Rattle.image_tables.proofs.MethodPart.{method_part_is}
+use Rattle.image_tables.proofs.PropertyPart.{property_part_is}
+use Rattle.image_tables.proofs.TypePart.{type_part_is}
 use Rattle.image_writer.proofs.WholeLemmas.{whole_filled, manifest_holds, types_hold, fields_hold, methods_hold, properties_hold, owned_hold}
 use Rattle.image_rows.specs.CodeBytes.{body_of, stated_weight}
 use Rattle.image_rows.specs.Declaring.{class_size}
@@ -46,12 +46,12 @@ use Rattle.image_rows.specs.Lists.{params_in, properties_in, events_in}
 use Rattle.image_rows.specs.ParamRows.{param_bytes}
 use Rattle.image_rows.specs.PropertyRows.{property_bytes}
 use Rattle.image_rows.specs.TypeRows.{base_of, base_weight}
-use Rattle.tree_weights.specs.ImageBytes.{declared_bytes, manifest_bytes, named_bytes, member_bytes, owned_bytes, overrides_weight, heap_bytes, code_bytes, row_bytes}
-use Rattle.tree_weights.specs.Laws.{HasFewRows, WeightIsEnough}
-use Rattle.tree_weights.specs.RowCounts.{HasCounted, HasReferencesCounted}
-use Rattle.tree_weights.proofs.RowCountLemmas.{holds_counted, references_counted}
-use Rattle.writable_trees.specs.Laws.{FormedCanFill}
-use Rattle.writable_trees.specs.Ranges.{IsMethodInRange}
+use Rattle.laws_tree_weights.specs.ImageBytes.{declared_bytes, manifest_bytes, named_bytes, member_bytes, owned_bytes, overrides_weight, heap_bytes, code_bytes, row_bytes}
+use Rattle.laws_tree_weights.specs.Laws.{HasFewRows, WeightIsEnough}
+use Rattle.laws_tree_weights.specs.RowCounts.{HasCounted, HasReferencesCounted}
+use Rattle.laws_tree_weights.proofs.RowCountLemmas.{holds_counted, references_counted}
+use Rattle.laws_writable_trees.specs.Laws.{FormedCanFill}
+use Rattle.laws_writable_trees.specs.Ranges.{IsMethodInRange}
 
 -- ---- texts have indexes
 

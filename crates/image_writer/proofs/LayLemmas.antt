@@ -3,14 +3,14 @@ use Rattle.std.proofs.Common.{inl, inr, ℕ, ◌+◌, ◌*◌, ◌<◌, ◌≤�
 use Rattle.assembly_tree.specs.Weight.{weight_of}
 use Rattle.assembly_tree.specs.declared.assembly.Assembly.{Assembly}
 use Rattle.image_layout.specs.Sizes.{heap_bytes, stream_bytes}
-use Rattle.image_references.specs.declared.references.References.{References}
+use Rattle.image_tokens.specs.declared.references.References.{References}
 use Rattle.image_rows.specs.Pushing.{Tables}
 use Rattle.image_rows.specs.declared.classes.Class.{Class}
 use Rattle.image_writer.specs.Contents.{IsContents}
 use Rattle.image_writer.proofs.RoomLemmas.{fits}
 use Rattle.pe_layout.specs.Numbers.{IsFileAlignment}
-use Rattle.tree_weights.specs.Laws.{WeightIsEnough}
-use Rattle.tree_weights.specs.RowCounts.{FilledIsCounted}
+use Rattle.laws_tree_weights.specs.Laws.{WeightIsEnough}
+use Rattle.laws_tree_weights.specs.RowCounts.{FilledIsCounted}
 
 alignment_most : (n : ℕ) → IsFileAlignment n → n ≤ 0x1000
 alignment_most n (inl e) = omega (arith, e)

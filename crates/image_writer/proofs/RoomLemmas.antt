@@ -5,15 +5,15 @@ use Rattle.assembly_tree.specs.declared.assembly.Assembly.{Assembly}
 use Rattle.metadata_tables.specs.Encoding.{rows_in}
 use Rattle.metadata_tables.specs.Schema.{schema}
 use Rattle.image_layout.specs.Sizes.{heap_bytes, rows_bytes, stream_bytes, widest_row}
-use Rattle.image_references.specs.References.{size}
-use Rattle.image_references.specs.declared.references.References.{References}
+use Rattle.image_tokens.specs.References.{size}
+use Rattle.image_tokens.specs.declared.references.References.{References}
 use Rattle.image_rows.specs.Filled.{IsFilled}
 use Rattle.image_rows.specs.Pushing.{Tables}
 use Rattle.image_rows.specs.declared.classes.Class.{Class}
-use Rattle.tree_weights.specs.ImageBytes as tree
-use Rattle.tree_weights.specs.ImageBytes.{code_bytes, manifest_row_bytes, type_row_bytes, field_row_bytes, method_row_bytes, property_row_bytes, owned_row_bytes, row_bytes}
-use Rattle.tree_weights.specs.Laws.{WeightIsEnough}
-use Rattle.tree_weights.specs.RowCounts.{HasCounted, HasReferencesCounted, FilledIsCounted}
+use Rattle.laws_tree_weights.specs.ImageBytes as tree
+use Rattle.laws_tree_weights.specs.ImageBytes.{code_bytes, manifest_row_bytes, type_row_bytes, field_row_bytes, method_row_bytes, property_row_bytes, owned_row_bytes, row_bytes}
+use Rattle.laws_tree_weights.specs.Laws.{WeightIsEnough}
+use Rattle.laws_tree_weights.specs.RowCounts.{HasCounted, HasReferencesCounted, FilledIsCounted}
 
 -- the widths of the rows of all tables
 rows_sum : (tables : Tables) → rows_bytes tables 0x2D

@@ -7,9 +7,9 @@ use Rattle.assembly_tree.specs.Weight.{weight_of}
 use Rattle.assembly_tree.specs.declared.assembly.Assembly.{Assembly}
 use Rattle.metadata_tables.specs.Encoding.{rows_of, rows_in}
 use Rattle.image_layout.specs.Referred.{LacksReferences, KeepsOthers}
-use Rattle.image_references.specs.References.{size}
-use Rattle.image_references.specs.declared.references.References.{References}
-use Rattle.image_references.proofs.GrowthLemmas.{grows_refl}
+use Rattle.image_tokens.specs.References.{size}
+use Rattle.image_tokens.specs.declared.references.References.{References}
+use Rattle.image_tokens.proofs.GrowthLemmas.{grows_refl}
 use Rattle.image_rows.specs.ClassRows.{class_rows, nested_rows, layout_rows}
 use Rattle.image_rows.specs.Classes.{AreClasses}
 use Rattle.image_rows.specs.DataRows.{all_data}
@@ -21,15 +21,15 @@ use Rattle.image_rows.specs.MapRows.{map_rows, event_count, property_count}
 use Rattle.image_rows.specs.Places.{all_fields}
 use Rattle.image_rows.specs.Pushing.{Tables}
 use Rattle.image_rows.specs.declared.classes.Class.{Class}
-use Rattle.image_filling.specs.Filling.{IsFull}
-use Rattle.image_filling.specs.Parts.{table_parts, part_in, part_of, KeepsPart, LacksFrom}
+use Rattle.image_tables.specs.Filling.{IsFull}
+use Rattle.image_tables.specs.Parts.{table_parts, part_in, part_of, KeepsPart, LacksFrom}
 use Rattle.image_writer.proofs.BeginLemmas.{size_is}
-use Rattle.image_filling.proofs.HoldsLemmas.{manifest_later, types_later, fields_later, methods_later, properties_later, owned_later}
-use Rattle.image_filling.proofs.PartLemmas.{none_at}
+use Rattle.image_tables.proofs.HoldsLemmas.{manifest_later, types_later, fields_later, methods_later, properties_later, owned_later}
+use Rattle.image_tables.proofs.PartLemmas.{none_at}
 use Rattle.std.proofs.lemmas.List.{append-nil}
-use Rattle.tree_weights.specs.ImageBytes.{heap_bytes, code_bytes, row_bytes, type_row_bytes, field_row_bytes}
-use Rattle.tree_weights.specs.Laws.{HasFewRows}
-use Rattle.tree_weights.specs.RowCounts.{HasCounted, HasReferencesCounted}
+use Rattle.laws_tree_weights.specs.ImageBytes.{heap_bytes, code_bytes, row_bytes, type_row_bytes, field_row_bytes}
+use Rattle.laws_tree_weights.specs.Laws.{HasFewRows}
+use Rattle.laws_tree_weights.specs.RowCounts.{HasCounted, HasReferencesCounted}
 
 -- ---- tables one by one
 

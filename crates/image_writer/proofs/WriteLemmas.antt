@@ -5,7 +5,7 @@ use Rattle.assembly_tree.specs.Room.{texts, room_of_texts, room}
 use Rattle.assembly_tree.specs.Weight.{weight_of}
 use Rattle.assembly_tree.specs.declared.assembly.Assembly.{Assembly}
 use Rattle.heaps.specs.Heap.{Heap}
-use Rattle.image_references.specs.Loaded.{AreLoaded}
+use Rattle.image_tokens.specs.Loaded.{AreLoaded}
 use Rattle.image_writer.specs.Refused.{HasFullStrings}
 
 room_is_that : (a : Assembly) → room a ≡ room_of_texts (texts a)

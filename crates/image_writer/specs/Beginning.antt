@@ -3,15 +3,15 @@ use Rattle.std.specs.Prelude.{◌≡◌, ℕ, ◌+◌, ◌^◌, ◌≤◌, List,
 use Rattle.assembly_tree.specs.Room.{texts, room_of_texts}
 use Rattle.assembly_tree.specs.declared.assembly.Assembly.{Assembly}
 use Rattle.heaps.specs.Heap.{Heap}
-use Rattle.image_references.specs.Loaded.{AreLoaded}
-use Rattle.image_references.specs.References.{size, Widens, AreKnown}
-use Rattle.image_references.specs.declared.references.References.{References}
+use Rattle.image_tokens.specs.Loaded.{AreLoaded}
+use Rattle.image_tokens.specs.References.{size, Widens, AreKnown}
+use Rattle.image_tokens.specs.declared.references.References.{References}
 use Rattle.image_rows.specs.CanFill.{CanFill}
 use Rattle.image_rows.specs.DeclaredMembers.{fields_bytes, methods_bytes}
 use Rattle.image_rows.specs.Declaring.{places, class_size, AreDeclared}
 use Rattle.image_rows.specs.Filled.{HasDeclared}
 use Rattle.image_rows.specs.declared.classes.Class.{Class}
-use Rattle.image_filling.specs.Filling.{CanStillFill}
+use Rattle.image_tables.specs.Filling.{CanStillFill}
 
 -- how many bytes come into the heaps of texts and blobs at most: their empty entries, the names of types, and names and
 -- signatures of fields and methods

@@ -1,13 +1,13 @@
 -- What an image is made of before it is laid out (ECMA-335 II.22, II.24.2, II.25.4).
 use Rattle.std.specs.Prelude.{◌≡◌, ℕ, ◌+◌, ◌≤◌, List, [], length}
 use Rattle.assembly_tree.specs.declared.assembly.Assembly.{Assembly}
-use Rattle.image_references.specs.References.{size}
-use Rattle.image_references.specs.declared.references.References.{References}
+use Rattle.image_tokens.specs.References.{size}
+use Rattle.image_tokens.specs.declared.references.References.{References}
 use Rattle.image_rows.specs.Filled.{IsFilled}
 use Rattle.image_rows.specs.Pushing.{Tables}
 use Rattle.image_rows.specs.declared.classes.Class.{Class}
 use Rattle.metadata_tables.specs.Encoding.{rows_of}
-use Rattle.tree_weights.specs.ImageBytes.{heap_bytes, code_bytes}
+use Rattle.laws_tree_weights.specs.ImageBytes.{heap_bytes, code_bytes}
 
 -- no table has rows
 abbrev pub HasNoRows : Tables → Type 0

@@ -11,18 +11,18 @@ ghost use Rattle.image_writer.specs.Beginning.{DeclaresTypes, HasBegun, Declares
 use assembly_tree::Assembly;
 use heaps::{BlobHeap, StringHeap, UserHeap};
 use il_base::NoMemory;
-use image_references::heap_contents::Heaps;
-use image_references::known::Known;
-use image_references::references::{Declared, References, Referred};
-use image_references::row_list::RowList;
 use image_rows::classes::Class;
 use image_rows::declared_members::declare_members;
 use image_rows::declaring::declare_types;
 use image_rows::order::Ordered;
+use image_tokens::heap_contents::Heaps;
+use image_tokens::known::Known;
+use image_tokens::references::{Declared, References, Referred};
+use image_tokens::row_list::RowList;
+use laws_tree_weights::laws::{rows_are_few, weight_is_enough};
+use laws_writable_trees::laws::formed_can_fill;
+use laws_writable_trees::ranges::methods_in_range;
 use std::alloc::Global;
-use tree_weights::laws::{rows_are_few, weight_is_enough};
-use writable_trees::laws::formed_can_fill;
-use writable_trees::ranges::methods_in_range;
 
 /// What is declared, with the rows of types alone; `externs` assemblies are named, and the texts that are loaded stand
 /// in the heap of user strings.

@@ -1,7 +1,7 @@
 //! All that an image is made of before it is laid out (ECMA-335 II.22, II.24.2, II.25.4).
 ghost use Rattle.std.specs.Prelude.{◌≡◌, ◌^◌, ◌≤◌, [], OnOk};
 ghost use Rattle.assembly_tree.specs.Weight.{weight_of};
-ghost use Rattle.image_filling.specs.OwnedPart.{IsNothing};
+ghost use Rattle.image_tables.specs.OwnedPart.{IsNothing};
 ghost use Rattle.image_rows.specs.Classes.{AreClasses};
 ghost use Rattle.image_rows.specs.Ordered.{IsOrdered};
 ghost use Rattle.image_writer.specs.Beginning.{DeclaresAll};
@@ -9,15 +9,15 @@ ghost use Rattle.image_writer.specs.Contents.{HasNoRows, IsContents};
 
 use assembly_tree::Assembly;
 use il_base::{Bytes, NoMemory};
-use image_filling::filling::fill;
-use image_filling::owned_part::Nothing;
 use image_layout::push_references;
-use image_references::references::References;
 use image_rows::classes::Class;
 use image_rows::order::Ordered;
+use image_tables::filling::fill;
+use image_tables::owned_part::Nothing;
+use image_tokens::references::References;
+use laws_tree_weights::laws::{rows_are_few, weight_is_enough};
 use metadata_tables::Rows;
 use std::alloc::Global;
-use tree_weights::laws::{rows_are_few, weight_is_enough};
 
 /// Adds all rows and the code, where there are none: what an image of the assembly, whose types are `classes`, is made of.
 pub(crate) fn fill_all<'a>(

@@ -3,11 +3,11 @@ ghost use Rattle.std.specs.Prelude.{◌≡◌, ◌^◌, ◌≤◌, true, length,
 ghost use Rattle.assembly_tree.specs.Room.{texts};
 ghost use Rattle.assembly_tree.specs.Weight.{weight_of};
 ghost use Rattle.assembly_tree.specs.WellFormed.{is_well_formed};
-ghost use Rattle.image_filling.specs.OwnedPart.{IsNothing};
+ghost use Rattle.image_tables.specs.OwnedPart.{IsNothing};
 ghost use Rattle.image_model.specs.Faults.{Reads};
 ghost use Rattle.image_model.specs.Tidy.{IsTidy};
-ghost use Rattle.image_reads.specs.parts.Ranges.{AreInRange};
-ghost use Rattle.image_references.specs.Loaded.{AreLoaded};
+ghost use Rattle.laws_image_reading.specs.parts.Ranges.{AreInRange};
+ghost use Rattle.image_tokens.specs.Loaded.{AreLoaded};
 ghost use Rattle.image_rows.specs.Classes.{AreClasses};
 ghost use Rattle.image_rows.specs.Filled.{entry_token};
 ghost use Rattle.image_rows.specs.Ordered.{IsOrdered};
@@ -19,19 +19,19 @@ use crate::laying_out::lay_out_filled;
 use assembly_tree::Assembly;
 use heaps::UserHeap;
 use il_base::{Bytes, NoMemory};
-use image_filling::owned_part::Nothing;
-use image_reads::ranges::{
-    fields_in_range, params_in_range, properties_in_range, versions_in_range,
-};
-use image_references::references::References;
 use image_rows::classes::{Class, classes_of};
 use image_rows::entry::entry_of;
 use image_rows::order::{Ordered, in_order};
+use image_tables::owned_part::Nothing;
+use image_tokens::references::References;
+use laws_image_reading::ranges::{
+    fields_in_range, params_in_range, properties_in_range, versions_in_range,
+};
+use laws_tree_weights::laws::{rows_are_few, weight_is_enough};
+use laws_writable_trees::laws::types_are_declarable;
 use metadata_tables::Rows;
 use pe_layout::Kind;
 use std::alloc::Global;
-use tree_weights::laws::{rows_are_few, weight_is_enough};
-use writable_trees::laws::types_are_declarable;
 
 /// The image of an assembly whose loaded texts stand in the heap.
 pub(crate) fn write_loaded<'a>(

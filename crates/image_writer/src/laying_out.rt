@@ -4,23 +4,23 @@ ghost use Rattle.assembly_tree.specs.Weight.{weight_of};
 ghost use Rattle.assembly_tree.specs.WellFormed.{is_well_formed};
 ghost use Rattle.image_model.specs.Faults.{Reads};
 ghost use Rattle.image_model.specs.Tidy.{IsTidy};
-ghost use Rattle.image_reads.specs.parts.Ranges.{AreInRange};
+ghost use Rattle.laws_image_reading.specs.parts.Ranges.{AreInRange};
 ghost use Rattle.image_rows.specs.Filled.{entry_token};
 ghost use Rattle.image_writer.specs.Contents.{IsContents};
 
 use assembly_tree::{Assembly, conditions_are_named};
 use il_base::{Bytes, NoMemory};
-use image_facts::{images_are_tidy, references_are_distinct, references_are_tidy};
-use image_indexes::indexes_are_there;
 use image_layout::lay_out;
-use image_reads::images_are_read;
-use image_references::references::References;
 use image_rows::classes::Class;
+use image_tokens::references::References;
+use laws_image_indexes::indexes_are_there;
+use laws_image_parts::{images_are_tidy, references_are_distinct, references_are_tidy};
+use laws_image_reading::images_are_read;
+use laws_tree_weights::laws::{filled_is_counted, weight_is_enough};
+use laws_writable_trees::laws::accessors_have_rows;
 use metadata_tables::Rows;
 use pe_layout::Kind;
 use std::alloc::Global;
-use tree_weights::laws::{filled_is_counted, weight_is_enough};
-use writable_trees::laws::accessors_have_rows;
 
 /// The image of an assembly, whose types are `_classes`, from what it is made of; `entry` is the token of its entry point, or 0.
 pub(crate) fn lay_out_filled<'a>(

@@ -12,8 +12,8 @@ use crate::fault::WriteFault;
 use crate::finishing::write_loaded;
 use assembly_tree::{Assembly, Attributes, Generics, weigh};
 use il_base::Bytes;
-use image_filling::owned_part::Nothing;
 use image_rows::loading::load_texts;
+use image_tables::owned_part::Nothing;
 use pe_layout::Kind;
 use std::alloc::Global;
 

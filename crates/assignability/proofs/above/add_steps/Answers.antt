@@ -1,5 +1,5 @@
-use Rattle.type_world.specs.Tables.{hierarchy_in}
-use Rattle.type_world.proofs.KeptLemmas.{knows_more}
+use Rattle.type_hierarchy.specs.Tables.{hierarchy_in}
+use Rattle.type_hierarchy.proofs.KeptLemmas.{knows_more}
 use Rattle.assignability.proofs.WalkLemmas.{adds_steps_grown}
 use Rattle.assignability.proofs.above.add_steps.Goals as goal
 

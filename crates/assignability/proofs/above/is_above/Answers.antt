@@ -1,6 +1,6 @@
 use Rattle.std.proofs.Common.{length}
 use Rattle.sig_pool.specs.Terms.{term_of}
-use Rattle.type_world.specs.Tables.{hierarchy_in}
+use Rattle.type_hierarchy.specs.Tables.{hierarchy_in}
 use Rattle.assignability.proofs.WalkLemmas.{one_within, from_one, if_ok_same}
 use Rattle.assignability.proofs.above.is_above.Goals as goal
 

@@ -1,6 +1,6 @@
 use Rattle.std.proofs.Common.{sym, ◌∙◌}
 use Rattle.sig_pool.specs.Terms.{term_of}
-use Rattle.type_world.specs.Tables.{hierarchy_in}
+use Rattle.type_hierarchy.specs.Tables.{hierarchy_in}
 use Rattle.assignability.proofs.WalkLemmas.{walk_begins, walk_more, walk_found, walk_ends, true_when, false_when, false_apart, past, within_one, at_place}
 use Rattle.assignability.proofs.above.is_above_some.Goals as goal
 

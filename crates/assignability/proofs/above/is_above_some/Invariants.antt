@@ -1,6 +1,6 @@
 use Rattle.sig_pool.specs.Terms.{term_of}
-use Rattle.type_world.specs.Tables.{hierarchy_in}
-use Rattle.type_world.specs.World.{KnowsParents}
+use Rattle.type_hierarchy.specs.Tables.{hierarchy_in}
+use Rattle.type_hierarchy.specs.World.{KnowsParents}
 use Rattle.assignability.proofs.WalkLemmas.{Walk}
 use Rattle.assignability.proofs.above.is_above_some.Given as goal
 

@@ -1,6 +1,6 @@
 use Rattle.std.proofs.Common.{sym}
 use Rattle.sig_pool.specs.Terms.{term_of}
-use Rattle.type_world.proofs.NodeLemmas.{elements_are}
+use Rattle.type_hierarchy.proofs.NodeLemmas.{elements_are}
 use Rattle.assignability.proofs.arrays.element_of_id.Goals as goal
 
 pub returns-in-SzArray-clause-is : goal.returns-in-SzArray-clause-is

@@ -1,7 +1,7 @@
 use Rattle.sig_pool.specs.Terms.{term_of}
-use Rattle.type_world.specs.Tables.{hierarchy_in}
+use Rattle.type_hierarchy.specs.Tables.{hierarchy_in}
 use Rattle.assignability.proofs.CommonLemmas.{climb_more, climb_done}
-use Rattle.type_world.proofs.GrowLemmas.{extends_trans, ids_more}
+use Rattle.type_hierarchy.proofs.GrowLemmas.{extends_trans, ids_more}
 use Rattle.assignability.proofs.common.climb_ids.Goals as goal
 
 pub returns-in-None-clause-ok : goal.returns-in-None-clause-ok

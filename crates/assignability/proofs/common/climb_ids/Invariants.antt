@@ -2,8 +2,8 @@ use Rattle.std.proofs.Common.{◌<◌, length}
 use Rattle.sig_pool.specs.Pool.{Extends}
 use Rattle.sig_pool.specs.Terms.{AllBelow, term_of}
 use Rattle.assignability.specs.Common.{Completes}
-use Rattle.type_world.specs.Tables.{hierarchy_in}
-use Rattle.type_world.specs.World.{KnowsParents}
+use Rattle.type_hierarchy.specs.Tables.{hierarchy_in}
+use Rattle.type_hierarchy.specs.World.{KnowsParents}
 use Rattle.assignability.proofs.common.climb_ids.Given as goal
 
 abbrev pub invariant-climb : goal.invariant-climb

@@ -2,7 +2,7 @@ use Rattle.std.proofs.Common.{arith, subst, ◌-◌, ◌<◌, length}
 use Rattle.type_terms.specs.declared.term.SigType.{SigType}
 use Rattle.sig_pool.specs.Terms.{term_of}
 use Rattle.assignability.specs.Common.{IsClimbOf}
-use Rattle.type_world.specs.Tables.{hierarchy_in}
+use Rattle.type_hierarchy.specs.Tables.{hierarchy_in}
 use Rattle.assignability.proofs.CommonLemmas.{has_nearest, climb_extends, same_ends, climb_ids_some}
 use Rattle.assignability.proofs.common.common_id.Goals as goal
 

@@ -4,7 +4,7 @@ use Rattle.type_terms.specs.declared.name.Scope.TheVariants.{Here}
 use Rattle.type_terms.specs.declared.name.TypeId.{TypeId}
 use Rattle.assembly_tree.specs.declared.typedef.TypeDef.{TypeDef}
 use Rattle.assembly_tree.specs.DataSize.{named}
-use Rattle.type_world.specs.Names.{full_name}
+use Rattle.type_hierarchy.specs.Names.{full_name}
 use Rattle.assignability.proofs.FieldLemmas.{none_here}
 use Rattle.assignability.proofs.fields.type_here.Goals as goal
 

@@ -1,11 +1,11 @@
 use Rattle.std.proofs.Common.{sym, ◌∙◌, subst, IfOk, IsTrue, ◌↔◌}
 use Rattle.type_terms.specs.declared.term.SigType.{SigType}
 use Rattle.sig_pool.specs.Terms.{term_of}
-use Rattle.type_world.specs.Relations.{Assignable, boxed_object}
-use Rattle.type_world.specs.Stack.{boxed, ref}
-use Rattle.type_world.specs.Tables.{hierarchy_in}
+use Rattle.type_hierarchy.specs.Relations.{Assignable, boxed_object}
+use Rattle.type_hierarchy.specs.Stack.{boxed, ref}
+use Rattle.type_hierarchy.specs.Tables.{hierarchy_in}
 use Rattle.assignability.proofs.FitLemmas.{boxed_refers}
-use Rattle.type_world.proofs.GrowLemmas.{extends_trans}
+use Rattle.type_hierarchy.proofs.GrowLemmas.{extends_trans}
 use Rattle.assignability.proofs.WalkLemmas.{true_when, false_apart, if_ok_same}
 use Rattle.assignability.proofs.fits.boxed_fits.Goals as goal
 

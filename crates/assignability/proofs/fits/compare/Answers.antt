@@ -1,5 +1,5 @@
 use Rattle.sig_pool.specs.Terms.{term_of}
-use Rattle.type_world.specs.Tables.{hierarchy_in}
+use Rattle.type_hierarchy.specs.Tables.{hierarchy_in}
 use Rattle.assignability.proofs.FitLemmas.{plain_refers}
 use Rattle.assignability.proofs.fits.compare.Goals as goal
 

@@ -1,6 +1,6 @@
-use Rattle.type_world.specs.Tables.{hierarchy_in}
+use Rattle.type_hierarchy.specs.Tables.{hierarchy_in}
 use Rattle.assignability.proofs.FitLemmas.{reduced_refers, up_refers, up_kept, as_elements, no_elements}
-use Rattle.type_world.proofs.KeptLemmas.{knows_more}
+use Rattle.type_hierarchy.proofs.KeptLemmas.{knows_more}
 use Rattle.assignability.proofs.WalkLemmas.{true_when, false_when, false_apart}
 use Rattle.assignability.proofs.fits.compare_arrays.Goals as goal
 

@@ -1,4 +1,4 @@
-use Rattle.type_world.specs.Relations.{null_ref}
+use Rattle.type_hierarchy.specs.Relations.{null_ref}
 use Rattle.assignability.proofs.WalkLemmas.{true_when}
 use Rattle.assignability.proofs.fits.fits_reference.Goals as goal
 

@@ -1,4 +1,4 @@
-use Rattle.type_world.specs.Tables.{hierarchy_in}
+use Rattle.type_hierarchy.specs.Tables.{hierarchy_in}
 use Rattle.assignability.proofs.FitIds.{equal_ids, null_fits}
 use Rattle.assignability.proofs.WalkLemmas.{false_apart}
 use Rattle.assignability.proofs.fits.is_assignable.Goals as goal

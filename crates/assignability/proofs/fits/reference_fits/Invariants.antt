@@ -1,8 +1,8 @@
 use Rattle.std.proofs.Common.{◌↔◌, ◌<◌, length}
 use Rattle.sig_pool.specs.Pool.{Extends}
 use Rattle.assignability.specs.Answers.{RefersTo}
-use Rattle.type_world.specs.Tables.{hierarchy_in}
-use Rattle.type_world.specs.World.{KnowsParents}
+use Rattle.type_hierarchy.specs.Tables.{hierarchy_in}
+use Rattle.type_hierarchy.specs.World.{KnowsParents}
 use Rattle.assignability.proofs.fits.reference_fits.Given as goal
 
 -- the two that are compared fit as those at the beginning

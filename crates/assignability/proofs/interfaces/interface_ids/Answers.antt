@@ -1,8 +1,8 @@
 use Rattle.std.proofs.Common.{sym, ◌∙◌, ap, rules}
-use Rattle.type_world.specs.Hierarchy.{declared_interfaces}
-use Rattle.type_world.specs.Tables.{hierarchy_in}
-use Rattle.type_world.proofs.GrowLemmas.{none_yet, put_in_none}
-use Rattle.type_world.proofs.NodeLemmas.{interfaces_are, known_declaration, prim_declaration, instance_interfaces}
+use Rattle.type_hierarchy.specs.Hierarchy.{declared_interfaces}
+use Rattle.type_hierarchy.specs.Tables.{hierarchy_in}
+use Rattle.type_hierarchy.proofs.GrowLemmas.{none_yet, put_in_none}
+use Rattle.type_hierarchy.proofs.NodeLemmas.{interfaces_are, known_declaration, prim_declaration, instance_interfaces}
 use Rattle.assignability.proofs.interfaces.interface_ids.Goals as goal
 
 pub returns-in-SzArray-clause-ok : goal.returns-in-SzArray-clause-ok

@@ -1,5 +1,5 @@
 use Rattle.std.proofs.Common.{refl}
-use Rattle.type_world.proofs.GrowLemmas.{put_in_is}
+use Rattle.type_hierarchy.proofs.GrowLemmas.{put_in_is}
 use Rattle.assignability.proofs.interfaces.put_in.Goals as goal
 
 pub returns-in-Some-clause-ok : goal.returns-in-Some-clause-ok

@@ -1,7 +1,7 @@
 use Rattle.std.specs.Option.{option_copied, option_map}
 use Rattle.sig_pool.specs.Replaced.{terms_at}
-use Rattle.type_world.specs.Pooled.{put_in}
-use Rattle.type_world.proofs.GrowLemmas.{args_kept, more_mapped, extends_trans}
+use Rattle.type_hierarchy.specs.Pooled.{put_in}
+use Rattle.type_hierarchy.proofs.GrowLemmas.{args_kept, more_mapped, extends_trans}
 use Rattle.assignability.proofs.interfaces.put_in_all.Goals as goal
 
 pub loop-t-preserved : goal.loop-t-preserved

@@ -2,7 +2,7 @@ use Rattle.std.proofs.Common.{map, take}
 use Rattle.std.specs.Option.{option_copied, option_map}
 use Rattle.sig_pool.specs.Pool.{Extends, HasAll}
 use Rattle.sig_pool.specs.Replaced.{terms_at}
-use Rattle.type_world.specs.Pooled.{put_in}
+use Rattle.type_hierarchy.specs.Pooled.{put_in}
 use Rattle.assignability.proofs.interfaces.put_in_all.Given as goal
 
 abbrev pub invariant-loop-t : goal.invariant-loop-t

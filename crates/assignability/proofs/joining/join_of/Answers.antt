@@ -1,7 +1,7 @@
 use Rattle.std.proofs.Common.{◌≡◌, ◌∙◌, sym, ap, inl, inr, None}
-use Rattle.type_world.specs.Meaning.{meant}
+use Rattle.type_hierarchy.specs.Meaning.{meant}
 use Rattle.assignability.specs.Starts.{start}
-use Rattle.type_world.specs.Tables.{hierarchy_in}
+use Rattle.type_hierarchy.specs.Tables.{hierarchy_in}
 use Rattle.assignability.proofs.JoinIds.{joins_equal, joins_null, joins_bad, joins_starts, meant_kept}
 use Rattle.assignability.proofs.WalkLemmas.{false_apart}
 use Rattle.assignability.proofs.joining.join_of.Goals as goal

@@ -1,6 +1,6 @@
 use Rattle.std.proofs.Common.{sym, ◌∙◌, ap}
 use Rattle.sig_pool.specs.Terms.{term_of}
-use Rattle.type_world.specs.Stack.{counts_as, or_else, primitive}
+use Rattle.type_hierarchy.specs.Stack.{counts_as, or_else, primitive}
 use Rattle.assignability.proofs.stack.counts_as.Goals as goal
 
 pub returns-in-Some : goal.returns-in-Some

@@ -2,7 +2,7 @@ use Rattle.std.proofs.Common.{◌≡◌, sym, ◌∙◌, ap, Some, rules}
 use denote.Enum.Bare.{same_true}
 use Rattle.type_terms.specs.contracts.term.Primitive.{the_type}
 use Rattle.type_terms.specs.declared.term.Primitive.TheVariants as prim
-use Rattle.type_world.proofs.Climbing.{none_some}
+use Rattle.type_hierarchy.proofs.Climbing.{none_some}
 use Rattle.assignability.proofs.FitLemmas.{object_is, object_primitive}
 use Rattle.assignability.proofs.stack.is_object.Goals as goal
 

@@ -1,5 +1,5 @@
 use Rattle.std.proofs.Common.{sym}
-use Rattle.type_world.proofs.NodeLemmas.{primitive_is}
+use Rattle.type_hierarchy.proofs.NodeLemmas.{primitive_is}
 use Rattle.assignability.proofs.stack.primitive.Goals as goal
 
 pub returns-in-Class : goal.returns-in-Class

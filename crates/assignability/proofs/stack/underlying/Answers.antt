@@ -1,7 +1,7 @@
 use Rattle.std.proofs.Common.{sym, ◌∙◌, ap}
-use Rattle.type_world.specs.Hierarchy.{declared_underlying, instance_underlying}
-use Rattle.type_world.specs.Tables.{hierarchy_in}
-use Rattle.type_world.proofs.NodeLemmas.{underlying_is, known_declaration}
+use Rattle.type_hierarchy.specs.Hierarchy.{declared_underlying, instance_underlying}
+use Rattle.type_hierarchy.specs.Tables.{hierarchy_in}
+use Rattle.type_hierarchy.proofs.NodeLemmas.{underlying_is, known_declaration}
 use Rattle.assignability.proofs.stack.underlying.Goals as goal
 
 pub returns-in-Prim : goal.returns-in-Prim

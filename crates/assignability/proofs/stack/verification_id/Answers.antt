@@ -1,8 +1,8 @@
 use Rattle.std.proofs.Common.{sym, ◌∙◌, ap}
-use Rattle.type_world.specs.Tables.{hierarchy_in}
+use Rattle.type_hierarchy.specs.Tables.{hierarchy_in}
 use Rattle.type_terms.specs.declared.term.SigType.TheVariants as type
 use Rattle.sig_pool.specs.Terms.{term_of}
-use Rattle.type_world.proofs.NodeLemmas.{verification_is}
+use Rattle.type_hierarchy.proofs.NodeLemmas.{verification_is}
 use Rattle.assignability.proofs.stack.verification_id.Goals as goal
 
 pub returns-in-Some-clause-ok : goal.returns-in-Some-clause-ok

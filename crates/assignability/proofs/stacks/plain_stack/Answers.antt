@@ -1,6 +1,6 @@
 use Rattle.std.proofs.Common.{◌∙◌, refl}
-use Rattle.type_world.specs.Tables.{hierarchy_in}
-use Rattle.type_world.proofs.NodeLemmas.{plain_is, pointed, means_instance}
+use Rattle.type_hierarchy.specs.Tables.{hierarchy_in}
+use Rattle.type_hierarchy.proofs.NodeLemmas.{plain_is, pointed, means_instance}
 use Rattle.assignability.proofs.stacks.plain_stack.Goals as goal
 
 pub returns-in-Prim-clause-ok : goal.returns-in-Prim-clause-ok

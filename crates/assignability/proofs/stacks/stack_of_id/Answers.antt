@@ -1,7 +1,7 @@
 use Rattle.std.proofs.Common.{sym, ◌∙◌}
 use Rattle.sig_pool.specs.Terms.{term_of}
-use Rattle.type_world.specs.Tables.{hierarchy_in}
-use Rattle.type_world.proofs.NodeLemmas.{stack_is}
+use Rattle.type_hierarchy.specs.Tables.{hierarchy_in}
+use Rattle.type_hierarchy.proofs.NodeLemmas.{stack_is}
 use Rattle.assignability.proofs.stacks.stack_of_id.Goals as goal
 
 pub returns-in-Some-clause-ok : goal.returns-in-Some-clause-ok

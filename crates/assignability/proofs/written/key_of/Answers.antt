@@ -1,4 +1,4 @@
-use Rattle.type_world.proofs.KeptLemmas.{ready_more}
+use Rattle.type_hierarchy.proofs.KeptLemmas.{ready_more}
 use Rattle.assignability.proofs.written.key_of.Goals as goal
 
 pub invariant_of-w : goal.invariant_of-w

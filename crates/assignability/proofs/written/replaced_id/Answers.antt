@@ -4,9 +4,9 @@ use Rattle.sig_pool.specs.Pool.{Has}
 use Rattle.sig_pool.specs.Replaced.{replaced, terms_at}
 use Rattle.sig_pool.specs.Terms.{term_of}
 use Rattle.assignability.specs.Keys.{reading_of}
-use Rattle.type_world.specs.Normal.{normal}
-use Rattle.type_world.specs.Tables.{hierarchy_in}
-use Rattle.type_world.proofs.GrowLemmas.{kept_ids}
+use Rattle.type_hierarchy.specs.Normal.{normal}
+use Rattle.type_hierarchy.specs.Tables.{hierarchy_in}
+use Rattle.type_hierarchy.proofs.GrowLemmas.{kept_ids}
 use Rattle.assignability.proofs.written.replaced_id.Goals as goal
 
 pub returns-clause-ok : goal.returns-clause-ok

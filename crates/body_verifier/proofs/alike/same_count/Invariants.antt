@@ -1,6 +1,6 @@
 use Rattle.std.proofs.Common.{◌≡◌, ℕ, ◌<◌, get_or}
-use Rattle.type_world.specs.declared.stack_type.StackType.TheVariants.{Bad}
-use Rattle.type_world.specs.Meaning.{meant}
+use Rattle.type_hierarchy.specs.declared.stack_type.StackType.TheVariants.{Bad}
+use Rattle.type_hierarchy.specs.Meaning.{meant}
 use Rattle.body_verifier.proofs.alike.same_count.Given as goal
 
 abbrev pub invariant-loop-k : goal.invariant-loop-k

@@ -2,9 +2,9 @@ use Rattle.std.proofs.Common.{arith}
 use Rattle.std.proofs.lemmas.List.{length-map}
 use Rattle.std.proofs.lemmas.Option.{slice_get_within}
 use Rattle.body_verifier.specs.Asking.{IsUnassignableAt}
-use Rattle.stack_rows.specs.RowMeanings.{demand_meant}
+use Rattle.stack_effects.specs.RowMeanings.{demand_meant}
 use Rattle.body_verifier.proofs.Asks.{found, none_more}
-use Rattle.stack_rows.proofs.Growing.{stays_on}
+use Rattle.stack_effects.proofs.Growing.{stays_on}
 use Rattle.body_verifier.proofs.asking.has_unassignable.Goals as goal
 
 pub returns-then-fails-clause-ok : goal.returns-then-fails-clause-ok

@@ -1,7 +1,7 @@
 use Rattle.std.proofs.Common.{ℕ, ◌<◌}
-use Rattle.type_world.specs.World.{hierarchy, Stays}
+use Rattle.type_hierarchy.specs.World.{hierarchy, Stays}
 use Rattle.body_verifier.specs.Asking.{IsWrongAt}
-use Rattle.stack_rows.specs.RowMeanings.{row_meant, stack_meant}
+use Rattle.stack_effects.specs.RowMeanings.{row_meant, stack_meant}
 use Rattle.body_verifier.proofs.asking.has_wrong_operand.Given as goal
 
 abbrev pub invariant-loop-k : goal.invariant-loop-k

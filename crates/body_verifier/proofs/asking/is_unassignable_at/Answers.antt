@@ -1,5 +1,5 @@
 use Rattle.std.proofs.Common.{length}
-use Rattle.type_world.specs.World.{hierarchy}
+use Rattle.type_hierarchy.specs.World.{hierarchy}
 use Rattle.body_verifier.proofs.Asks.{counted, unassignable_at}
 use Rattle.body_verifier.proofs.asking.is_unassignable_at.Goals as goal
 

@@ -1,5 +1,5 @@
 use Rattle.std.proofs.Common.{length, Some, None}
-use Rattle.type_world.specs.World.{hierarchy}
+use Rattle.type_hierarchy.specs.World.{hierarchy}
 use Rattle.body_verifier.proofs.Asks.{counted, referent_at, within_pool, unstored_some, unstored_none}
 use Rattle.body_verifier.proofs.asking.is_unstored.Goals as goal
 

@@ -4,7 +4,7 @@ use Rattle.body_verifier.specs.Checking.{broken_at}
 use Rattle.body_verifier.specs.Reports.{Lists}
 use Rattle.body_verifier.specs.StateMeanings.{typing_of}
 use Rattle.body_verifier.proofs.Checked.{known_on, row_still, state_still, judged_at, one_judged, all_judged}
-use Rattle.stack_rows.proofs.Growing.{stays_on}
+use Rattle.stack_effects.proofs.Growing.{stays_on}
 use Rattle.body_verifier.proofs.checking.broken_by.Goals as goal
 
 pub verdict-requires-clause-known : goal.verdict-requires-clause-known

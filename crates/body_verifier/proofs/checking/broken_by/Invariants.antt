@@ -1,5 +1,5 @@
 use Rattle.std.proofs.Common.{◌≡◌, ◌+◌, ◌++◌, List}
-use Rattle.type_world.specs.World.{hierarchy, Stays}
+use Rattle.type_hierarchy.specs.World.{hierarchy, Stays}
 use Rattle.body_verifier.specs.declared.report.Broken.{Broken}
 use Rattle.body_verifier.specs.Checking.{IsFrameOf}
 use Rattle.code_flow.specs.Frames.{Frame}

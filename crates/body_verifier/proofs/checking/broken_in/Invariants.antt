@@ -1,4 +1,4 @@
-use Rattle.type_world.specs.World.{hierarchy}
+use Rattle.type_hierarchy.specs.World.{hierarchy}
 use Rattle.body_verifier.specs.Checking.{setup}
 use Rattle.code_flow.specs.Frames.{frame}
 use Rattle.body_verifier.proofs.checking.broken_in.Given as goal

@@ -2,7 +2,7 @@ use Rattle.std.proofs.Common.{◌≡◌, ◌∙◌, sym, ap, ◌+◌, ◌≤◌,
 use Rattle.std.proofs.lemmas.Result.{IfOk-weaker}
 use Rattle.std.specs.List.{sum_by}
 use Rattle.assembly_tree.specs.WellFormedBodies.{size_of}
-use Rattle.type_world.specs.World.{hierarchy}
+use Rattle.type_hierarchy.specs.World.{hierarchy}
 use Rattle.body_verifier.specs.declared.report.Broken.{Broken}
 use Rattle.body_verifier.specs.declared.report.Failure.{Failure}
 use Rattle.body_verifier.specs.Reports.{Reports, reported}

@@ -2,7 +2,7 @@ use Rattle.std.proofs.Common.{◌≡◌, ◌∙◌, sym, ap, subst, ℕ, ◌+◌
 use Rattle.std.specs.Prelude.{IfOk}
 use Rattle.std.proofs.lemmas.Result.{IfOk-weaker}
 use Rattle.assembly_tree.specs.declared.body.Body.{Body}
-use Rattle.type_world.specs.World.{hierarchy}
+use Rattle.type_hierarchy.specs.World.{hierarchy}
 use Rattle.body_verifier.specs.declared.report.Failure.{Failure}
 use Rattle.body_verifier.specs.Checking.{HasBody}
 use Rattle.code_flow.specs.Frames.{frame}

@@ -1,4 +1,4 @@
-use Rattle.stack_rows.proofs.Growing.{stays_on}
+use Rattle.stack_effects.proofs.Growing.{stays_on}
 use Rattle.body_verifier.proofs.Pushing.{pushed_one}
 use Rattle.body_verifier.proofs.effect.push_all.Goals as goal
 

@@ -1,7 +1,7 @@
 use Rattle.std.proofs.Common.{◌++◌, take, map}
-use Rattle.type_world.specs.Meaning.{meant}
-use Rattle.type_world.specs.World.{Stays}
-use Rattle.stack_rows.specs.RowMeanings.{given_by, pushed_meant, stack_meant, MeansStack}
+use Rattle.type_hierarchy.specs.Meaning.{meant}
+use Rattle.type_hierarchy.specs.World.{Stays}
+use Rattle.stack_effects.specs.RowMeanings.{given_by, pushed_meant, stack_meant, MeansStack}
 use Rattle.body_verifier.proofs.effect.push_all.Given as goal
 
 abbrev pub invariant-loop-value : goal.invariant-loop-value

@@ -1,6 +1,6 @@
 use Rattle.std.proofs.Common.{inl, inr, arith}
 use Rattle.std.proofs.lemmas.List.{length-map}
-use Rattle.type_world.specs.Meaning.{meant}
+use Rattle.type_hierarchy.specs.Meaning.{meant}
 use Rattle.body_verifier.proofs.judging.is_too_deep.Goals as goal
 
 pub returns-else-bound-len : goal.returns-else-bound-len

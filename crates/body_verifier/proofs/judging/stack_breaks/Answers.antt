@@ -1,12 +1,12 @@
 use Rattle.std.proofs.Common.{◌≡◌, ◌↔◌, ◌∙◌, ◌-◌, ap, subst, List, IsTrue, length, drop}
-use Rattle.type_world.specs.Hierarchy.{Hierarchy}
-use Rattle.type_world.specs.Stack.{Stack}
-use Rattle.type_world.specs.Tables.{hierarchy_in}
-use Rattle.type_world.specs.World.{hierarchy}
+use Rattle.type_hierarchy.specs.Hierarchy.{Hierarchy}
+use Rattle.type_hierarchy.specs.Stack.{Stack}
+use Rattle.type_hierarchy.specs.Tables.{hierarchy_in}
+use Rattle.type_hierarchy.specs.World.{hierarchy}
 use Rattle.body_verifier.specs.Asking.{FailsToFit}
 use Rattle.code_flow.specs.Rows.{Row}
-use Rattle.stack_rows.specs.RowMeanings.{row_meant, stack_meant, IsStackWithin}
-use Rattle.stack_rows.proofs.Growing.{row_same, stack_same, stack_within}
+use Rattle.stack_effects.specs.RowMeanings.{row_meant, stack_meant, IsStackWithin}
+use Rattle.stack_effects.proofs.Growing.{row_same, stack_same, stack_within}
 use Rattle.body_verifier.proofs.Topmost.{top_taken, top_within, wrong_same, fit_same, mismatch_same}
 use Rattle.body_verifier.proofs.judging.stack_breaks.Goals as goal
 

@@ -1,5 +1,5 @@
 use Rattle.code_flow.specs.Rows.{row_of}
-use Rattle.type_world.specs.Relations.{Below}
+use Rattle.type_hierarchy.specs.Relations.{Below}
 use Rattle.code_flow.specs.Laws.{Under}
 use Rattle.body_verifier.proofs.Refining.{below_refines, under_refines}
 use Rattle.body_verifier.proofs.Monotone.{monotone}

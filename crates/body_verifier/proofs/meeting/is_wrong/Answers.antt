@@ -1,9 +1,9 @@
 use Rattle.std.proofs.Common.{◌↔◌, sym, subst, not, IsTrue, IfOk}
-use Rattle.type_world.specs.Meaning.{meant}
-use Rattle.type_world.specs.World.{hierarchy}
-use Rattle.stack_rows.specs.declared.row.Demand.{Demand}
+use Rattle.type_hierarchy.specs.Meaning.{meant}
+use Rattle.type_hierarchy.specs.World.{hierarchy}
+use Rattle.stack_effects.specs.declared.row.Demand.{Demand}
 use Rattle.code_flow.specs.Demands.{HasWrongKind}
-use Rattle.stack_rows.specs.RowMeanings.{demand_meant}
+use Rattle.stack_effects.specs.RowMeanings.{demand_meant}
 use Rattle.body_verifier.proofs.Answering.{not_iff}
 use Rattle.body_verifier.proofs.meeting.is_wrong.Goals as goal
 

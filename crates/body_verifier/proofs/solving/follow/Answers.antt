@@ -3,7 +3,7 @@ use Rattle.body_verifier.specs.declared.state.State.{State}
 use Rattle.body_verifier.specs.StateMeanings.{state_depth, typing_of, IsStateWithin}
 use Rattle.code_flow.specs.Typings as typings
 use Rattle.body_verifier.specs.Ways.{Raises}
-use Rattle.type_world.specs.World.{hierarchy}
+use Rattle.type_hierarchy.specs.World.{hierarchy}
 use Rattle.body_verifier.proofs.EdgeLoop.{IsSetOff, IsFollowing, asks_within, asks_target, asks_room, asks_few, less_low, follows_more, target_of}
 use Rattle.body_verifier.proofs.EdgeStart.{set_off, follows_none, all_followed_at, no_more_from, less_from, unreached_settled, unreached_true, unreached_false, within_there}
 use Rattle.body_verifier.proofs.FollowLemmas.{typing_kept}

@@ -1,5 +1,5 @@
 use Rattle.std.proofs.Common.{Option, None, Some, subst}
-use Rattle.type_world.specs.World.{hierarchy}
+use Rattle.type_hierarchy.specs.World.{hierarchy}
 use Rattle.body_verifier.specs.declared.state.State.{State}
 use Rattle.body_verifier.specs.StateMeanings.{MeetsAs}
 use Rattle.body_verifier.proofs.RaiseLemmas.{raised}

@@ -1,5 +1,5 @@
 use Rattle.std.proofs.Common.{◌≡◌, ◌∙◌, ◌∷◌, [], ◌<◌, ◌≤◌, ◌+◌, ◌*◌, sym, ap, subst, ℕ, arith, length, List, refl}
-use Rattle.type_world.specs.World.{hierarchy}
+use Rattle.type_hierarchy.specs.World.{hierarchy}
 use Rattle.body_verifier.specs.Potential.{potential, potential_at, total}
 use Rattle.code_flow.specs.Typings as typings
 use Rattle.body_verifier.specs.StateMeanings.{typing_of}

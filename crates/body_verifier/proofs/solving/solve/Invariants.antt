@@ -1,5 +1,5 @@
 use Rattle.std.proofs.Common.{◌≡◌, ◌+◌, ◌*◌, ◌≤◌, length, ℕ}
-use Rattle.type_world.specs.World.{Stays}
+use Rattle.type_hierarchy.specs.World.{Stays}
 use Rattle.body_verifier.specs.Potential.{potential, potential_at, total}
 use Rattle.body_verifier.specs.StateMeanings.{typing_of}
 use Rattle.body_verifier.specs.Ways.{IsCost, IsDepth, IsUnderWay, step_budget}

@@ -1,7 +1,7 @@
 use Rattle.std.proofs.Common.{◌+◌, arith, refl, sym, subst, length, List}
 use Rattle.std.proofs.lemmas.Option.{slice_get_read}
-use Rattle.type_world.specs.World.{hierarchy}
-use Rattle.type_world.specs.declared.stack_type.StackType.{StackType}
+use Rattle.type_hierarchy.specs.World.{hierarchy}
+use Rattle.type_hierarchy.specs.declared.stack_type.StackType.{StackType}
 use Rattle.body_verifier.proofs.StackLemmas.{AreJoined, joined_step}
 use Rattle.body_verifier.proofs.state.joins.Goals as goal
 

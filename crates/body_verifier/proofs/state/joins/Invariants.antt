@@ -1,5 +1,5 @@
 use Rattle.std.proofs.Common.{◌+◌, ◌≤◌}
-use Rattle.type_world.specs.World.{hierarchy, Stays}
+use Rattle.type_hierarchy.specs.World.{hierarchy, Stays}
 use Rattle.body_verifier.proofs.StackLemmas.{AreJoined}
 use Rattle.body_verifier.proofs.state.joins.Given as goal
 

@@ -1,5 +1,5 @@
 use Rattle.std.proofs.Common.{length}
-use Rattle.type_world.specs.World.{hierarchy}
+use Rattle.type_hierarchy.specs.World.{hierarchy}
 use Rattle.body_verifier.proofs.StateLemmas.{copy_within, from_clash, from_unreached, reached_by_clash, reached_by_stack, clash_from_stack}
 use Rattle.body_verifier.proofs.state.meet.Goals as goal
 

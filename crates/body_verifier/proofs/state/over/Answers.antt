@@ -1,7 +1,7 @@
 use Rattle.std.proofs.Common.{◌∙◌, ◌++◌, ◌≡◌, ap, refl, arith, drop, length, subst, take, List}
 use Rattle.std.proofs.lemmas.List.{length-drop, take_all}
-use Rattle.type_world.specs.declared.stack_type.StackType.{StackType}
-use Rattle.stack_rows.specs.RowMeanings.{stack_meant}
+use Rattle.type_hierarchy.specs.declared.stack_type.StackType.{StackType}
+use Rattle.stack_effects.specs.RowMeanings.{stack_meant}
 use Rattle.body_verifier.proofs.Sharing.{means_over}
 use Rattle.body_verifier.proofs.state.over.Goals as goal
 

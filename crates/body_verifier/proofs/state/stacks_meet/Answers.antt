@@ -1,9 +1,9 @@
 use Rattle.std.proofs.Common.{arith}
 use Rattle.std.proofs.lemmas.List.{length-map}
-use Rattle.type_world.specs.declared.stack_type.StackType.{StackType}
-use Rattle.type_world.specs.World.{hierarchy}
-use Rattle.type_world.specs.Stack.{Stack}
-use Rattle.stack_rows.specs.RowMeanings.{stack_meant}
+use Rattle.type_hierarchy.specs.declared.stack_type.StackType.{StackType}
+use Rattle.type_hierarchy.specs.World.{hierarchy}
+use Rattle.type_hierarchy.specs.Stack.{Stack}
+use Rattle.stack_effects.specs.RowMeanings.{stack_meant}
 use Rattle.body_verifier.proofs.StackLemmas.{stacks_clash}
 use Rattle.body_verifier.proofs.state.stacks_meet.Goals as goal
 

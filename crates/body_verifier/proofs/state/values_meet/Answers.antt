@@ -1,10 +1,10 @@
 use Rattle.std.proofs.Common.{sym, subst, List}
 use Rattle.sig_pool.specs.declared.node.Node.{Node}
-use Rattle.type_world.specs.declared.stack_type.StackType.{StackType}
-use Rattle.type_world.specs.Stack.{Stack}
-use Rattle.type_world.specs.World.{hierarchy}
+use Rattle.type_hierarchy.specs.declared.stack_type.StackType.{StackType}
+use Rattle.type_hierarchy.specs.Stack.{Stack}
+use Rattle.type_hierarchy.specs.World.{hierarchy}
 use Rattle.body_verifier.specs.Meetings.{IsNewMeeting}
-use Rattle.stack_rows.specs.RowMeanings.{stack_meant, MeansStack}
+use Rattle.stack_effects.specs.RowMeanings.{stack_meant, MeansStack}
 use Rattle.body_verifier.specs.StateMeanings.{AllJoinAs}
 use Rattle.code_flow.specs.Typings.{stack}
 use Rattle.body_verifier.proofs.StackLemmas.{stacks_meet_same, stacks_meet_new}

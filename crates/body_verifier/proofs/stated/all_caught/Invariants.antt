@@ -1,6 +1,6 @@
 use Rattle.std.proofs.Common.{◌≡◌, map, take}
 use Rattle.std.specs.List.{AllZip}
-use Rattle.type_world.specs.World.{hierarchy, Stays}
+use Rattle.type_hierarchy.specs.World.{hierarchy, Stays}
 use Rattle.code_flow.specs.Frames.{Frame}
 use Rattle.body_verifier.specs.Stating.{IsStack, found_at}
 use Rattle.body_verifier.proofs.stated.all_caught.Given as goal

@@ -4,7 +4,7 @@ use Rattle.ilasm_grammar.specs.declared.productions.TheConstants.{EXTENDS_OPT_SO
 use Rattle.source_model.specs.Forest.{child}
 use Rattle.source_flags.specs.InRange.{IsInRange}
 use Rattle.source_flags.proofs.Gathered.{readable}
-use Rattle.source_reading.proofs.ReferenceLemmas.{of_child}
+use Rattle.source_syntax.proofs.ReferenceLemmas.{of_child}
 use Rattle.elaborate.proofs.BaseLemmas.{of_interface, of_object, of_written}
 use Rattle.elaborate.proofs.bases.base.Goals as goal
 

@@ -3,8 +3,8 @@ use Rattle.il_lexer.specs.declared.types.TokenKind.TheVariants as kind
 use Rattle.ilasm_grammar.specs.declared.productions.TheConstants.{CLASS}
 use Rattle.source_model.specs.Classes.{is_root}
 use Rattle.source_model.specs.Nodes.{class_token, type_id}
-use Rattle.source_reading.specs.Readers.{IsOf}
-use Rattle.source_reading.proofs.NameTokens.{name_at}
+use Rattle.source_syntax.specs.Readers.{IsOf}
+use Rattle.source_syntax.proofs.NameTokens.{name_at}
 use Rattle.elaborate.specs.ClassParts.{inner}
 use Rattle.elaborate.proofs.ClassLemmas.{class_is_named}
 use Rattle.elaborate.proofs.class_heads.read_head.Goals as goal

@@ -1,9 +1,9 @@
 use Rattle.std.proofs.Common.{false, ap, sym, subst, ◌∙◌}
 use Rattle.source_model.specs.Items.{members, own_customs}
-use Rattle.source_reading.specs.Pieces.{ArePieces}
+use Rattle.source_syntax.specs.Pieces.{ArePieces}
 use Rattle.source_model.specs.Manifests.{attributes}
-use Rattle.source_parts.specs.Runs.{is_custom}
-use Rattle.source_parts.proofs.CustomParts.{outside_hold}
+use Rattle.lower_manifest.specs.Runs.{is_custom}
+use Rattle.lower_manifest.proofs.CustomParts.{outside_hold}
 use Rattle.elaborate.proofs.ClassLemmas.{members_ranged, no_customs, same_any}
 use Rattle.elaborate.proofs.class_members.own_attributes.Goals as goal
 

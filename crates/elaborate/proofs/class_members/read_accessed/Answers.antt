@@ -1,7 +1,7 @@
 use Rattle.std.proofs.Common.{◌≡◌, length, map, ap, sym, ◌∙◌}
 use Rattle.source_model.specs.Items.{members}
 use Rattle.source_model.specs.Members.{event, method_forests, property}
-use Rattle.member_parts.specs.SignedMethods.{declared, signed}
+use Rattle.lower_members.specs.SignedMethods.{declared, signed}
 use Rattle.elaborate.proofs.ClassLemmas.{few_methods, members_ranged, none_accessed, signed_methods}
 use Rattle.elaborate.proofs.class_members.read_accessed.Goals as goal
 

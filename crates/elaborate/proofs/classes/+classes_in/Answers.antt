@@ -5,13 +5,13 @@ use Rattle.source_model.specs.Classes.{class_from}
 use Rattle.source_model.specs.Forest.{parts_outside}
 use Rattle.source_model.specs.Items.{members}
 use Rattle.source_model.specs.Nodes.{class_token, type_id}
-use Rattle.source_reading.specs.Pieces.{ArePieces}
-use Rattle.source_reading.specs.Walk.{IsForest}
+use Rattle.source_syntax.specs.Pieces.{ArePieces}
+use Rattle.source_syntax.specs.Walk.{IsForest}
 use Rattle.source_flags.specs.Lines.{productions_of}
 use Rattle.source_flags.specs.declared.gathering.Kind.TheVariants.{Members}
 use Rattle.source_flags.proofs.Gathered.{has_bodies}
-use Rattle.rule_steps.proofs.AskingLemmas.{below_shorter, next_shorter, rest_shorter}
-use Rattle.source_rules.proofs.ClassWalks.{forest_behind}
+use Rattle.check_visitor.proofs.AskingLemmas.{below_shorter, next_shorter, rest_shorter}
+use Rattle.check_names.proofs.ClassWalks.{forest_behind}
 use Rattle.elaborate.specs.ClassParts.{inner}
 use Rattle.elaborate.specs.HeadForms.{head_forms}
 use Rattle.elaborate.proofs.ClassLemmas.{all_ranged, same_any, within_some}

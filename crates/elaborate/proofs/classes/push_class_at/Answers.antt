@@ -1,5 +1,5 @@
 use Rattle.std.proofs.Common.{◌≡◌, ◌++◌, [], ◌∷◌, ap, ◌∙◌}
-use Rattle.member_parts.proofs.PropertyLemmas.{went_well}
+use Rattle.lower_members.proofs.PropertyLemmas.{went_well}
 use Rattle.source_model.specs.Classes.{class_from}
 use Rattle.elaborate.specs.ClassParts.{inner}
 use Rattle.elaborate.proofs.ClassLemmas.{all_ranged}

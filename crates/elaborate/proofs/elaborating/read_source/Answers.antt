@@ -1,5 +1,5 @@
 use Rattle.std.proofs.Common.{subst}
-use Rattle.source_faults.specs.SourceFaults.{IsFault}
+use Rattle.check_source.specs.SourceFaults.{IsFault}
 use Rattle.elaborate.proofs.Elaborated.{denotes, has_assembly}
 use Rattle.elaborate.proofs.elaborating.read_source.Goals as goal
 

@@ -3,17 +3,17 @@ use Rattle.std.specs.Prelude.{All, IfOk}
 use Rattle.std.specs.List.{flat_map}
 use Rattle.il_lexer.specs.declared.types.TokenKind.TheVariants.{Name}
 use Rattle.ilasm_grammar.specs.declared.productions.TheConstants.{DECL_ASSEMBLY}
-use Rattle.source_parts.specs.Chosen.{are_of}
+use Rattle.lower_manifest.specs.Chosen.{are_of}
 use Rattle.source_flags.specs.declared.gathering.Kind.TheVariants.{One}
 use Rattle.source_model.specs.Items.{declarations}
 use Rattle.source_model.specs.Names.{externs, key_token}
 use Rattle.source_model.specs.Values.{name_text}
-use Rattle.source_reading.specs.Namings.{names_in}
-use Rattle.source_reading.specs.Pieces.{ArePieces}
-use Rattle.source_reading.specs.Readers.{IsOf}
-use Rattle.source_reading.specs.declared.name_lists.Naming.TheVariants as naming
-use Rattle.source_reading.proofs.NamingLemmas.{names_are_names}
-use Rattle.source_reading.proofs.PieceLemmas.{all_taken, flat_next, part_read}
+use Rattle.source_syntax.specs.Namings.{names_in}
+use Rattle.source_syntax.specs.Pieces.{ArePieces}
+use Rattle.source_syntax.specs.Readers.{IsOf}
+use Rattle.source_syntax.specs.declared.name_lists.Naming.TheVariants as naming
+use Rattle.source_syntax.proofs.NamingLemmas.{names_are_names}
+use Rattle.source_syntax.proofs.PieceLemmas.{all_taken, flat_next, part_read}
 use Rattle.elaborate.proofs.AssemblyLemmas.{key_tokens_are, keys_are, keys_in, keys_in_all}
 use Rattle.elaborate.proofs.extern_keys.extern_keys.Goals as goal
 

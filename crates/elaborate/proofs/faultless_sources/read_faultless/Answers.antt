@@ -1,4 +1,4 @@
-use Rattle.method_parts.proofs.WholeLemmas.{whole_in_range}
+use Rattle.lower_methods.proofs.WholeLemmas.{whole_in_range}
 use Rattle.elaborate.proofs.faultless_sources.read_faultless.Goals as goal
 
 pub standing_of-stated-requires-clause-forest : goal.standing_of-stated-requires-clause-forest

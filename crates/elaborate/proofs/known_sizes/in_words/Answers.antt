@@ -1,7 +1,7 @@
 use Rattle.std.proofs.Common.{◌≤◌, ◌++◌, [], ◌∷◌, length, map, take, ap, sym, ◌∙◌, arith}
 use Rattle.std.proofs.lemmas.List.{take_all}
 use Rattle.std.proofs.lemmas.Option.{slice_get-get_or}
-use Rattle.source_reading.proofs.PieceLemmas.{map_next}
+use Rattle.source_syntax.proofs.PieceLemmas.{map_next}
 use Rattle.elaborate.specs.KnownSizes.{in_word}
 use Rattle.elaborate.proofs.known_sizes.in_words.Goals as goal
 

@@ -1,6 +1,6 @@
 use Rattle.std.proofs.Common.{ap, sym, ◌∙◌}
-use Rattle.member_parts.specs.ClassSizes.{size_numbered}
-use Rattle.source_reading.specs.ClassNumbers.{class_numbered}
+use Rattle.lower_members.specs.ClassSizes.{size_numbered}
+use Rattle.source_syntax.specs.ClassNumbers.{class_numbered}
 use Rattle.elaborate.proofs.SizelessLemmas.{no_class_sized, unsized}
 use Rattle.elaborate.proofs.known_sizes.no_sizes.Goals as goal
 

@@ -1,6 +1,6 @@
 use Rattle.std.proofs.Common.{◌≡◌, List, Option, ℕ, ap, sym, subst, ◌∙◌, map}
-use Rattle.source_reading.specs.ClassNumbers.{class_numbered}
-use Rattle.member_parts.specs.ClassSizes.{size_numbered}
+use Rattle.source_syntax.specs.ClassNumbers.{class_numbered}
+use Rattle.lower_members.specs.ClassSizes.{size_numbered}
 use Rattle.elaborate.specs.KnownSizes.{in_word}
 use Rattle.elaborate.proofs.SizeLemmas.{sizes_are}
 use Rattle.elaborate.proofs.known_sizes.stated_sizes.Goals as goal

@@ -4,7 +4,7 @@ use Rattle.assembly_tree.specs.declared.members.Field.{Field}
 use Rattle.sig_codec.specs.Signature.{SpellsField}
 use Rattle.image_rows.specs.DeclaredMembers.{field_bytes}
 use Rattle.image_rows.proofs.DeclaredLemmas.{own_row_added, field_bytes_are}
-use Rattle.image_references.proofs.WritableLemmas.{still_writable}
+use Rattle.image_tokens.proofs.WritableLemmas.{still_writable}
 use Rattle.image_rows.proofs.declared_members.declare_field.Goals as goal
 
 pub refer_text-requires-clause-no_zero : goal.refer_text-requires-clause-no_zero

@@ -4,8 +4,8 @@ use Rattle.std.specs.List.{AllByRecursion}
 use Rattle.assembly_tree.specs.declared.members.Field.{Field}
 use Rattle.assembly_tree.specs.declared.members.Method.{Method}
 use Rattle.image_rows.specs.DeclaredMembers.{owned, class_fields, class_methods, field_bytes, method_bytes, DeclaresFields, DeclaresMethods, IsMethodDeclarable}
-use Rattle.image_references.specs.References.{size}
-use Rattle.image_references.specs.declared.row_set.Cells.{Cells}
+use Rattle.image_tokens.specs.References.{size}
+use Rattle.image_tokens.specs.declared.row_set.Cells.{Cells}
 use Rattle.image_rows.proofs.DeclaredLemmas.{all_still, each_still, method_still, sum_all, has_members}
 use Rattle.image_rows.proofs.declared_members.declare_members.Goals as goal
 

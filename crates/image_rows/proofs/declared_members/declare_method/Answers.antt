@@ -4,7 +4,7 @@ use Rattle.assembly_tree.specs.declared.members.Method.{Method}
 use Rattle.sig_codec.specs.Signature.{SpellsMethod}
 use Rattle.image_rows.specs.DeclaredMembers.{method_bytes}
 use Rattle.image_rows.proofs.DeclaredLemmas.{own_row_added, method_bytes_are}
-use Rattle.image_references.proofs.BodyLemmas.{signature_can}
+use Rattle.image_tokens.proofs.BodyLemmas.{signature_can}
 use Rattle.image_rows.proofs.declared_members.declare_method.Goals as goal
 
 pub refer_text-requires-clause-no_zero : goal.refer_text-requires-clause-no_zero

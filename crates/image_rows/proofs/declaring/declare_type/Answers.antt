@@ -1,5 +1,5 @@
 use Rattle.std.proofs.Common.{refl}
-use Rattle.image_references.specs.Texts.{id_size}
+use Rattle.image_tokens.specs.Texts.{id_size}
 use Rattle.image_rows.proofs.DeclaringLemmas.{declares_one}
 use Rattle.image_rows.proofs.declaring.declare_type.Goals as goal
 

@@ -1,7 +1,7 @@
 use Rattle.std.proofs.Common.{◌≡◌, ap, subst, [], ◌∷◌, List}
 use Rattle.type_terms.specs.declared.name.TypeId.{TypeId}
 use Rattle.image_rows.specs.Declaring.{module_place, Declares}
-use Rattle.image_references.specs.Texts.{id_size}
+use Rattle.image_tokens.specs.Texts.{id_size}
 use Rattle.image_rows.proofs.DeclaringLemmas.{declares_all}
 use Rattle.image_rows.proofs.declaring.declare_types.Goals as goal
 

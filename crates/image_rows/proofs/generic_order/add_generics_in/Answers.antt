@@ -4,7 +4,7 @@ use Rattle.std.proofs.lemmas.List.{append-nil}
 use Rattle.std.proofs.lemmas.Result.{on_ok_weaker}
 use Rattle.metadata_tables.specs.declared.coded.Coded.TheVariants.{TypeOrMethodDef}
 use Rattle.image_rows.specs.GenericRows.{generic_of}
-use Rattle.image_references.specs.Indexes.{index_of}
+use Rattle.image_tokens.specs.Indexes.{index_of}
 use Rattle.image_rows.specs.Places.{lent}
 use Rattle.image_rows.proofs.GenericLemmas.{no_generics, some_generics, same_generics}
 use Rattle.image_rows.proofs.generic_order.add_generics_in.Goals as goal

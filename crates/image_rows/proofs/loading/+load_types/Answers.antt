@@ -4,8 +4,8 @@ use Rattle.std.proofs.lemmas.List.{drop_more}
 use Rattle.assembly_tree.specs.Room.{method_texts, typedef_texts}
 use Rattle.assembly_tree.specs.declared.typedef.TypeDef.{TypeDef}
 use Rattle.assembly_tree.specs.declared.typedef.TypeDef.TheViews.{out-TypeDef}
-use Rattle.image_references.specs.Loaded.{Loads, entry_sizes}
-use Rattle.image_references.proofs.LoadsLemmas.{loads_begin, loads_fit, loads_on, loads_end, loads_both, sizes_both}
+use Rattle.image_tokens.specs.Loaded.{Loads, entry_sizes}
+use Rattle.image_tokens.proofs.LoadsLemmas.{loads_begin, loads_fit, loads_on, loads_end, loads_both, sizes_both}
 use Rattle.image_rows.proofs.NestLemmas.{nested_fewer}
 use Rattle.image_rows.proofs.TextLemmas.{typedef_texts_out}
 use Rattle.image_rows.proofs.loading.+load_types.Goals as goal

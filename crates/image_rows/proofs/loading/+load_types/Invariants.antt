@@ -2,7 +2,7 @@ use Rattle.std.proofs.Common.{drop}
 use Rattle.std.specs.List.{sum_by}
 use Rattle.assembly_tree.specs.Nesting.{types_in}
 use Rattle.assembly_tree.specs.Room.{typedef_texts}
-use Rattle.image_references.proofs.LoadsLemmas.{LoadsTo}
+use Rattle.image_tokens.proofs.LoadsLemmas.{LoadsTo}
 use Rattle.image_rows.proofs.loading.+load_types.Given as goal
 
 abbrev pub invariant-loop-of : goal.invariant-loop-of

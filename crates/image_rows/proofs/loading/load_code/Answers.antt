@@ -2,7 +2,7 @@ use Rattle.std.proofs.Common.{◌≡◌, ◌∙◌, ap, sym, ◌+◌, ◌≤◌,
 use Rattle.std.proofs.lemmas.List.{drop_more}
 use Rattle.assembly_tree.specs.Room.{instruction_texts}
 use Rattle.assembly_tree.specs.declared.body.Ins.{Ins}
-use Rattle.image_references.proofs.LoadsLemmas.{loads_begin, loads_fit, loads_on, loads_end}
+use Rattle.image_tokens.proofs.LoadsLemmas.{loads_begin, loads_fit, loads_on, loads_end}
 use Rattle.image_rows.proofs.loading.load_code.Goals as goal
 
 pub loop-ins-init : goal.loop-ins-init

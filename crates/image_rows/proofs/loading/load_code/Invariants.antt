@@ -1,6 +1,6 @@
 use Rattle.std.proofs.Common.{drop}
 use Rattle.assembly_tree.specs.Room.{instruction_texts}
-use Rattle.image_references.proofs.LoadsLemmas.{LoadsTo}
+use Rattle.image_tokens.proofs.LoadsLemmas.{LoadsTo}
 use Rattle.image_rows.proofs.loading.load_code.Given as goal
 
 abbrev pub invariant-loop-ins : goal.invariant-loop-ins

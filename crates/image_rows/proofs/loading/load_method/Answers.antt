@@ -2,8 +2,8 @@ use Rattle.std.proofs.Common.{◌≡◌, ◌∙◌, ap, sym, subst, ◌+◌, ◌
 use Rattle.std.specs.List.{flat_map}
 use Rattle.std.proofs.lemmas.Result.{on_ok_weaker}
 use Rattle.assembly_tree.specs.Room.{instruction_texts}
-use Rattle.image_references.specs.Loaded.{Loads, entry_sizes}
-use Rattle.image_references.proofs.LoadsLemmas.{loads_nothing}
+use Rattle.image_tokens.specs.Loaded.{Loads, entry_sizes}
+use Rattle.image_tokens.proofs.LoadsLemmas.{loads_nothing}
 use Rattle.image_rows.proofs.TextLemmas.{without_body, with_body}
 use Rattle.image_rows.proofs.loading.load_method.Goals as goal
 

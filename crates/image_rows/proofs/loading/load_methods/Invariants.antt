@@ -1,6 +1,6 @@
 use Rattle.std.proofs.Common.{drop}
 use Rattle.assembly_tree.specs.Room.{method_texts}
-use Rattle.image_references.proofs.LoadsLemmas.{LoadsTo}
+use Rattle.image_tokens.proofs.LoadsLemmas.{LoadsTo}
 use Rattle.image_rows.proofs.loading.load_methods.Given as goal
 
 abbrev pub invariant-loop-method : goal.invariant-loop-method

@@ -2,8 +2,8 @@ use Rattle.std.proofs.Common.{◌≡◌, ◌∙◌, ap, sym, subst, ◌+◌, ◌
 use Rattle.std.specs.List.{flat_map}
 use Rattle.assembly_tree.specs.Room.{method_texts, typedef_texts}
 use Rattle.heaps.specs.Heap.{Heap}
-use Rattle.image_references.specs.Loaded.{AreLoaded, entry_sizes}
-use Rattle.image_references.proofs.LoadsLemmas.{loads_both, sizes_both}
+use Rattle.image_tokens.specs.Loaded.{AreLoaded, entry_sizes}
+use Rattle.image_tokens.proofs.LoadsLemmas.{loads_both, sizes_both}
 use Rattle.image_rows.proofs.TextLemmas.{whole_texts, none_loaded}
 use Rattle.image_rows.proofs.TextWeights.{texts_fit}
 use Rattle.image_rows.proofs.loading.load_texts.Goals as goal

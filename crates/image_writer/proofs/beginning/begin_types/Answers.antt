@@ -1,7 +1,7 @@
 use Rattle.std.proofs.Common.{◌≡◌, ap, ℕ, ◌+◌, ◌-◌, ◌<◌, ◌≤◌, ◌^◌, List, length, subst, sym, arith}
 use Rattle.std.specs.Prelude.{sum_by}
 use Rattle.heaps.specs.Heap.{Heap}
-use Rattle.image_references.specs.declared.references.References.{References}
+use Rattle.image_tokens.specs.declared.references.References.{References}
 use Rattle.image_writer.specs.Beginning.{DeclaresTypes}
 use Rattle.image_writer.proofs.BeginLemmas.{types_begun}
 use Rattle.image_writer.proofs.beginning.begin_types.Goals as goal

@@ -5,7 +5,7 @@ use Rattle.image_rows.specs.Places.{lent}
 use Rattle.image_writer.proofs.BeginLemmas.{members_declarable, all_declared, members_room}
 use Rattle.image_writer.proofs.ContentsLemmas.{can_declare, begun_room}
 use Rattle.image_writer.proofs.beginning.declare_all.Goals as goal
-use Rattle.writable_trees.specs.Ranges.{IsMethodInRange}
+use Rattle.laws_writable_trees.specs.Ranges.{IsMethodInRange}
 
 pub declare_members-requires-clause-known : goal.declare_members-requires-clause-known
 declare_members-requires-clause-known c = c.requires.begun.types.known

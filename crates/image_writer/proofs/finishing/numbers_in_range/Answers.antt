@@ -3,7 +3,7 @@ use Rattle.std.specs.List.{AllByRecursion}
 use Rattle.assembly_tree.specs.declared.members.Field.{Field}
 use Rattle.assembly_tree.specs.declared.members.Param.{Param}
 use Rattle.assembly_tree.specs.declared.members.Property.{Property}
-use Rattle.image_reads.specs.parts.Ranges.{IsFieldInRange, IsParamInRange, IsPropertyInRange}
+use Rattle.laws_image_reading.specs.parts.Ranges.{IsFieldInRange, IsParamInRange, IsPropertyInRange}
 use Rattle.image_rows.specs.Places.{lent}
 use Rattle.image_writer.proofs.finishing.numbers_in_range.Goals as goal
 

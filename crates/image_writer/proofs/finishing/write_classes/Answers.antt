@@ -1,5 +1,5 @@
 use Rattle.std.proofs.Common.{◌≡◌, ℕ, ◌<◌, ◌≤◌, ◌^◌, length, subst, sym, arith}
-use Rattle.image_references.specs.declared.references.References.{References}
+use Rattle.image_tokens.specs.declared.references.References.{References}
 use Rattle.image_writer.specs.Beginning.{HasBegun}
 use Rattle.image_writer.proofs.BeginLemmas.{has_begun}
 use Rattle.image_writer.proofs.ContentsLemmas.{types_room}

@@ -3,7 +3,7 @@ use Rattle.std.specs.Prelude.{true, false, ◌==◌}
 use Rattle.source_model.specs.Forest.{child, preorder}
 use Rattle.source_flags.specs.FlagRows.{end_of, more_of}
 use Rattle.source_flags.proofs.FlagLemmas.{after_all, after_end, after_flag, after_more, asked}
-use Rattle.source_reading.proofs.Stepping.{Steps, below_fits, below_is_forest, first_step, step_at_end, step_into_branch, step_past_branch, step_past_leaf}
+use Rattle.source_syntax.proofs.Stepping.{Steps, below_fits, below_is_forest, first_step, step_at_end, step_into_branch, step_past_branch, step_past_leaf}
 use Rattle.source_flags.proofs.flag_rows.row_flags.Goals as goal
 
 pub loop-node-init : goal.loop-node-init

@@ -1,6 +1,6 @@
 use Rattle.std.proofs.Common.{length, ◌<◌, ◌^◌}
 use Rattle.source_flags.proofs.FlagLemmas.{asked}
-use Rattle.source_reading.proofs.Stepping.{Steps}
+use Rattle.source_syntax.proofs.Stepping.{Steps}
 use Rattle.source_flags.proofs.flag_rows.row_flags.Given as goal
 
 abbrev pub invariant-loop-node : goal.invariant-loop-node

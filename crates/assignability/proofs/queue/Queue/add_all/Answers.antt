@@ -1,4 +1,4 @@
-use Rattle.type_world.proofs.QueueLemmas.{adds_next}
+use Rattle.type_hierarchy.proofs.QueueLemmas.{adds_next}
 use Rattle.assignability.proofs.queue.Queue.add_all.Goals as goal
 
 pub loop-id-preserved : goal.loop-id-preserved

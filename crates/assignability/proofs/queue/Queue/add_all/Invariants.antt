@@ -1,5 +1,5 @@
 use Rattle.std.proofs.Common.{take}
-use Rattle.type_world.specs.Queues.{AddsAll}
+use Rattle.type_hierarchy.specs.Queues.{AddsAll}
 use Rattle.assignability.proofs.queue.Queue.add_all.Given as goal
 
 -- so far each id up to the place of this one

@@ -1,4 +1,4 @@
-use Rattle.type_world.proofs.QueueLemmas.{adds_one}
+use Rattle.type_hierarchy.proofs.QueueLemmas.{adds_one}
 use Rattle.assignability.proofs.queue.Queue.add_optional.Goals as goal
 
 pub returns-in_ok-add-in-Some : goal.returns-in_ok-add-in-Some

@@ -1,5 +1,5 @@
 use Rattle.std.proofs.Common.{◌∙◌, ◌-◌, ap, subst, List, length, reverse, take, ◌≡◌}
-use Rattle.type_world.specs.declared.stack_type.StackType.{StackType}
+use Rattle.type_hierarchy.specs.declared.stack_type.StackType.{StackType}
 use Rattle.body_verifier.specs.Chains.{values_of}
 use Rattle.body_verifier.proofs.ChainLemmas.{front_reversed}
 use Rattle.body_verifier.proofs.stack.Stack.under.Goals as goal

@@ -1,8 +1,0 @@
-use Rattle.rule_steps.proofs.LeastOfRules.{then_rule}
-use Rattle.body_rules.specs.AllOfBodies.{twice_in, undeclared_in}
-use Rattle.body_rules.proofs.label_faults.label_fault.Goals as goal
-
-pub returns : goal.returns
-returns c s n r m e are tokens known plain =
-    then_rule c.sooner.result c.in_ok-twice.twice c.in_ok-missing.missing (twice_in s n) (undeclared_in s n) c.sooner.ensures
-    (c.in_ok-twice.ensures s n e known) (c.in_ok-missing.ensures s n r m e are tokens known plain)

@@ -1,0 +1,30 @@
+use Rattle.std.proofs.Common.{ap, sym, ◌∙◌}
+use Rattle.std.specs.List.{enumerate_from, flat_map}
+use Rattle.ilasm_grammar.specs.declared.productions.TheConstants.{INSTRUCTION_OP_NUM, INSTRUCTION_OP_REAL, INSTRUCTION_OP_VAR}
+use Rattle.source_model.specs.BodyNumbers.{bounds_out_of_range, clause_forests, local_misnumbered, number_out_of_range, real_out_of_range, variable_out_of_range}
+use Rattle.source_model.specs.Instructions.{instructions_with}
+use Rattle.source_model.specs.TypeRules.{past_count}
+use Rattle.source_model.specs.Variables.{locals}
+use Rattle.source_syntax.specs.Least.{least, sooner}
+use Rattle.check_bodies.proofs.BodyNumberLemmas.{body_least}
+use Rattle.check_bodies.proofs.ClauseCountLemmas.{clauses_are}
+use Rattle.check_bodies.proofs.OperandLemmas.{by_forms}
+use Rattle.check_bodies.proofs.body_numbers.BodyNumbersMethodRule.first.Goals as goal
+
+pub returns : goal.returns
+returns c s n r m e =
+    let f = n.below in
+    let stack = c.beyond_in_each-stack.ensures s f r e in
+    let operands = c.in_ok-operands.ensures s n r m e ∙ by_forms s f in
+    let local = c.in_ok-misnumbered.ensures s f r e in
+    let many = c.local_past_most-local.ensures f e in
+    let clause = c.clause_past_most-clause.ensures f e ∙ ap (λ fs. least (past_count fs)) (sym (clauses_are s f n.around)) in
+    c.sooner.ensures
+    ∙ ap (sooner c.beyond_in_each-stack.result)
+    (c.sooner-code.ensures
+    ∙ ap (sooner c.in_ok-operands.operands) (c.sooner-counts.ensures ∙ ap (sooner c.in_ok-misnumbered.misnumbered) c.sooner-past.ensures))
+    ∙ body_least (bounds_out_of_range s f) (flat_map (number_out_of_range s) (instructions_with INSTRUCTION_OP_NUM f))
+    (flat_map (real_out_of_range s) (instructions_with INSTRUCTION_OP_REAL f)) (flat_map (variable_out_of_range s f) (instructions_with INSTRUCTION_OP_VAR f))
+    (flat_map (local_misnumbered s) (enumerate_from 0 (locals f))) (past_count (locals f)) (past_count (clause_forests s n.around f))
+    c.beyond_in_each-stack.result c.in_ok-operands.operands c.in_ok-misnumbered.misnumbered c.local_past_most-local.result c.clause_past_most-clause.result
+    stack operands local many clause

@@ -1,0 +1,29 @@
+use Rattle.std.proofs.Common.{◌≡◌, [], ◌∷◌, ap, sym, subst, ◌∙◌}
+use Rattle.std.specs.Prelude.{Bool, if◌then◌else◌}
+use Rattle.std.proofs.lemmas.Result.{IfOk-weaker}
+use Rattle.il_lexer.specs.declared.types.TokenKind.TheVariants as kind
+use Rattle.ilasm_grammar.specs.declared.productions.TheConstants.{TARGET_END, TARGET_NAME}
+use Rattle.source_model.specs.Forest.{child, leaf_at, the}
+use Rattle.source_model.specs.References.{method_name, reference_name}
+use Rattle.source_model.specs.Values.{name_text}
+use Rattle.source_syntax.specs.Derived.{FitsBody}
+use Rattle.source_syntax.specs.Readers.{IsOf}
+use Rattle.source_syntax.proofs.ReferenceLemmas.{of_the}
+use Rattle.check_members.proofs.ReferenceParts.{lone_name}
+use Rattle.check_members.proofs.reference_reading.reference_name.Goals as goal
+
+pub returns-then-has : goal.returns-then-has
+returns-then-has c s a f r e fits bodies =
+    let some = sym (c.has.ensures f e) ∙ c.if-has.true in
+    IfOk-weaker c.method_name.result _ (λ name. name ≡ reference_name s a f)
+    (λ name h. h ∙ sym (ap (λ (b : Bool). if b then method_name s (the TARGET_END f) else name_text s (leaf_at 0 (child (TARGET_NAME ∷ []) f))) some))
+    (c.method_name.ensures s r (the TARGET_END f) (sym (c.the.ensures f e)) (of_the (FitsBody s) TARGET_END f bodies))
+
+pub returns : goal.returns
+returns c s a f r e fits bodies =
+    let none = sym (c.has.ensures f e) ∙ c.if-has.false in
+    let at = c.leaf_at-name.ensures (child (TARGET_NAME ∷ []) f) (sym (c.child.ensures f e)) in
+    IfOk-weaker c.name_text.result _ (λ name. name ≡ reference_name s a f)
+    (λ name h. h ∙ ap (name_text s) at
+    ∙ sym (ap (λ (b : Bool). if b then method_name s (the TARGET_END f) else name_text s (leaf_at 0 (child (TARGET_NAME ∷ []) f))) none))
+    (c.name_text.ensures s r (subst (IsOf s kind.Name) (sym at) (lone_name s f fits bodies none)))

@@ -1,0 +1,16 @@
+use Rattle.std.proofs.Common.{length, ◌≤◌}
+use Rattle.source_model.specs.Source.{Source}
+use Rattle.check_visitor.proofs.AskingLemmas.{Bodied}
+use Rattle.check_names.proofs.MappedData.{counted}
+use Rattle.source_syntax.proofs.Stepping.{Steps}
+use Rattle.check_names.proofs.mapped_data.data_length.Given as goal
+
+abbrev pub invariant-loop-node : goal.invariant-loop-node
+invariant-loop-node l = record {
+  steps : Steps (counted l.total l.reader l.below) (counted 0 l.reader l.below) l.below l.left;
+  within : l.total ≤ 0x100000000;
+  bodied : (s : Source) → Bodied s l.below → Bodied s l.left;
+}
+
+abbrev pub decreases-loop-node : goal.decreases-loop-node
+decreases-loop-node l = length l.left

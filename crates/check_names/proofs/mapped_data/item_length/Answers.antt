@@ -1,0 +1,22 @@
+use Rattle.std.proofs.Common.{◌≡◌, ℕ, ◌*◌, ◌/◌, length, min, ◌∙◌, ap, sym, subst}
+use Rattle.std.specs.Prelude.{Bool, true, ◌==◌, if◌then◌else◌}
+use Rattle.std.proofs.lemmas.Bool.Decides.{Decides-eqb}
+use Rattle.il_lexer.specs.declared.types.TokenKind.TheVariants.{ByteArray}
+use Rattle.ilasm_grammar.specs.declared.productions.TheConstants.{DATA_ITEM_BYTES}
+use Rattle.source_model.specs.Data.{item_bits, item_count}
+use Rattle.source_model.specs.Forest.{leaf_at}
+use Rattle.source_model.specs.Values.{array_bytes}
+use Rattle.source_syntax.specs.Readers.{IsOf}
+use Rattle.check_names.proofs.DataLemmas.{is_bytes}
+use Rattle.check_names.proofs.mapped_data.item_length.Goals as goal
+
+pub returns-then-production-eq-DATA_ITEM_BYTES-clause-length : goal.returns-then-production-eq-DATA_ITEM_BYTES-clause-length
+returns-then-production-eq-DATA_ITEM_BYTES-clause-length c s f r e fits =
+    let p = c.args.production in
+    let own : (p == DATA_ITEM_BYTES) ≡ true = (Decides-eqb p DATA_ITEM_BYTES).1 c.if-production-eq-DATA_ITEM_BYTES.true in
+    let at = c.leaf_at.ensures f e in
+    c.up_to_most.ensures
+    ∙ ap (λ (n : ℕ). min n 0x100000000)
+    (c.in_ok-count.ensures s r (subst (IsOf s ByteArray) (sym at) (is_bytes s p f c.if-production-eq-DATA_ITEM_BYTES.true fits))
+    ∙ ap (λ (k : ℕ). length (array_bytes s k)) at
+    ∙ sym (ap (λ (b : Bool). if b then length (array_bytes s (leaf_at 0 f)) else item_count s f * (item_bits f / 8)) own))

@@ -1,0 +1,19 @@
+use Rattle.std.proofs.Common.{◌≡◌, length}
+use Rattle.type_terms.specs.declared.term.SigType.{SigType}
+use Rattle.source_model.specs.Data.{data_size}
+use Rattle.source_model.specs.Forest.{Forest, preorder}
+use Rattle.source_model.specs.Nodes.{Around}
+use Rattle.source_model.specs.Source.{Source}
+use Rattle.source_model.specs.Types.{suffixed}
+use Rattle.source_syntax.specs.Walk.{IsForest}
+use Rattle.check_names.proofs.StatedSizes.{Sized}
+use Rattle.check_names.proofs.stated_sizes.keeps_size.Given as goal
+
+abbrev pub invariant-loop-x : goal.invariant-loop-x
+invariant-loop-x l = record {
+  forest : IsForest l.left;
+  so_far : (s : Source) (a : Around) (f : Forest) → preorder f ≡ l.suffixes → (t : SigType) → Sized s a (suffixed s a f t) (data_size s t) l.left;
+}
+
+abbrev pub decreases-loop-x : goal.decreases-loop-x
+decreases-loop-x l = length l.left

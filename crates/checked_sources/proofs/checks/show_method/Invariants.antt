@@ -1,4 +1,0 @@
-use Rattle.checked_sources.proofs.checks.show_method.Given as goal
-
-abbrev pub ghost-check_method : goal.ghost-check_method
-ghost-check_method g a = g.of

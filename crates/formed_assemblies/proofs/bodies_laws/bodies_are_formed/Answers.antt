@@ -1,5 +1,0 @@
-use Rattle.formed_assemblies.proofs.bodies.Formed.{all_formed}
-use Rattle.formed_assemblies.proofs.bodies_laws.bodies_are_formed.Goals as goal
-
-pub returns : goal.returns
-returns c s r n i b e = all_formed c.the_longest_spelling_is_taken.ensures c.tokens_are_spellings.ensures c.derivations_have_bodies.ensures s r n i b e

@@ -1,6 +1,0 @@
-use Rattle.formed_assemblies.proofs.members.Entries.{one_entry}
-use Rattle.formed_assemblies.proofs.sources.Unbroken.{nothing_twice}
-use Rattle.formed_assemblies.proofs.members_laws.one_entry.Goals as goal
-
-pub returns : goal.returns
-returns c s r = one_entry s (c.derivations_have_bodies.ensures s r.read.derived).0 (c.derivations_have_bodies.ensures s r.read.derived).1 (nothing_twice s r.faultless).entries

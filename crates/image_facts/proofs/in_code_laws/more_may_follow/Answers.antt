@@ -1,6 +1,0 @@
--- answers for src/laws.rt
-use Rattle.image_facts.proofs.in_code.BodyLemmas.{more_follows}
-use Rattle.image_facts.proofs.in_code_laws.more_may_follow.Goals as goal
-
-pub returns : goal.returns
-returns c = more_follows

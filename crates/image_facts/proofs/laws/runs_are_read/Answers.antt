@@ -1,6 +1,0 @@
--- answers for src/laws.rt
-use Rattle.image_facts.proofs.MemberRuns.{runs_read}
-use Rattle.image_facts.proofs.laws.runs_are_read.Goals as goal
-
-pub returns : goal.returns
-returns c = λ a classes r code image h. runs_read c.indexes_fit.ensures a classes r code image h

@@ -1,7 +1,0 @@
--- answers for src/laws.rt
-use Rattle.image_facts.proofs.namings.NamingsRead.{namings_read}
-use Rattle.image_facts.proofs.namings_laws.namings_are_read.Goals as goal
-
-pub returns : goal.returns
-returns c =
-    namings_read c.owners_are_read.ensures c.locals_are_read.ensures c.texts_are_read.ensures c.fields_are_read.ensures c.methods_are_read.ensures

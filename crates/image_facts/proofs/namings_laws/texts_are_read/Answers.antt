@@ -1,7 +1,0 @@
--- answers for src/laws.rt
-use Rattle.image_facts.proofs.namings.TextLemmas.{texts_read}
-use Rattle.image_facts.proofs.namings_laws.texts_are_read.Goals as goal
-
-pub returns : goal.returns
-returns c = λ a classes r tables code image w units.
-    texts_read image c.one_content_at_an_index.ensures.blob c.one_content_at_an_index.ensures.units r w.heaps w.filled.known units

@@ -1,6 +1,0 @@
--- answers for src/laws.rt
-use Rattle.image_facts.proofs.references.TidyLemmas.{references_tidy}
-use Rattle.image_facts.proofs.references_laws.references_are_tidy.Goals as goal
-
-pub returns : goal.returns
-returns c = references_tidy c.signatures_are_in_bounds.ensures

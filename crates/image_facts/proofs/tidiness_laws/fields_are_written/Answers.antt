@@ -1,6 +1,0 @@
--- answers for src/laws.rt
-use Rattle.image_facts.proofs.tidiness.FieldLemmas.{fields_written}
-use Rattle.image_facts.proofs.tidiness_laws.fields_are_written.Goals as goal
-
-pub returns : goal.returns
-returns c = fields_written c.tables_are_read.ensures

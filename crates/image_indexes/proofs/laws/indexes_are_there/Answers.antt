@@ -1,5 +1,0 @@
-use Rattle.image_indexes.proofs.ReferenceTables.{all_tables}
-use Rattle.image_indexes.proofs.laws.indexes_are_there.Goals as goal
-
-pub returns : goal.returns
-returns c = all_tables

@@ -1,5 +1,0 @@
-use Rattle.image_indexes.proofs.OwnedTables.{owned_tables}
-use Rattle.image_indexes.proofs.laws.owned_indexes.Goals as goal
-
-pub returns : goal.returns
-returns c = owned_tables

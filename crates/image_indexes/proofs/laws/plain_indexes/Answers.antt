@@ -1,5 +1,0 @@
-use Rattle.image_indexes.proofs.PlainTables.{plain}
-use Rattle.image_indexes.proofs.laws.plain_indexes.Goals as goal
-
-pub returns : goal.returns
-returns c = plain

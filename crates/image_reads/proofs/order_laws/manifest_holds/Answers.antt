@@ -1,8 +1,0 @@
--- answers for src/laws.rt
-use Rattle.image_reads.proofs.order.ModuleType.{has_manifest}
-use Rattle.image_reads.proofs.order_laws.manifest_holds.Goals as goal
-
-pub returns : goal.returns
-returns c = λ a classes r tables code entry id kind image f l names.
-    let w = c.laid_out_is_written.ensures a classes r tables code entry id kind image f l in
-    has_manifest a classes r code image (c.rows_are_read.ensures a classes r tables code image f w.reads) f.classes_are (c.paths_are_read.ensures a classes r tables code image w)

@@ -1,8 +1,0 @@
-use Rattle.std.proofs.Common.{take}
-use Rattle.std.specs.List.{AllByRecursion}
-use Rattle.image_rows.specs.Places.{lent}
-use Rattle.image_reads.specs.parts.Ranges.{IsFieldInRange}
-use Rattle.image_reads.proofs.ranges.fields_in_range.Given as goal
-
-abbrev pub invariant-loop-field : goal.invariant-loop-field
-invariant-loop-field l = AllByRecursion IsFieldInRange (lent (take l.field-index l.fields))

@@ -1,8 +1,0 @@
-use Rattle.std.proofs.Common.{take}
-use Rattle.std.specs.List.{AllByRecursion}
-use Rattle.image_rows.specs.Places.{lent}
-use Rattle.image_reads.specs.parts.Ranges.{IsParamInRange}
-use Rattle.image_reads.proofs.ranges.params_in_range.Given as goal
-
-abbrev pub invariant-loop-param : goal.invariant-loop-param
-invariant-loop-param l = AllByRecursion IsParamInRange (lent (take l.param-index l.params))

@@ -1,8 +1,0 @@
-use Rattle.std.proofs.Common.{take}
-use Rattle.std.specs.List.{AllByRecursion}
-use Rattle.image_rows.specs.Places.{lent}
-use Rattle.image_reads.specs.parts.Ranges.{IsPropertyInRange}
-use Rattle.image_reads.proofs.ranges.properties_in_range.Given as goal
-
-abbrev pub invariant-loop-property : goal.invariant-loop-property
-invariant-loop-property l = AllByRecursion IsPropertyInRange (lent (take l.property-index l.properties))

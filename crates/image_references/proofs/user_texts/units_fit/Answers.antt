@@ -1,5 +1,0 @@
-use Rattle.image_references.proofs.LoadsLemmas.{all_fit}
-use Rattle.image_references.proofs.user_texts.units_fit.Goals as goal
-
-pub returns : goal.returns
-returns c = all_fit c.args._units.now (λ k. (c.type_inv._units k).fits)

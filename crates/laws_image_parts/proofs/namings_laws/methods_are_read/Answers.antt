@@ -1,0 +1,29 @@
+-- answers for src/laws.rt
+use Rattle.image_model.specs.Streams.{strings_of}
+use Rattle.laws_image_parts.proofs.namings.MembersRead.{methods_are_read}
+use Rattle.laws_image_parts.proofs.namings_laws.methods_are_read.Goals as goal
+
+pub returns : goal.returns
+returns c =
+    methods_are_read (record {
+      law = c.indexes_fit.ensures;
+      text = λ image. c.one_content_at_an_index.ensures.text (strings_of image);
+      blob = c.one_content_at_an_index.ensures.blob;
+      rows = c.rows_are_read.ensures;
+      runs = c.runs_are_read.ensures;
+      paths = c.paths_are_read.ensures;
+      owned = c.members_are_owned.ensures;
+      parents = c.parents_are_read.ensures;
+      fields = record {
+        rereads = λ tokens owners gives x bytes h. c.shortest_is_read.ensures.field owners x bytes (c.written_is_read.ensures.field tokens owners gives x bytes h);
+        one = λ owners bytes x y h fits k other. c.bytes_spell_one_signature.ensures.field owners bytes x y (h, fits.0, fits.1) (k, other.0, other.1);
+      };
+      methods = record {
+        rereads = λ tokens owners gives x bytes h. c.shortest_is_read.ensures.method owners x bytes (c.written_is_read.ensures.method tokens owners gives x bytes h);
+        one = λ owners bytes x y h fits k other. c.bytes_spell_one_signature.ensures.method owners bytes x y (h, fits.0, fits.1) (k, other.0, other.1);
+      };
+      arguments = record {
+        rereads = λ tokens owners gives x bytes h. c.shortest_is_read.ensures.instantiation owners x bytes (c.written_is_read.ensures.instantiation tokens owners gives x bytes h);
+        one = λ owners bytes x y h fits k other. c.bytes_spell_one_signature.ensures.instantiation owners bytes x y (h, fits.0, fits.1) (k, other.0, other.1);
+      };
+    })

@@ -1,0 +1,13 @@
+-- answers for src/laws.rt
+use Rattle.laws_image_reading.proofs.parts.Methods.{methods_are}
+use Rattle.laws_image_reading.proofs.parts.Signatures.{rereads_members}
+use Rattle.laws_image_reading.proofs.parts_laws.methods_are_named.Goals as goal
+
+pub returns : goal.returns
+returns c = λ a classes r tables code id kind image names h.
+    methods_are c.parts_are_read.ensures c.constants_are_read.ensures a classes r tables code id kind image names h
+    (c.rows_are_known.ensures a classes r tables code _ id kind image h.filled h.laid_out) (c.attributes_are_named.ensures a classes r tables code id kind image names h)
+    c.entry_is_read.ensures
+    (rereads_members c.written_is_read.ensures.field c.shortest_is_read.ensures.field c.written_is_read.ensures.method c.shortest_is_read.ensures.method c.written_is_read.ensures.property c.shortest_is_read.ensures.property)
+    (c.generics_are_named.ensures a classes r tables code id kind image names h)
+    (c.bodies_are_read.ensures a classes r tables code _ id kind image h.filled h.laid_out names h.back)

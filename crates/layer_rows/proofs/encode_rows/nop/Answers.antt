@@ -1,5 +1,0 @@
-use Rattle.layer_rows.proofs.Plain.{nop_plain}
-use Rattle.layer_rows.proofs.encode_rows.nop.Goals as goal
-
-pub add-requires-clause-new : goal.add-requires-clause-new
-add-requires-clause-new c = nop_plain c.args.count

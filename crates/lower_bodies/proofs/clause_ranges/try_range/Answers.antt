@@ -1,0 +1,23 @@
+use Rattle.std.proofs.Common.{◌≡◌, [], ◌∷◌, ap, sym, subst, ◌∙◌}
+use Rattle.std.specs.Prelude.{Bool, true, IfOk, if◌then◌else◌}
+use Rattle.il_lexer.specs.declared.types.TokenKind.TheVariants.{Name}
+use Rattle.ilasm_grammar.specs.declared.productions.TheConstants.{TRY_RANGE_BLOCK, TRY_RANGE_NAME}
+use Rattle.source_model.specs.Clauses.{block_in, label_range, scope_range, stands}
+use Rattle.source_model.specs.Forest.{child, leaf_at}
+use Rattle.source_syntax.specs.Readers.{IsOf}
+use Rattle.lower_bodies.specs.Ranges.{range_of}
+use Rattle.lower_bodies.proofs.RangeNames.{try_names}
+use Rattle.lower_bodies.proofs.clause_ranges.try_range.Goals as goal
+
+pub returns-then-stands : goal.returns-then-stands
+returns-then-stands c s f x code h e =
+    let named = child (TRY_RANGE_NAME ∷ []) x in
+    let on : stands TRY_RANGE_NAME x ≡ true = sym (c.stands.ensures x e) ∙ c.if-stands.true in
+    let names = try_names s x h on in
+    let below = sym (c.child-names.ensures x e) in
+    let from = c.leaf_at.ensures named below in
+    let to = c.leaf_at-then-stands.ensures named below in
+    subst (λ w. IfOk c.label_range.result (λ y. range_of y ≡ w))
+    (ap (λ k. label_range s f k c.leaf_at-then-stands.result) from ∙ ap (label_range s f (leaf_at 0 named)) to
+    ∙ sym (ap (λ (q : Bool). if q then label_range s f (leaf_at 0 named) (leaf_at 2 named) else scope_range f (block_in TRY_RANGE_BLOCK x)) on))
+    (c.label_range.ensures s f code (subst (IsOf s Name) (sym from) names.0) (subst (IsOf s Name) (sym to) names.1))

@@ -1,0 +1,13 @@
+use Rattle.std.proofs.Common.{◌≡◌, [], ◌∷◌, map, ap, sym, ◌∙◌}
+use Rattle.ilasm_grammar.specs.declared.productions.TheConstants.{TYPAR, TYPARS_OPT_SOME}
+use Rattle.source_model.specs.Forest.{child, each, leaf_at, none}
+use Rattle.source_model.specs.Values.{name_text}
+use Rattle.source_syntax.proofs.Collecting.{no_forest}
+use Rattle.lower_members.proofs.BareParams.{no_nodes}
+use Rattle.lower_members.proofs.generics.written_names.Goals as goal
+
+pub returns-then-is_empty : goal.returns-then-is_empty
+returns-then-is_empty c s f r e bodies =
+    let nothing = no_nodes c.child.result.now (sym c.is_empty.ensures ∙ c.if-is_empty.true) in
+    let empty : child (TYPARS_OPT_SOME ∷ []) f ≡ none = no_forest (child (TYPARS_OPT_SOME ∷ []) f) (sym (c.child.ensures f e) ∙ nothing) in
+    c.new.ensures ∙ sym (ap (λ g. map (λ h. name_text s (leaf_at 0 h)) (each TYPAR g)) empty)

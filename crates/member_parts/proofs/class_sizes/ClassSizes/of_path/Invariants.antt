@@ -1,8 +1,0 @@
-use Rattle.std.proofs.Common.{◌≡◌, drop}
-use Rattle.assembly_tree.specs.DataSize.{is_id}
-use Rattle.source_reading.specs.ClassNumbers.{class_numbered, id_of, outer_of}
-use Rattle.source_reading.specs.Nested.{reached}
-use Rattle.member_parts.proofs.class_sizes.ClassSizes.of_path.Given as goal
-
-abbrev pub invariant-loop-id : goal.invariant-loop-id
-invariant-loop-id l = class_numbered l.self.paths l.path ≡ reached outer_of id_of is_id l.self.paths (drop l.id-index l.path) l.number

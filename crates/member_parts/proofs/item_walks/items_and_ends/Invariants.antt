@@ -1,9 +1,0 @@
-use Rattle.std.proofs.Common.{◌+◌, ◌*◌, ◌-◌, length}
-use Rattle.member_parts.proofs.ItemWalks.{Walked}
-use Rattle.member_parts.proofs.item_walks.items_and_ends.Given as goal
-
-abbrev pub invariant-loop-step : goal.invariant-loop-step
-invariant-loop-step l = Walked l.nodes l.at l.found l.blocks
-
-abbrev pub decreases-loop-step : goal.decreases-loop-step
-decreases-loop-step l = 2 * (length l.nodes - l.at) + length l.blocks

@@ -1,9 +1,0 @@
-use Rattle.std.proofs.Common.{◌∙◌}
-use Rattle.member_rules.proofs.TwiceLemmas.{all_twice}
-use Rattle.member_rules.proofs.member_rules.member_twice.Goals as goal
-
-pub returns : goal.returns
-returns g c s r names same =
-    c.sooner.ensures
-    ∙ all_twice s c.in_ok-here.here c.in_ok-within.within (c.in_ok-here.ensures s r names same)
-    (c.in_ok-within.ensures s s.tree r names same r.nodes (c.derivations_have_bodies.ensures s r.derived).1)

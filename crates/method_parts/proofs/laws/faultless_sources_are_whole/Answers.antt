@@ -1,5 +1,0 @@
-use Rattle.method_parts.proofs.WholeLemmas.{all_whole}
-use Rattle.method_parts.proofs.laws.faultless_sources_are_whole.Goals as goal
-
-pub returns : goal.returns
-returns c s d h = all_whole c.all_are_in_range.ensures c.tokens_stand_in_order.ensures s d h

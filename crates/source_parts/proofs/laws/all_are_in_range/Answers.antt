@@ -1,5 +1,0 @@
-use Rattle.source_parts.proofs.RangeOfAll.{all_in_range}
-use Rattle.source_parts.proofs.laws.all_are_in_range.Goals as goal
-
-pub returns : goal.returns
-returns c s d e = all_in_range s (c.derivations_have_bodies.ensures s d).1 e

@@ -1,5 +1,0 @@
-use Rattle.source_reading.proofs.UnbrokenLemmas.{unbroken_is_sound}
-use Rattle.source_reading.proofs.unbroken.unbroken_signatures_are_sound.Goals as goal
-
-pub returns : goal.returns
-returns c = unbroken_is_sound

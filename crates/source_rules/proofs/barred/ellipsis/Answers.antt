@@ -1,7 +1,0 @@
-use Rattle.std.proofs.Common.{◌∷◌, [], sym}
-use Rattle.ilasm_grammar.specs.declared.productions.TheConstants.{SIGNATURE}
-use Rattle.source_model.specs.Forest.{child}
-use Rattle.source_rules.proofs.barred.ellipsis.Goals as goal
-
-pub returns : goal.returns
-returns c f e = c.first_of_parts.ensures (child (SIGNATURE ∷ []) f) (sym (c.child-signature.ensures f e))

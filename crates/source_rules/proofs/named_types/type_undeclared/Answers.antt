@@ -1,9 +1,0 @@
-use Rattle.std.proofs.Common.{◌∙◌, ap}
-use Rattle.source_reading.specs.Least.{least}
-use Rattle.source_rules.proofs.NamedTypeLemmas.{types_are}
-use Rattle.source_rules.proofs.named_types.type_undeclared.Goals as goal
-
-pub returns : goal.returns
-returns c s r e o k =
-    c.in_ok-first.ensures s r
-    ∙ ap least (types_are s c.args.externs.now.names c.args.own.now.names e.texts o.texts c.args.classes.now.paths k.knows)

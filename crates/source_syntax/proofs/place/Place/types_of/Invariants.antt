@@ -1,0 +1,17 @@
+use Rattle.std.proofs.Common.{◌≡◌, length}
+use Rattle.source_model.specs.Forest.{Forest, preorder}
+use Rattle.source_model.specs.Nodes.{Around}
+use Rattle.source_model.specs.Source.{Source}
+use Rattle.source_syntax.specs.Places.{IsAt, IsReadable}
+use Rattle.source_syntax.specs.Walk.{IsForest}
+use Rattle.source_syntax.proofs.SignatureLemmas.{Arguments}
+use Rattle.source_syntax.proofs.place.Place.types_of.Given as goal
+
+abbrev pub invariant-loop-x : goal.invariant-loop-x
+invariant-loop-x l = record {
+  forest : IsForest l.left;
+  so_far : (s : Source) (a : Around) → IsAt l.self s a → (f : Forest) → preorder f ≡ l.nodes → IsReadable s f → Arguments s a l.production f l.left l.types;
+}
+
+abbrev pub decreases-loop-x : goal.decreases-loop-x
+decreases-loop-x l = length l.left

@@ -1,6 +1,0 @@
-use Rattle.std.proofs.Common.{◌≡◌}
-use Rattle.code_flow.specs.Frames.{variables}
-use Rattle.stack_rows.proofs.framing.own_parameters.Given as goal
-
-abbrev pub invariant-loop-k : goal.invariant-loop-k
-invariant-loop-k l = l.parameters ≡ variables 0 l.k

@@ -1,5 +1,0 @@
-use Rattle.tree_weights.proofs.RowCountLemmas.{counted}
-use Rattle.tree_weights.proofs.laws.filled_is_counted.Goals as goal
-
-pub returns : goal.returns
-returns c = counted

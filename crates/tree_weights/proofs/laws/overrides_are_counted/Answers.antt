@@ -1,5 +1,0 @@
-use Rattle.tree_weights.proofs.OverrideLemmas.{counted}
-use Rattle.tree_weights.proofs.laws.overrides_are_counted.Goals as goal
-
-pub returns : goal.returns
-returns c = counted

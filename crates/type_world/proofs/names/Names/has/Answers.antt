@@ -1,9 +1,0 @@
-use Rattle.std.proofs.Common.{◌∙◌}
-use Rattle.type_world.specs.Names.{full_name}
-use Rattle.type_world.proofs.Among.{found_among}
-use Rattle.type_world.proofs.names.Names.has.Goals as goal
-
-pub returns : goal.returns
-returns c =
-    c.is_some.ensures
-    ∙ found_among c.args.self.now (full_name c.args.scope c.args.path.now) c.find.result c.find.ensures.found c.find.ensures.none

@@ -1,6 +1,0 @@
-use Rattle.std.proofs.Common.{◌≡◌, take, fold}
-use Rattle.type_world.specs.NameHash.{mix}
-use Rattle.type_world.proofs.names.mix_text.Given as goal
-
-abbrev pub invariant-loop-byte : goal.invariant-loop-byte
-invariant-loop-byte l = l.hash ≡ fold mix l.fn.hash (take l.byte-index l.text)

@@ -1,8 +1,0 @@
-use Rattle.std.proofs.Common.{take}
-use Rattle.std.specs.List.{AllByRecursion}
-use Rattle.image_rows.specs.Places.{lent}
-use Rattle.writable_trees.specs.Ranges.{IsMethodInRange}
-use Rattle.writable_trees.proofs.ranges.methods_in_range.Given as goal
-
-abbrev pub invariant-loop-method : goal.invariant-loop-method
-invariant-loop-method l = AllByRecursion IsMethodInRange (lent (take l.method-index l.methods))
