@@ -17,7 +17,6 @@ ghost use Rattle.source_syntax.specs.Places.{IsAt};
 ghost use Rattle.source_syntax.specs.Walk.{IsForest};
 
 use crate::bases::{base, is_root};
-use crate::interfaces::rising;
 use assembly_tree::Layout;
 use il_base::{Items, NoMemory};
 use ilasm_grammar::TreeNode;
@@ -27,6 +26,7 @@ use source_flags::declared_flags::type_flags;
 use source_syntax::pieces::Piece;
 use source_syntax::place::Place;
 use source_syntax::walk::{child, leaf_at};
+use sorted_owners::rising;
 use std::alloc::Global;
 use type_terms::{Owner, Owners, Scope, TypeId};
 
