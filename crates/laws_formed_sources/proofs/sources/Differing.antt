@@ -27,7 +27,7 @@ use Rattle.source_model.specs.OutOfRange.{barred_arguments, barred_in_property, 
 use Rattle.source_model.specs.References.{method_name, property_signature}
 use Rattle.source_model.specs.Signatures.{is_field_unbroken, is_method_unbroken, is_property_unbroken, not_in_property}
 use Rattle.source_model.specs.Source.{Source}
-use Rattle.source_model.specs.TypeRules.{are_unbroken, breaks_signature, first_of, is_nothing, number_in_type_out_of_range, past_count, path_too_long, scope_undeclared, typar_undeclared, typars_out_of_range, type_too_deep, type_undeclared}
+use Rattle.source_model.specs.TypeRules.{are_unbroken, breaks_signature, first_of, is_nothing, number_in_signature_out_of_range, number_in_type_out_of_range, parameter_flags_out_of_range, past_count, path_too_long, scope_undeclared, typar_undeclared, typars_out_of_range, type_too_deep, type_undeclared}
 use Rattle.source_model.specs.Types.{type_of}
 use Rattle.source_model.specs.Undeclared.{param_type_undeclared}
 use Rattle.source_model.specs.Values.{name_text}
@@ -135,10 +135,10 @@ module _ (s : Source) (declared : AllDeclared s) (bounded : AllBounded s) where
       let t = type_undeclared s n in
       let c = scope_undeclared s n in
       let v = typar_undeclared s n in
-      let k = number_in_type_out_of_range s n in
+      let k = number_in_signature_out_of_range s n in
       let d = type_too_deep s n in
       both_empty (t ++ c ++ v ++ k ++ d) (path_too_long n)
-      (both_empty (t ++ c ++ v ++ k) d (both_empty (t ++ c ++ v) k (both_empty (t ++ c) v (both_empty t c types scopes) typars) numbers) deep) paths
+      (both_empty (t ++ c ++ v ++ k) d (both_empty (t ++ c ++ v) k (both_empty (t ++ c) v (both_empty t c types scopes) typars) (empty_in k (parameter_flags_out_of_range s n) numbers).0) deep) paths
 
   pub unbroken : (c : Around) (f : Forest) → Occurs s c f → are_unbroken s (nodes_in s c f) ≡ true
   unbroken c f occurs = ap is_nothing (nothing_all (breaks_signature s) (nodes_in s c f) (λ n i. breaks_nothing n (occurs n i)))
