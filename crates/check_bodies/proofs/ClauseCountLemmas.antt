@@ -87,7 +87,7 @@ module _ (n q : ℕ) (b a : Forest) (own : is_among clause_forms q ≡ true) whe
 
 -- ---- the first past the most
 
-least_of : Result ℕ ℕ → Option ℕ
+abbrev least_of : Result ℕ ℕ → Option ℕ
 least_of (Ok n) = None
 least_of (Err token) = Some token
 
