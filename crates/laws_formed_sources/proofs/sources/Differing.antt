@@ -14,6 +14,7 @@ use Rattle.std.specs.declared.cmp.Ordering.TheVariants.{Less, Equal, Greater}
 use Rattle.std.proofs.lemmas.Bool.{and_from, and_parts, cases_Bool}
 use Rattle.type_terms.specs.Order.{term_order}
 use Rattle.type_terms.specs.declared.term.SigType.{SigType}
+use Rattle.type_terms.specs.Same as terms
 use Rattle.assembly_tree.specs.WellFormedMembers as formed
 use Rattle.assembly_tree.specs.WellFormedMembers.{is_same_signature, is_same_text, is_same_type}
 use Rattle.assembly_tree.specs.WellFormedNames.{all_differ}
@@ -263,7 +264,7 @@ module _ (total : IsTotalOrder term_order) (s : Source) (a : Around) where
   types_turned (x ∷ xs) (y ∷ ys) = and_same (is_same_type x y) (is_same_type y x) (pointwise is_same_type xs ys) (pointwise is_same_type ys xs) (type_turned x y) (types_turned xs ys)
 
   signature_turned : (x y : MethodSig) → is_same_signature x y ≡ is_same_signature y x
-  unfolding formed.is_same_signature
+  unfolding terms.is_same_signature
   signature_turned x y =
       and_same _ _ (pointwise is_same_type x.params y.params) (pointwise is_same_type y.params x.params)
       (and_same _ _ (is_same_type x.ret y.ret) (is_same_type y.ret x.ret)
