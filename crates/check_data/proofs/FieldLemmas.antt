@@ -81,12 +81,12 @@ is_below size length (Some n) k small e =
     go true false x y h = let less = ltb-true length size x in let more = ltb-false n size y in absurd (omega (arith, h, less, more, small))
     go false true x y h = let more = ltb-false length size x in let less = ltb-true n size y in absurd (omega (arith, h, less, more, small))
 
-pub some_short : (size length k : ℕ) (data : Option (Option ℕ)) → size < 2 ^ 32 → Some length ≡ option_map counted_by data
-    → (if nat_lt length size then Some k else None) ≡ label_below size (flat data) k
+pub some_short : (size length k : ℕ) (known : Option (Option ℕ)) → size < 2 ^ 32 → Some length ≡ option_map counted_by known
+    → (if nat_lt length size then Some k else None) ≡ label_below size (flat known) k
 some_short size length k None small e = absurd cc
 some_short size length k (Some asked) small e = is_below size length asked k small (same_Some length (counted_by asked) e)
 
-pub none_short : (size k : ℕ) (data : Option (Option ℕ)) → None ≡ option_map counted_by data → None ≡ label_below size (flat data) k
+pub none_short : (size k : ℕ) (known : Option (Option ℕ)) → None ≡ option_map counted_by known → None ≡ label_below size (flat known) k
 none_short size k None e = refl
 none_short size k (Some asked) e = absurd cc
 

@@ -208,7 +208,7 @@ fn mapped_faults(
 
 // The label of data with fewer bytes than the field has, from its length as it is counted.
 fn label_if_short(size: u32, length: Option<u64>, token: u32) -> Option<u32>
-    ensures { (data : Option (Option ℕ)) → length ≡ option_map counted_by data → result ≡ label_below size (flat data) token }
+    ensures { (known : Option (Option ℕ)) → length ≡ option_map counted_by known → result ≡ label_below size (flat known) token }
 {
     match length {
         Some(length) => label_if(length < u64::from(size), token),

@@ -91,10 +91,7 @@ fn number_in_type(
         IfOk result (λ k. k ≡ least (number_in_type s n)) }
 {
     let signature = number_in_signature(alloc, reader, production, below)?;
-    Ok(sooner(
-        signature,
-        parameter_flags_number(reader, production, below),
-    ))
+    Ok(sooner(signature, parameter_flags_number(reader, production, below)))
 }
 
 /// The least number or count of a type or a signature that is out of its range, where this production is a part of one.

@@ -22,11 +22,11 @@ use il_base::{Items, NoMemory};
 use ilasm_grammar::TreeNode;
 use ilasm_grammar::productions::IMPLEMENTS_OPT_SOME;
 use lower_members::layouts::layout;
+use sorted_owners::rising;
 use source_flags::declared_flags::type_flags;
 use source_syntax::pieces::Piece;
 use source_syntax::place::Place;
 use source_syntax::walk::{child, leaf_at};
-use sorted_owners::rising;
 use std::alloc::Global;
 use type_terms::{Owner, Owners, Scope, TypeId};
 

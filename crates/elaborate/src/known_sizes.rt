@@ -58,10 +58,7 @@ fn stated_sizes(alloc: Global, reader: &Reader) -> Result<ClassSizes, NoMemory>
 }
 
 // The sizes that are known.
-fn known_of(
-    alloc: Global,
-    asked: &[Option<Option<u32>>],
-) -> Result<Items<Option<u32>>, NoMemory>
+fn known_of(alloc: Global, asked: &[Option<Option<u32>>]) -> Result<Items<Option<u32>>, NoMemory>
     ensures { IfOk result (λ sizes. sizes ≡ map known_size asked.now) }
 {
     let mut sizes = Items::with_capacity(alloc, asked.len())?;
