@@ -241,15 +241,15 @@ module _ (s : Source) where
 
 found_of_each : {X : Type 0} (P : X → Type 0) (chosen test : X → Bool) (xs : List X) (x : X) → AllByRecursion P xs → find test (filter chosen xs) ≡ Some x → P x
 found_of_each P chosen test [] x h e = absurd cc
-found_of_each P chosen test (y ∷ ys) x h e = go (chosen y) e
+found_of_each P chosen test (y ∷ ys) x h e = go (chosen y) (λ i. found_of_each P chosen test ys x h.1 i) e
   where
-    within : (c : Bool) → cond c (Some y) (find test (filter chosen ys)) ≡ Some x → P x
-    within true e = subst P (same_Some y x e) h.0
-    within false e = found_of_each P chosen test ys x h.1 e
+    within : (c : Bool) → (find test (filter chosen ys) ≡ Some x → P x) → cond c (Some y) (find test (filter chosen ys)) ≡ Some x → P x
+    within true later e = subst P (same_Some y x e) h.0
+    within false later e = later e
 
-    go : (c : Bool) → find test (cond c (y ∷ filter chosen ys) (filter chosen ys)) ≡ Some x → P x
-    go true e = within (test y) e
-    go false e = found_of_each P chosen test ys x h.1 e
+    go : (c : Bool) → (find test (filter chosen ys) ≡ Some x → P x) → find test (cond c (y ∷ filter chosen ys) (filter chosen ys)) ≡ Some x → P x
+    go true later e = within (test y) later e
+    go false later e = later e
 
 -- ---- a faultless source
 
