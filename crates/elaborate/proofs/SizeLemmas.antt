@@ -50,9 +50,9 @@ ranged_after s before p = is_32_bits (int_at s (leaf_at 1 p.below))
 
 last_ranged : (s : Source) (ps : List Part) (before : Bool) → AllByRecursion (IsRanged s) ps → before ≡ true
     → fold (ranged_after s) before (filter (λ p. p.production == MEMBER_SIZE) ps) ≡ true
-last_ranged s [] before h yes = yes
-last_ranged s (p ∷ ps) before h yes =
-    go (p.production == MEMBER_SIZE) refl (λ first. last_ranged s ps (ranged_after s before p) h.1 first) (last_ranged s ps before h.1 yes)
+last_ranged s [] before h so = so
+last_ranged s (p ∷ ps) before h so =
+    go (p.production == MEMBER_SIZE) refl (λ first. last_ranged s ps (ranged_after s before p) h.1 first) (last_ranged s ps before h.1 so)
   where
     go : (c : Bool) → (p.production == MEMBER_SIZE) ≡ c
         → (ranged_after s before p ≡ true → fold (ranged_after s) (ranged_after s before p) (filter (λ q. q.production == MEMBER_SIZE) ps) ≡ true)
