@@ -55,7 +55,7 @@ returns-in-Ok-eq0 t c f e =
     (λ i b a h.
     let below = h ∙ sym c.split_at.ensures.front in
     left_itself c.loop-node.more q b a own c.first_token.result c.in-Ok-eq0.field-0
-    (sym c.in-Ok-eq0.is ∙ c.clauses_left.ensures b below) c.in-Ok-eq0.field-0-is (c.first_token.ensures b below))
+    (sym c.in-Ok-eq0.is ∙ c.clauses_left.ensures b below) c.in-Ok-eq0.field-0-test (c.first_token.ensures b below))
     (c.in-Some.ensures ∙ ap (λ n. n ∷ c.in-Some.rest.now) c.in-Branch.is) c.loop-node.invariant.steps tt f e
 
 pub returns-in-Err : goal.returns-in-Err
@@ -83,7 +83,7 @@ loop-node-preserved-then-is_clause t c =
       steps = subst (λ left. Steps next whole c.args.nodes.now left) (sym c.split_at.ensures.back)
           (step_past_branch c.forests_open.ensures now next whole c.args.nodes.now q c.in-Branch.count c.loop-node.left.now c.in-Some.rest.now
           (λ i b a h.
-          left_past c.loop-node.more q b a own c.in-Ok.within (sym c.in-Ok.is ∙ c.clauses_left.ensures b (h ∙ sym c.split_at.ensures.front)) c.in-Ok.within-is)
+          left_past c.loop-node.more q b a own c.in-Ok.within (sym c.in-Ok.is ∙ c.clauses_left.ensures b (h ∙ sym c.split_at.ensures.front)) c.in-Ok.within-test)
           is c.loop-node.invariant.steps);
     }
 

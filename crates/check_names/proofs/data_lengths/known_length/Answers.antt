@@ -11,8 +11,8 @@ use Rattle.source_model.specs.OutOfRange.{stands_too_often}
 use Rattle.check_names.proofs.DataLemmas.{is_bytes}
 use Rattle.check_names.proofs.data_lengths.known_length.Goals as goal
 
-pub returns-in_ok-bytes : goal.returns-in_ok-bytes
-returns-in_ok-bytes c s f r e fits =
+pub returns-then-production-eq-DATA_ITEM_BYTES : goal.returns-then-production-eq-DATA_ITEM_BYTES
+returns-then-production-eq-DATA_ITEM_BYTES c s f r e fits =
     let p = c.args.production in
     let own : (p == DATA_ITEM_BYTES) ≡ true = (Decides-eqb p DATA_ITEM_BYTES).1 c.if-production-eq-DATA_ITEM_BYTES.true in
     let few : stands_too_often s f ≡ false = (c.in-Some.ensures s f r e).0 in
