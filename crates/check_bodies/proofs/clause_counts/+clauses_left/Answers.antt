@@ -83,7 +83,7 @@ loop-node-preserved-then-is_clause t c =
       steps = subst (λ left. Steps next whole c.args.nodes.now left) (sym c.split_at.ensures.back)
           (step_past_branch c.forests_open.ensures now next whole c.args.nodes.now q c.in-Branch.count c.loop-node.left.now c.in-Some.rest.now
           (λ i b a h.
-          left_past c.loop-node.more q b a own c.in-Ok.within (sym c.in-Ok.is ∙ c.clauses_left.ensures b (h ∙ sym c.split_at.ensures.front)) c.in-Ok.within-test)
+          left_past c.loop-node.more q b a own c.in-Ok.within (sym c.in-Ok.is ∙ c.clauses_left.ensures b (h ∙ sym c.split_at.ensures.front)) c.in-Ok.within-test.1)
           is c.loop-node.invariant.steps);
     }
 

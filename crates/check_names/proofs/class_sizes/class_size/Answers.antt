@@ -9,4 +9,4 @@ pub returns-in-Some-eq0 : goal.returns-in-Some-eq0
 returns-in-Some-eq0 c s f r e = no_size_there s f c.in-Some-eq0.field-0 c.in-Some-eq0.field-0-test (sym c.in-Some-eq0.is ∙ c.last_size.ensures s f r e)
 
 pub returns-in-Some : goal.returns-in-Some
-returns-in-Some c s f r e = some_size s f c.in-Some.size c.in-Some.size-test (sym c.in-Some.is ∙ c.last_size.ensures s f r e)
+returns-in-Some c s f r e = some_size s f c.in-Some.size c.in-Some.size-test.1 (sym c.in-Some.is ∙ c.last_size.ensures s f r e)
