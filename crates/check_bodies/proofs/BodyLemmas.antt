@@ -121,8 +121,8 @@ no_clauses tree.none e = refl
 no_clauses (tree.leaf k f) e = no_clauses f e
 no_clauses (tree.branch p b f) e =
     let plain = plain_branch p b f e in
-    ap (λ (c : Bool). (if c then b ∷ [] else []) ++ (clauses_in b ++ clauses_in f)) (no_clause p plain.other)
-    ∙ ap (λ xs. xs ++ clauses_in f) (no_clauses b plain.below)
+    ap (λ (c : Bool). (clauses_in b ++ (if c then b ∷ [] else [])) ++ clauses_in f) (no_clause p plain.other)
+    ∙ ap (λ xs. (xs ++ []) ++ clauses_in f) (no_clauses b plain.below)
     ∙ no_clauses f plain.after
 
 pub none_guarded : (t f : Forest) → is_plain (preorder f) ≡ true → guarded_in t f ≡ []

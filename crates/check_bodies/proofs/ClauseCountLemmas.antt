@@ -1,87 +1,104 @@
 -- The clauses of a method, counted one by one.
-use Rattle.std.proofs.Common.{◌≡◌, ℕ, zero, suc, ◌-◌, List, [], ◌∷◌, ◌++◌, drop, map, ap, sym, ◌∙◌, refl, arith, append_assoc}
-use Rattle.std.specs.Prelude.{Bool, true, false, Option, None, Some, if◌then◌else◌}
+use Rattle.std.proofs.Common.{◌≡◌, ℕ, zero, suc, ◌-◌, List, [], ◌∷◌, ◌++◌, drop, map, ap, sym, ◌∙◌, refl, arith, append_assoc, append-nil}
+use Rattle.std.specs.Prelude.{◌==◌, Bool, true, false, Option, None, Some, if◌then◌else◌, Result, Ok, Err}
+use Rattle.std.proofs.lemmas.List.{map-append}
+use Rattle.ilasm_grammar.specs.declared.productions.TheConstants.{ITEM_TRY}
 use Rattle.source_model.specs.BodyNumbers.{clause_forests}
-use Rattle.source_model.specs.Clauses.{clause_forms}
+use Rattle.source_model.specs.Clauses.{Guarded, clause_forms, guarded_in}
 use Rattle.source_model.specs.Forest as tree
-use Rattle.source_model.specs.Forest.{Forest, first_token, is_among, joined}
-use Rattle.source_model.specs.Nodes.{Around, Node, entered, nodes_in, nodes_of}
-use Rattle.source_model.specs.Source.{Source}
-use Rattle.source_model.specs.TypeRules.{first_of}
+use Rattle.source_model.specs.Forest.{Forest, first_token, is_among, joined, part}
+use Rattle.source_model.specs.TypeRules.{first_of, past_count}
 use Rattle.source_syntax.specs.Least.{least}
-use Rattle.check_bodies.specs.ClauseCounts.{clauses_in}
-use Rattle.check_visitor.proofs.RepeatLemmas.{drop_none}
+use Rattle.check_bodies.specs.ClauseCounts.{clauses_in, clauses_left}
 
 -- ---- the clauses of the model
 
-abbrev below_of : List Node → List Forest
-below_of ns = map (λ n. n.below) ns
+abbrev below_of : Guarded → Forest
+below_of g = g.clause.below
 
-chosen_append : (sought : List ℕ) (ms ns : List Node) → below_of (nodes_of sought (ms ++ ns)) ≡ below_of (nodes_of sought ms) ++ below_of (nodes_of sought ns)
-chosen_append sought [] ns = refl
-chosen_append sought (m ∷ ms) ns = go (is_among sought m.production) (chosen_append sought ms ns)
+clauses_tried : (tried f : Forest) → map below_of (guarded_in tried f) ≡ clauses_in f
+clauses_tried tried tree.none = refl
+clauses_tried tried (tree.leaf k f) = clauses_tried tried f
+clauses_tried tried (tree.branch p b f) =
+    let inner : Forest = if p == ITEM_TRY then b else tried in
+    let own : List Guarded = if is_among clause_forms p then record { tried = tried; clause = part p b } ∷ [] else [] in
+    map-append below_of (guarded_in inner b ++ own) (guarded_in tried f)
+    ∙ ap (λ fs. fs ++ map below_of (guarded_in tried f)) (map-append below_of (guarded_in inner b) own)
+    ∙ ap (λ fs. (fs ++ map below_of own) ++ map below_of (guarded_in tried f)) (clauses_tried inner b)
+    ∙ ap (λ fs. (clauses_in b ++ fs) ++ map below_of (guarded_in tried f)) (decided (is_among clause_forms p))
+    ∙ ap (λ fs. (clauses_in b ++ (if is_among clause_forms p then b ∷ [] else [])) ++ fs) (clauses_tried tried f)
   where
-    go : (c : Bool) → below_of (nodes_of sought (ms ++ ns)) ≡ below_of (nodes_of sought ms) ++ below_of (nodes_of sought ns)
-        → below_of (if c then m ∷ nodes_of sought (ms ++ ns) else nodes_of sought (ms ++ ns))
-        ≡ below_of (if c then m ∷ nodes_of sought ms else nodes_of sought ms) ++ below_of (nodes_of sought ns)
-    go true rest = ap (λ fs. m.below ∷ fs) rest
-    go false rest = rest
+    decided : (c : Bool) → map below_of (if c then record { tried = tried; clause = part p b } ∷ [] else []) ≡ (if c then b ∷ [] else [])
+    decided true = refl
+    decided false = refl
 
-pub clauses_are : (s : Source) (f : Forest) (a : Around) → clause_forests s a f ≡ clauses_in f
-clauses_are s tree.none a = refl
-clauses_are s (tree.leaf k f) a = clauses_are s f a
-clauses_are s (tree.branch q b f) a =
-    let e = entered s a q b in
-    let n : Node = record { production = q; below = b; around = e } in
-    let own : List Forest = if is_among clause_forms q then b ∷ [] else [] in
-    let inner = nodes_of clause_forms (nodes_in s e b) in
-    let rest = nodes_of clause_forms (nodes_in s a f) in
-    chosen_append clause_forms (n ∷ nodes_in s e b) (nodes_in s a f)
-    ∙ ap (λ fs. fs ++ below_of rest) (decided n inner (is_among clause_forms q))
-    ∙ append_assoc own (below_of inner) (below_of rest)
-    ∙ ap (λ fs. own ++ (fs ++ below_of rest)) (clauses_are s b e)
-    ∙ ap (λ fs. own ++ (clauses_in b ++ fs)) (clauses_are s f a)
-  where
-    decided : (n : Node) (ms : List Node) (c : Bool) → below_of (if c then n ∷ ms else ms) ≡ (if c then n.below ∷ [] else []) ++ below_of ms
-    decided n ms true = refl
-    decided n ms false = refl
+pub clauses_are : (f : Forest) → clause_forests f ≡ clauses_in f
+clauses_are f = clauses_tried tree.none f
 
--- ---- those behind so many
+-- ---- how many more may stand
 
-abbrev pub behind : ℕ → Unit {0} → Forest → Option ℕ
-behind skip i f = least (first_of (drop skip (clauses_in f)))
+-- and behind these, others
+abbrev and_then : Result ℕ ℕ → List Forest → Result ℕ ℕ
+and_then (Ok n) fs = clauses_left n fs
+and_then (Err token) fs = Err token
+
+left_append : (n : ℕ) (xs ys : List Forest) → clauses_left n (xs ++ ys) ≡ and_then (clauses_left n xs) ys
+left_append n [] ys = refl
+left_append zero (x ∷ xs) ys = refl
+left_append (suc n) (x ∷ xs) ys = left_append n xs ys
+
+abbrev pub left_of : ℕ → Unit {0} → Forest → Result ℕ ℕ
+left_of n i f = clauses_left n (clauses_in f)
 
 clauses_joined : (b a : Forest) → clauses_in (joined b a) ≡ clauses_in b ++ clauses_in a
 clauses_joined tree.none a = refl
 clauses_joined (tree.leaf k f) a = clauses_joined f a
 clauses_joined (tree.branch p b f) a =
     let own : List Forest = if is_among clause_forms p then b ∷ [] else [] in
-    ap (λ fs. own ++ (clauses_in b ++ fs)) (clauses_joined f a)
-    ∙ ap (λ fs. own ++ fs) (sym (append_assoc (clauses_in b) (clauses_in f) (clauses_in a)))
-    ∙ sym (append_assoc own (clauses_in b ++ clauses_in f) (clauses_in a))
+    ap (λ fs. (clauses_in b ++ own) ++ fs) (clauses_joined f a) ∙ sym (append_assoc (clauses_in b ++ own) (clauses_in f) (clauses_in a))
 
-at_clause : (q : ℕ) (b a : Forest) (c : Bool) → is_among clause_forms q ≡ c → clauses_in (tree.branch q b a) ≡ (if c then b ∷ [] else []) ++ clauses_in (joined b a)
-at_clause q b a c e =
-    ap (λ (d : Bool). (if d then b ∷ [] else []) ++ (clauses_in b ++ clauses_in a)) e ∙ ap (λ fs. (if c then b ∷ [] else []) ++ fs) (sym (clauses_joined b a))
+pub left_other : (n q : ℕ) (b a : Forest) → is_among clause_forms q ≡ false → left_of n tt (joined b a) ≡ left_of n tt (tree.branch q b a)
+left_other n q b a e =
+    ap (clauses_left n) (clauses_joined b a ∙ ap (λ fs. fs ++ clauses_in a) (sym (append-nil (clauses_in b)))
+    ∙ sym (ap (λ (c : Bool). (clauses_in b ++ (if c then b ∷ [] else [])) ++ clauses_in a) e))
 
-pub behind_other : (skip q : ℕ) (b a : Forest) → is_among clause_forms q ≡ false → behind skip tt (joined b a) ≡ behind skip tt (tree.branch q b a)
-behind_other skip q b a e = ap (λ fs. least (first_of (drop skip fs))) (sym (at_clause q b a false e))
+module _ (n q : ℕ) (b a : Forest) (own : is_among clause_forms q ≡ true) where
+  -- those within the clause, itself and those after it
+  at_clause : left_of n tt (tree.branch q b a) ≡ and_then (and_then (left_of n tt b) (b ∷ [])) (clauses_in a)
+  at_clause =
+      ap (λ (c : Bool). clauses_left n ((clauses_in b ++ (if c then b ∷ [] else [])) ++ clauses_in a)) own
+      ∙ left_append n (clauses_in b ++ b ∷ []) (clauses_in a)
+      ∙ ap (λ r. and_then r (clauses_in a)) (left_append n (clauses_in b) (b ∷ []))
 
-one_fewer : (skip : ℕ) (f : Forest) (fs : List Forest) → (skip ≡ 0 → ⊥) → drop (skip - 1) fs ≡ drop skip (f ∷ fs)
-one_fewer zero f fs some = absurd (some refl)
-one_fewer (suc skip) f fs some = let same : suc skip - 1 ≡ skip = omega arith in ap (λ n. drop n fs) same
+  pub left_within : (token : ℕ) → Err token ≡ left_of n tt b → Err token ≡ left_of n tt (tree.branch q b a)
+  left_within token e = ap (λ r. and_then (and_then r (b ∷ [])) (clauses_in a)) e ∙ sym at_clause
 
-pub behind_clause : (skip q : ℕ) (b a : Forest) → is_among clause_forms q ≡ true → (skip ≡ 0 → ⊥) → behind (skip - 1) tt (joined b a) ≡ behind skip tt (tree.branch q b a)
-behind_clause skip q b a e some =
-    ap (λ fs. least (first_of fs)) (one_fewer skip b (clauses_in (joined b a)) some)
-    ∙ ap (λ fs. least (first_of (drop skip fs))) (sym (at_clause q b a true e))
+  pub left_itself : (token within : ℕ) → Ok within ≡ left_of n tt b → within ≡ 0 → token ≡ first_token b → Err token ≡ left_of n tt (tree.branch q b a)
+  left_itself token within e none is =
+      ap (λ k. Err k) is ∙ ap (λ k. and_then (and_then (Ok k) (b ∷ [])) (clauses_in a)) (sym none)
+      ∙ ap (λ r. and_then (and_then r (b ∷ [])) (clauses_in a)) e ∙ sym at_clause
 
-pub behind_first : (skip q token : ℕ) (b a : Forest) → is_among clause_forms q ≡ true → skip ≡ 0 → token ≡ first_token b
-    → Some token ≡ behind skip tt (tree.branch q b a)
-behind_first skip q token b a e none is =
-    ap Some is
-    ∙ ap (λ fs. least (first_of fs)) (sym (at_clause q b a true e))
-    ∙ ap (λ n. least (first_of (drop n (clauses_in (tree.branch q b a))))) (sym none)
+  pub left_past : (within : ℕ) → Ok within ≡ left_of n tt b → (within ≡ 0 → ⊥) → left_of (within - 1) tt a ≡ left_of n tt (tree.branch q b a)
+  left_past within e some = go within some ∙ ap (λ r. and_then (and_then r (b ∷ [])) (clauses_in a)) e ∙ sym at_clause
+    where
+      go : (k : ℕ) → (k ≡ 0 → ⊥) → left_of (k - 1) tt a ≡ and_then (and_then (Ok k) (b ∷ [])) (clauses_in a)
+      go zero some = absurd (some refl)
+      go (suc k) some = let same : suc k - 1 ≡ k = omega arith in ap (λ m. left_of m tt a) same
 
-pub behind_none : (skip : ℕ) → None ≡ behind skip tt tree.none
-behind_none skip = ap (λ fs. least (first_of fs)) (sym (drop_none skip [] refl))
+-- ---- the first past the most
+
+abbrev least_of : Result ℕ ℕ → Option ℕ
+least_of (Ok n) = None
+least_of (Err token) = Some token
+
+past_is : (n : ℕ) (fs : List Forest) → least_of (clauses_left n fs) ≡ least (first_of (drop n fs))
+past_is zero [] = refl
+past_is (suc n) [] = refl
+past_is zero (f ∷ fs) = refl
+past_is (suc n) (f ∷ fs) = past_is n fs
+
+pub none_past : (f : Forest) (n : ℕ) → Ok n ≡ clauses_left 65535 (clauses_in f) → None ≡ least (past_count (clauses_in f))
+none_past f n e = ap least_of e ∙ past_is 65535 (clauses_in f)
+
+pub one_past : (f : Forest) (token : ℕ) → Err token ≡ clauses_left 65535 (clauses_in f) → Some token ≡ least (past_count (clauses_in f))
+one_past f token e = ap least_of e ∙ past_is 65535 (clauses_in f)

@@ -6,7 +6,8 @@ use Rattle.std.specs.Prelude.{min, Some}
 use Rattle.opcode_table.specs.Opcodes as opcodes
 use Rattle.opcode_table.specs.declared.kind.OperandKind.{OperandKind}
 use Rattle.opcode_table.specs.declared.op.Op.{Op}
-use Rattle.assembly_tree.specs.WellFormedBodies.{opcode_size, operand_kind, size_of}
+use Rattle.assembly_tree.specs.WellFormedBodies.{operand_kind, size_of}
+use Rattle.opcode_table.specs.Sizes.{opcode_size}
 use Rattle.source_model.specs.Bodies.{code}
 use Rattle.source_model.specs.Forest.{Forest, Part, preorder}
 use Rattle.source_model.specs.Instructions.{instructions_of, op_of}

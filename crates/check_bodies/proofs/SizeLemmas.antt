@@ -9,7 +9,8 @@ use Rattle.opcode_table.specs.Opcodes as opcodes
 use Rattle.opcode_table.specs.declared.kind.OperandKind.{OperandKind}
 use Rattle.opcode_table.specs.declared.kind.OperandKind.TheVariants as kind
 use Rattle.opcode_table.specs.declared.op.Op.{Op}
-use Rattle.assembly_tree.specs.WellFormedBodies.{bytes_in, opcode_size, operand_kind, operand_size, offset_of, reaches_at, size_of, targets_size}
+use Rattle.opcode_table.specs.Sizes.{bytes_in, opcode_size}
+use Rattle.assembly_tree.specs.WellFormedBodies.{operand_kind, operand_size, offset_of, reaches_at, size_of, targets_size}
 use Rattle.assembly_tree.specs.declared.body.Ins.{Ins}
 use Rattle.assembly_tree.specs.declared.body.Operand.{Operand}
 use Rattle.assembly_tree.specs.declared.body.Operand.TheVariants as operand

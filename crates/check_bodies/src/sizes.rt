@@ -1,7 +1,7 @@
 //! The sizes of instructions as they are written, and where they stand in code (ECMA-335 II.25.4, III.1.2, III.3.66).
 
 ghost use Rattle.std.specs.Prelude.{◌≡◌, ◌+◌, ◌*◌, length, IfOk};
-ghost use Rattle.assembly_tree.specs.WellFormedBodies.{opcode_size, operand_kind, size_of};
+ghost use Rattle.assembly_tree.specs.WellFormedBodies.{size_of};
 ghost use Rattle.source_model.specs.Bodies.{code};
 ghost use Rattle.source_model.specs.Forest.{Forest, Part, preorder};
 ghost use Rattle.source_model.specs.Instructions.{instructions_of};
@@ -15,7 +15,7 @@ ghost use Rattle.source_syntax.specs.Walk.{IsForest};
 
 use il_base::{Items, NoMemory};
 use ilasm_grammar::{TreeNode, productions};
-use opcode_table::{Op, OperandKind, bytes_of, kind_of};
+use opcode_table::{OperandKind, kind_of, opcode_size};
 use source_syntax::labels::push_targets;
 use source_syntax::operations::op_of;
 use source_syntax::pieces::{Piece, nodes_of};
@@ -61,17 +61,6 @@ fn size_of(
     let op = op_of(reader, below);
     let targets = targets_bytes(alloc, production, below)?;
     Ok(opcode_size(op).saturating_add(size_by(kind_of(op), targets)))
-}
-
-// The bytes of an opcode.
-#[tactic(auto, unfolding(assembly_tree::specs::WellFormedBodies::opcode_size))]
-fn opcode_size(op: Op) -> usize
-    ensures { result ≡ opcode_size op }
-{
-    match bytes_of(op) {
-        (_, None) => 1,
-        (_, Some(_)) => 2,
-    }
 }
 
 // The bytes of an operand of this kind, where targets behind `switch` would take so many.

@@ -4,26 +4,26 @@ use Rattle.std.specs.Prelude.{Bool, true, false, ◌==◌, ◌||◌, if◌then�
 use Rattle.std.specs.List.{list_any}
 use Rattle.std.proofs.lemmas.Bool.{cases_Bool}
 use Rattle.type_terms.specs.declared.name.TypeId.{TypeId}
-use Rattle.assembly_tree.specs.DataSize.{is_id, layout_size}
+use Rattle.assembly_tree.specs.DataSize.{is_id}
 use Rattle.ilasm_grammar.specs.declared.productions.TheConstants.{CLASS, METHOD}
-use Rattle.source_model.specs.Data.{class_layout, layout}
 use Rattle.source_model.specs.Forest as tree
 use Rattle.source_model.specs.Forest.{Forest}
 use Rattle.source_model.specs.Names.{class_at, classes, is_path, module_path}
 use Rattle.source_model.specs.Nodes.{Around, Node, class_token, entered, nodes, nodes_in, nodes_of, nothing_around, type_id}
+use Rattle.source_model.specs.OutOfRange.{asked_class_size, asked_size_at}
 use Rattle.source_model.specs.Source.{Source}
 use Rattle.source_syntax.specs.ClassNumbers.{Knows, class_numbered, id_of, outer_of}
 use Rattle.source_syntax.specs.declared.class_paths.ClassName.{ClassName}
 use Rattle.source_syntax.proofs.ClassLemmas.{id_itself, id_same, path_itself, path_same}
 use Rattle.source_syntax.proofs.NestedLemmas.{to_within}
 use Rattle.check_names.specs.DeclaredClasses.{declared_paths, inner_path}
-use Rattle.check_data.specs.DeclaredSizes.{AreFilled, AreKnown, AreSizes, AreUnknown, ClassSize, counted_size, first_size, flat, size_list, size_numbered}
+use Rattle.check_data.specs.DeclaredSizes.{AreFilled, AreKnown, AreSizes, AreUnknown, ClassSize, first_size, flat, size_list, size_numbered}
 use Rattle.check_data.proofs.SizeWalks.{size_of}
 
 -- ---- the classes of a source
 
 abbrev node_size : Source → Node → ClassSize
-node_size s n = record { path = n.around.path; size = counted_size (layout_size (layout s n.below)) }
+node_size s n = record { path = n.around.path; size = asked_class_size s n.below }
 
 abbrev listed_sizes : Source → List Node → List ClassSize
 listed_sizes s ns = map (node_size s) (nodes_of (CLASS ∷ []) ns)
@@ -81,7 +81,7 @@ module _ (s : Source) where
       go : (c : Bool) → (p == CLASS) ≡ c
           → (if c then node_size s (record { production = p; below = b; around = entered s a p b }) ∷ [] else []) ++ size_list s (entered s a p b).path b
           ≡ (if c then size_of s a.path b ∷ size_list s (inner_path s a.path b) b else size_list s a.path b)
-      go true e = ap (λ path. record { path = path; size = counted_size (layout_size (layout s b)) } ∷ size_list s path b) (inner_is a p b e)
+      go true e = ap (λ path. record { path = path; size = asked_class_size s b } ∷ size_list s path b) (inner_is a p b e)
       go false e = ap (λ path. size_list s path b) (outer_is a p b e)
 
   all_listed : map (node_size s) (classes s) ≡ size_list s [] s.tree
@@ -91,13 +91,13 @@ module _ (s : Source) where
   -- ---- the first with a path
 
   first_is : (path : List TypeId) (ns : List Node) → flat (first_size path (map (node_size s) ns))
-      ≡ counted_size (layout_size (class_layout s (find (λ n. is_path n.around.path path) ns)))
+      ≡ asked_size_at s (find (λ n. is_path n.around.path path) ns)
   first_is path [] = refl
   first_is path (n ∷ ns) = go (is_path n.around.path path) (first_is path ns)
     where
-      go : (b : Bool) → flat (first_size path (map (node_size s) ns)) ≡ counted_size (layout_size (class_layout s (find (λ m. is_path m.around.path path) ns)))
-          → flat (if b then Some (counted_size (layout_size (layout s n.below))) else first_size path (map (node_size s) ns))
-          ≡ counted_size (layout_size (class_layout s (cond b (Some n) (find (λ m. is_path m.around.path path) ns))))
+      go : (b : Bool) → flat (first_size path (map (node_size s) ns)) ≡ asked_size_at s (find (λ m. is_path m.around.path path) ns)
+          → flat (if b then Some (asked_class_size s n.below) else first_size path (map (node_size s) ns))
+          ≡ asked_size_at s (cond b (Some n) (find (λ m. is_path m.around.path path) ns))
       go true e = refl
       go false e = e
 
@@ -169,11 +169,11 @@ module _ (s : Source) (cs : List ClassName) (knows : Knows cs (declared_paths s)
   sizes_are sizes all path = go path (class_numbered cs path) refl
     where
       go : (p : List TypeId) (o : Option ℕ) → class_numbered cs p ≡ o
-          → size_numbered sizes o ≡ counted_size (layout_size (class_layout s (class_at s p)))
+          → size_numbered sizes o ≡ asked_size_at s (class_at s p)
       go p (Some n) led =
           ap (λ x. flat (flat x)) (all p n led) ∙ ap (λ ds. flat (first_size p ds)) (sym (all_listed s)) ∙ first_is s p (classes s)
       go [] None led = absurd cc
       go (i ∷ more) None led =
           let none : list_any (is_path (i ∷ more)) (declared_paths s) ≡ false = sym (knows i more) ∙ ap is_some led in
           let missing = no_class (i ∷ more) (classes s) (or_both (is_path (i ∷ more) module_path) _ none) in
-          sym (ap (λ x. counted_size (layout_size (class_layout s x))) missing)
+          sym (ap (λ x. asked_size_at s x) missing)

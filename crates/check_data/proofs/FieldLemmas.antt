@@ -1,7 +1,8 @@
 -- What fields break, one by one.
-use Rattle.std.proofs.Common.{◌≡◌, ℕ, List, [], ◌∷◌, ◌++◌, Option, None, Some, length, map, ap, sym, subst, ◌∙◌, refl, arith}
+use Rattle.std.proofs.Common.{◌≡◌, ℕ, ◌<◌, ◌≤◌, ◌^◌, min, List, [], ◌∷◌, ◌++◌, Option, None, Some, length, map, ap, sym, subst, ◌∙◌, refl, arith}
 use Rattle.std.specs.Prelude.{Bool, true, false, ◌==◌, ◌||◌, if◌then◌else◌, nat_lt, option_map}
 use Rattle.std.specs.List.{flat_map}
+use Rattle.std.proofs.lemmas.Bool.{ltb-false, ltb-true}
 use Rattle.std.proofs.lemmas.Option.{same_Some}
 use Rattle.ilasm_grammar.specs.declared.productions.TheConstants.{AT_NAME, FIELD}
 use Rattle.ilasm_grammar.specs.declared.tree.TreeNode.{TreeNode}
@@ -10,7 +11,7 @@ use Rattle.source_model.specs.Data.{at_token, data_named}
 use Rattle.source_model.specs.Forest as tree
 use Rattle.source_model.specs.Forest.{Forest, Part, each, has, joined, part, preorder}
 use Rattle.source_model.specs.Nodes.{Around, Node, entered, nodes, nodes_in, nodes_of, nothing_around}
-use Rattle.source_model.specs.OutOfRange.{counted, data_named_length, data_too_short_of, data_unsized_of, field_size, label_if_none, label_if_short}
+use Rattle.source_model.specs.OutOfRange.{asked_length, data_named_length, data_too_short_of, data_unsized_of, field_size, label_if_none, label_if_short}
 use Rattle.source_model.specs.Source.{Source}
 use Rattle.source_model.specs.Values.{name_text}
 use Rattle.source_syntax.specs.Derived.{FitsBody, HasBodies}
@@ -19,9 +20,9 @@ use Rattle.source_syntax.specs.Walk.{Opens, is_of}
 use Rattle.source_syntax.specs.declared.walk.Opened.{Opened}
 use Rattle.source_syntax.proofs.Collecting.{no_forest, of_joined}
 use Rattle.source_syntax.proofs.LeastLemmas.{least_append, sooner_assoc}
-use Rattle.check_names.specs.MappedData.{counted_length}
+use Rattle.check_names.specs.MappedData.{counted_by, counted_length}
 use Rattle.check_names.proofs.MissingLemmas.{flat_filtered, flat_same}
-use Rattle.check_data.specs.DeclaredSizes.{counted_size}
+use Rattle.check_data.specs.DeclaredSizes.{flat}
 use Rattle.check_data.specs.FieldFaults.{AreDataFaults, AreFieldFaults, AreLeast, label_below, where_field}
 use Rattle.check_data.specs.declared.mapped_fields.DataFaults.{DataFaults}
 
@@ -31,24 +32,63 @@ pick : (b : Bool) (k : ℕ) → (if b then Some k else None) ≡ least (if b the
 pick true k = refl
 pick false k = refl
 
-short_by : (s : Source) (o : Option ℕ) (d : Option Forest) (size k : ℕ) → Some size ≡ counted_size o
-    → label_below size (option_map (counted_length s) d) k ≡ least (label_if_short o (data_named_length s d) k)
-short_by s None d size k e = absurd cc
-short_by s (Some m) None size k e = refl
-short_by s (Some m) (Some g) size k e =
-    ap (λ n. if nat_lt (counted_length s g) n then Some k else None) (same_Some size (counted m) e) ∙ pick (nat_lt (counted_length s g) (counted m)) k
+short_by : (o length : Option ℕ) (size k : ℕ) → Some size ≡ o → label_below size length k ≡ least (label_if_short o length k)
+short_by None length size k e = absurd cc
+short_by (Some m) None size k e = refl
+short_by (Some m) (Some l) size k e = ap (λ n. if nat_lt l n then Some k else None) (same_Some size m e) ∙ pick (nat_lt l m) k
 
-sized_by : (o : Option ℕ) (size k : ℕ) → Some size ≡ counted_size o → None ≡ least (label_if_none o k)
+sized_by : (o : Option ℕ) (size k : ℕ) → Some size ≡ o → None ≡ least (label_if_none o k)
 sized_by None size k e = absurd cc
 sized_by (Some m) size k e = refl
 
-nothing_short : (o length : Option ℕ) (k : ℕ) → None ≡ counted_size o → None ≡ least (label_if_short o length k)
+nothing_short : (o length : Option ℕ) (k : ℕ) → None ≡ o → None ≡ least (label_if_short o length k)
 nothing_short None length k e = refl
 nothing_short (Some m) length k e = absurd cc
 
-without : (o : Option ℕ) (k : ℕ) → None ≡ counted_size o → Some k ≡ least (label_if_none o k)
+without : (o : Option ℕ) (k : ℕ) → None ≡ o → Some k ≡ least (label_if_none o k)
 without None k e = refl
 without (Some m) k e = absurd cc
+
+-- what is asked of data, by what is counted of it
+pub asked_flat : (s : Source) (d : Option Forest) → flat (option_map (asked_length s) d) ≡ data_named_length s d
+asked_flat s None = refl
+asked_flat s (Some f) = refl
+
+pub counted_twice : (s : Source) (d : Option Forest) → option_map (counted_length s) d ≡ option_map counted_by (option_map (asked_length s) d)
+counted_twice s None = refl
+counted_twice s (Some f) = refl
+
+ltb-none : (m n : ℕ) → n ≤ m → nat_lt m n ≡ false
+ltb-none m n h = go (nat_lt m n) refl
+  where
+    go : (c : Bool) → nat_lt m n ≡ c → c ≡ false
+    go false e = refl
+    go true e = let less = ltb-true m n e in absurd (omega (arith, h, less))
+
+-- as many are counted as are compared
+pub is_below : (size length : ℕ) (asked : Option ℕ) (k : ℕ) → size < 2 ^ 32 → length ≡ counted_by asked → (if nat_lt length size then Some k else None) ≡ label_below size asked k
+is_below size length None k small e =
+    let large : length ≡ 0x100000000 = e in
+    let over : nat_lt length size ≡ false = ltb-none length size (omega (arith, large, small)) in
+    ap (λ (c : Bool). if c then Some k else None) over
+is_below size length (Some n) k small e =
+    let counted : length ≡ min n 0x100000000 = e in
+    ap (λ (c : Bool). if c then Some k else None) (go (nat_lt length size) (nat_lt n size) refl refl counted)
+  where
+    go : (c d : Bool) → nat_lt length size ≡ c → nat_lt n size ≡ d → length ≡ min n 0x100000000 → c ≡ d
+    go true true x y h = refl
+    go false false x y h = refl
+    go true false x y h = let less = ltb-true length size x in let more = ltb-false n size y in absurd (omega (arith, h, less, more, small))
+    go false true x y h = let more = ltb-false length size x in let less = ltb-true n size y in absurd (omega (arith, h, less, more, small))
+
+pub some_short : (size length k : ℕ) (known : Option (Option ℕ)) → size < 2 ^ 32 → Some length ≡ option_map counted_by known
+    → (if nat_lt length size then Some k else None) ≡ label_below size (flat known) k
+some_short size length k None small e = absurd cc
+some_short size length k (Some asked) small e = is_below size length asked k small (same_Some length (counted_by asked) e)
+
+pub none_short : (size k : ℕ) (known : Option (Option ℕ)) → None ≡ option_map counted_by known → None ≡ label_below size (flat known) k
+none_short size k None e = refl
+none_short size k (Some asked) e = absurd cc
 
 module _ (s : Source) (n : Node) where
   abbrev named : Option Forest
@@ -61,16 +101,16 @@ module _ (s : Source) (n : Node) where
     unsized_there : least (label_if_none (field_size s n) (at_token n.below)) ≡ least (data_unsized_of s n)
     unsized_there = sym (ap (λ (b : Bool). least (if b then label_if_none (field_size s n) (at_token n.below) else [])) at)
 
-    pub with_size : (size k : ℕ) (length short : Option ℕ) → Some size ≡ counted_size (field_size s n) → k ≡ at_token n.below
-        → length ≡ option_map (counted_length s) named → short ≡ label_below size length k
+    pub with_size : (size k : ℕ) (short : Option ℕ) → Some size ≡ field_size s n → k ≡ at_token n.below
+        → short ≡ label_below size (flat (option_map (asked_length s) named)) k
         → AreFieldFaults s n (record { short = short; without_size = None })
-    with_size size k length short e is l h = record {
-      short = h ∙ ap (λ o. label_below size o k) l ∙ ap (label_below size (option_map (counted_length s) named)) is
-          ∙ short_by s (field_size s n) named size (at_token n.below) e ∙ short_there;
+    with_size size k short e is h = record {
+      short = h ∙ ap (λ o. label_below size o k) (asked_flat s named) ∙ ap (label_below size (data_named_length s named)) is
+          ∙ short_by (field_size s n) (data_named_length s named) size (at_token n.below) e ∙ short_there;
       without-size = sized_by (field_size s n) size (at_token n.below) e ∙ unsized_there;
     }
 
-    pub without_size : (k : ℕ) → None ≡ counted_size (field_size s n) → k ≡ at_token n.below → AreFieldFaults s n (record { short = None; without_size = Some k })
+    pub without_size : (k : ℕ) → None ≡ field_size s n → k ≡ at_token n.below → AreFieldFaults s n (record { short = None; without_size = Some k })
     without_size k e is = record {
       short = nothing_short (field_size s n) (data_named_length s named) (at_token n.below) e ∙ short_there;
       without-size = ap Some is ∙ without (field_size s n) (at_token n.below) e ∙ unsized_there;

@@ -4,15 +4,15 @@ use Rattle.std.specs.Prelude.{Bool, true, false, ◌==◌, if◌then◌else◌, 
 use Rattle.std.proofs.lemmas.Option.{same_Some}
 use Rattle.std.proofs.lemmas.List.{take-append-drop}
 use Rattle.type_terms.specs.declared.name.TypeId.{TypeId}
-use Rattle.assembly_tree.specs.DataSize.{is_id, layout_size}
+use Rattle.assembly_tree.specs.DataSize.{is_id}
 use Rattle.ilasm_grammar.specs.declared.productions.TheConstants.{CLASS}
 use Rattle.ilasm_grammar.specs.declared.tree.TreeNode.{TreeNode}
 use Rattle.ilasm_grammar.specs.declared.tree.TreeNode.TheVariants.{Branch, Leaf}
-use Rattle.source_model.specs.Data.{layout}
 use Rattle.source_model.specs.Forest as tree
 use Rattle.source_model.specs.Forest.{Forest, joined, preorder}
 use Rattle.source_model.specs.Laws.{ForestOpens, ForestsJoin}
 use Rattle.source_model.specs.Names.{is_path}
+use Rattle.source_model.specs.OutOfRange.{asked_class_size}
 use Rattle.source_model.specs.Source.{Source}
 use Rattle.source_syntax.specs.ClassNumbers.{class_in, class_numbered, id_of, outer_of}
 use Rattle.source_syntax.specs.Derived.{FitsBody, HasBodies}
@@ -22,12 +22,12 @@ use Rattle.source_syntax.proofs.ClassLemmas.{id_itself, id_same, path_itself, pa
 use Rattle.source_syntax.proofs.Collecting.{of_joined}
 use Rattle.source_syntax.proofs.NestedLemmas.{to_append}
 use Rattle.check_names.specs.DeclaredClasses.{inner_path}
-use Rattle.check_data.specs.DeclaredSizes.{AreFilled, AreKnown, ClassSize, counted_size, filled, first_size, is_unknown, size_list}
+use Rattle.check_data.specs.DeclaredSizes.{AreFilled, AreKnown, ClassSize, filled, first_size, is_unknown, size_list}
 
 -- ---- lists of classes
 
 abbrev pub size_of : Source → List TypeId → Forest → ClassSize
-size_of s path below = record { path = inner_path s path below; size = counted_size (layout_size (layout s below)) }
+size_of s path below = record { path = inner_path s path below; size = asked_class_size s below }
 
 pub sizes_joined : (s : Source) (path : List TypeId) (f g : Forest) → size_list s path (joined f g) ≡ size_list s path f ++ size_list s path g
 sizes_joined s path tree.none g = refl

@@ -6,34 +6,34 @@ use Rattle.type_terms.specs.declared.name.Scope.TheVariants.{Here, Extern}
 use Rattle.type_terms.specs.declared.name.TypeName.{TypeName}
 use Rattle.type_terms.specs.declared.term.Primitive.TheVariants as prim
 use Rattle.type_terms.specs.declared.term.SigType.{SigType, Prim, Value}
-use Rattle.assembly_tree.specs.DataSize.{layout_size, no_size}
+use Rattle.assembly_tree.specs.DataSize.{no_size}
 use Rattle.ilasm_grammar.specs.declared.productions.TheConstants.{TYPE}
 use Rattle.ilasm_grammar.specs.declared.tree.TreeNode.{TreeNode}
 use Rattle.ilasm_grammar.specs.declared.tree.TreeNode.TheVariants.{Branch}
-use Rattle.source_model.specs.Data.{class_layout, data_size, size_step, value_layout}
+use Rattle.source_model.specs.Data.{size_step}
 use Rattle.source_model.specs.Forest as tree
 use Rattle.source_model.specs.Forest.{Forest, Part, has, is_any_part, part, parts, preorder}
 use Rattle.source_model.specs.Names.{class_at, type_name}
 use Rattle.source_model.specs.Nodes.{Around}
+use Rattle.source_model.specs.OutOfRange.{asked_size, asked_size_at, asked_value_size}
 use Rattle.source_model.specs.Source.{Source}
 use Rattle.source_model.specs.Types.{base_type, named_type, suffixed, type_of, types_in}
 use Rattle.source_syntax.specs.Derived.{HasBodies}
 use Rattle.source_syntax.specs.Walk.{Opens}
 use Rattle.source_syntax.specs.declared.walk.Opened.{Opened}
 use Rattle.source_syntax.proofs.TypeLemmas as type
-use Rattle.check_data.specs.DeclaredSizes.{counted_size}
 
 -- ---- names
 
 module _ (s : Source) (name : TypeName) where
-  value_size : data_size s (Value name) ≡ layout_size (value_layout s name.scope name.path)
-  value_size = fold-Value (Option ℕ) (Option ℕ) no_size (size_step s) name
+  value_size : asked_size s (Value name) ≡ asked_value_size s name.scope name.path
+  value_size = fold-Value (Option ℕ) (Option ℕ) no_size (size_step (asked_value_size s)) name
 
-  pub value_here : name.scope ≡ Here → counted_size (data_size s (Value name)) ≡ counted_size (layout_size (class_layout s (class_at s name.path)))
-  value_here e = ap counted_size (value_size ∙ ap (λ x. layout_size (value_layout s x name.path)) e)
+  pub value_here : name.scope ≡ Here → asked_size s (Value name) ≡ asked_size_at s (class_at s name.path)
+  value_here e = value_size ∙ ap (λ x. asked_value_size s x name.path) e
 
-  pub value_elsewhere : (k : ℕ) → name.scope ≡ Extern k → None ≡ counted_size (data_size s (Value name))
-  value_elsewhere k e = sym (ap counted_size (value_size ∙ ap (λ x. layout_size (value_layout s x name.path)) e))
+  pub value_elsewhere : (k : ℕ) → name.scope ≡ Extern k → None ≡ asked_size s (Value name)
+  value_elsewhere k e = sym (value_size ∙ ap (λ x. asked_value_size s x name.path) e)
 
 -- ---- generic arguments
 
@@ -70,12 +70,12 @@ module _ (s : Source) (a : Around) where
       go false e = ap (λ x. x || has TYPE f) e
 
   -- a value type with arguments has no size, one without them that of its class
-  pub instance_size : (f : Forest) → has TYPE f ≡ true → None ≡ counted_size (data_size s (named_type true (type_name s f) (types_in s a f)))
+  pub instance_size : (f : Forest) → has TYPE f ≡ true → None ≡ asked_size s (named_type true (type_name s f) (types_in s a f))
   instance_size f e = go (types_in s a f) (sym (has_types f) ∙ e)
     where
-      go : (ts : List SigType) → any_type ts ≡ true → None ≡ counted_size (data_size s (named_type true (type_name s f) ts))
+      go : (ts : List SigType) → any_type ts ≡ true → None ≡ asked_size s (named_type true (type_name s f) ts)
       go [] e = absurd cc
-      go (t ∷ ts) e = sym (ap counted_size (fold-Inst (Option ℕ) (Option ℕ) no_size (size_step s) true (type_name s f) (t ∷ ts)))
+      go (t ∷ ts) e = sym (fold-Inst (Option ℕ) (Option ℕ) no_size (size_step (asked_value_size s)) true (type_name s f) (t ∷ ts))
 
   pub plain_value : (f : Forest) → has TYPE f ≡ false → named_type true (type_name s f) (types_in s a f) ≡ Value (type_name s f)
   plain_value f e = go (types_in s a f) (sym (has_types f) ∙ e)
@@ -86,8 +86,8 @@ module _ (s : Source) (a : Around) where
 
   -- ---- types
 
-  pub void_size : (t : SigType) → Prim prim.Void ≡ t → None ≡ counted_size (data_size s t)
-  void_size t e = sym (ap (λ x. counted_size (data_size s x)) (sym e) ∙ ap counted_size (fold-Prim (Option ℕ) (Option ℕ) no_size (size_step s) prim.Void))
+  pub void_size : (t : SigType) → Prim prim.Void ≡ t → None ≡ asked_size s t
+  void_size t e = sym (ap (asked_size s) (sym e) ∙ fold-Prim (Option ℕ) (Option ℕ) no_size (size_step (asked_value_size s)) prim.Void)
 
   -- a type that begins with a production: its base, and its suffixes behind that
   pub record Begun (f : Forest) (p : ℕ) (x : Opened) : Type 0 where

@@ -1,22 +1,16 @@
--- The class sizes of the classes of a source, by the numbers of their paths (ECMA-335 II.10.7, II.22.8). Sizes are counted up to
--- 2^32.
-use Rattle.std.specs.Prelude.{◌≡◌, ℕ, suc, ◌≤◌, ◌==◌, Bool, true, false, if◌then◌else◌, List, [], ◌∷◌, ◌++◌, length, slice_get, slice_set, Option, None, Some, option_map, ⊤}
+-- The class sizes of the classes of a source, by the numbers of their paths, as they are asked of data (ECMA-335 II.10.7, II.22.8).
+use Rattle.std.specs.Prelude.{◌≡◌, ℕ, suc, ◌≤◌, ◌==◌, Bool, true, false, if◌then◌else◌, List, [], ◌∷◌, ◌++◌, length, slice_get, slice_set, Option, None, Some, ⊤}
 use Rattle.type_terms.specs.declared.name.TypeId.{TypeId}
-use Rattle.assembly_tree.specs.DataSize.{layout_size}
 use Rattle.ilasm_grammar.specs.declared.productions.TheConstants.{CLASS}
-use Rattle.source_model.specs.Data.{class_layout, layout}
 use Rattle.source_model.specs.Forest.{Forest, none, leaf, branch}
 use Rattle.source_model.specs.Names.{class_at, is_path}
-use Rattle.source_model.specs.OutOfRange.{counted}
+use Rattle.source_model.specs.OutOfRange.{asked_class_size, asked_size_at}
 use Rattle.source_model.specs.Source.{Source}
 use Rattle.source_syntax.specs.ClassNumbers.{class_numbered}
 use Rattle.source_syntax.specs.declared.class_paths.ClassName.{ClassName}
 use Rattle.check_names.specs.DeclaredClasses.{inner_path}
 
 -- ---- the classes of a source
-
-abbrev pub counted_size : Option ℕ → Option ℕ
-counted_size size = option_map counted size
 
 -- a class: its path, and its class size where its layout states one
 pub record ClassSize : Type 0 where
@@ -29,7 +23,7 @@ size_list s path none = []
 size_list s path (leaf token after) = size_list s path after
 size_list s path (branch p below after) =
     (if p == CLASS
-    then record { path = inner_path s path below; size = counted_size (layout_size (layout s below)) } ∷ size_list s (inner_path s path below) below
+    then record { path = inner_path s path below; size = asked_class_size s below } ∷ size_list s (inner_path s path below) below
     else size_list s path below)
     ++ size_list s path after
 
@@ -75,4 +69,4 @@ size_numbered sizes (Some n) = flat (flat (slice_get sizes n))
 -- each path leads to the class size of the first class of the source with it
 abbrev pub AreSizes : Source → List ClassName → List (Option (Option ℕ)) → Type 0
 AreSizes s cs sizes =
-    (path : List TypeId) → size_numbered sizes (class_numbered cs path) ≡ counted_size (layout_size (class_layout s (class_at s path)))
+    (path : List TypeId) → size_numbered sizes (class_numbered cs path) ≡ asked_size_at s (class_at s path)

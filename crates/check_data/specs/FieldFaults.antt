@@ -20,7 +20,7 @@ pub record Maps (m : Mapping) (s : Source) : Type 0 where
   pub labels : AreNames s Label m.labels.now
   pub lengths : m.lengths.now ≡ map (counted_length s) (labelled s)
 
--- the label, where data has fewer bytes than a size; a label without data is no fault here
+-- the label, where data has fewer bytes than a size; data without a label, and a length that isn't asked, are no fault here
 abbrev pub label_below : ℕ → Option ℕ → ℕ → Option ℕ
 label_below size None k = None
 label_below size (Some length) k = if nat_lt length size then Some k else None

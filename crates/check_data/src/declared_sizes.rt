@@ -28,8 +28,8 @@ use std::alloc::Global;
 use type_terms::TypeId;
 
 /// The class sizes of the classes of a source, by the numbers of their paths: where a class with the path stands in the
-/// source, that of the first, or None where its layout states none. Sizes are counted up to 2^32.
-pub type ClassSizes = Items<Option<Option<u64>>>;
+/// source, that of the first, or None where its layout states none. One that is out of its range is 0.
+pub type ClassSizes = Items<Option<Option<u32>>>;
 
 /// The class sizes of a source's classes.
 pub fn collect_sizes(
@@ -47,7 +47,7 @@ pub fn collect_sizes(
 }
 
 /// The size of the class with a path, where it stands in the source and its layout states one.
-pub fn size_at(classes: &ClassPaths, sizes: &ClassSizes, path: &[TypeId]) -> Option<u64>
+pub fn size_at(classes: &ClassPaths, sizes: &ClassSizes, path: &[TypeId]) -> Option<u32>
     ensures { result ≡ size_numbered sizes.now (class_numbered classes.now path.now) }
 {
     match number_at(classes, path) {
@@ -56,7 +56,7 @@ pub fn size_at(classes: &ClassPaths, sizes: &ClassSizes, path: &[TypeId]) -> Opt
     }
 }
 
-fn known_size(sizes: &ClassSizes, number: usize) -> Option<u64>
+fn known_size(sizes: &ClassSizes, number: usize) -> Option<u32>
     ensures { result ≡ size_numbered sizes.now (Some number) }
 {
     match sizes.get(number) {
@@ -153,7 +153,7 @@ fn class_within(
 }
 
 // Enters the size of a class, unless one is there.
-fn enter(sizes: &mut ClassSizes, number: usize, size: Option<u64>)
+fn enter(sizes: &mut ClassSizes, number: usize, size: Option<u32>)
     ensures { sizes.new ≡ filled sizes.old number size }
 {
     if is_unknown(sizes, number) {

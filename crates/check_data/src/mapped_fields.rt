@@ -1,8 +1,10 @@
 //! Fields that are mapped to data: those with more bytes than the data has, and those whose types have no stated size
 //! (ECMA-335 II.16.3).
 
-ghost use Rattle.std.specs.Prelude.{◌≡◌, ◌<◌, ◌^◌, [], IfOk, None, length, map, true};
+ghost use Rattle.std.specs.Prelude.{◌≡◌, ◌<◌, ◌^◌, ℕ, [], IfOk, None, Option, Some, if◌then◌else◌, length, map, option_map, true};
 ghost use Rattle.ilasm_grammar.specs.declared.productions.TheConstants.{AT_NAME};
+ghost use Rattle.check_names.specs.MappedData.{counted_by};
+ghost use Rattle.check_data.specs.DeclaredSizes.{flat};
 ghost use Rattle.check_data.specs.FieldFaults.{AreDataFaults, AreFieldFaults, AreLeast, Maps, label_below};
 ghost use Rattle.source_model.specs.Forest.{Forest, has, preorder};
 ghost use Rattle.source_model.specs.Names.{extern_key, externs};
@@ -204,12 +206,18 @@ fn mapped_faults(
     }
 }
 
-// The label of data with fewer bytes than the field has.
-fn label_if_short(size: u64, length: Option<u64>, token: u32) -> Option<u32>
-    ensures { result ≡ label_below size length token }
+// The label of data with fewer bytes than the field has, from its length as it is counted.
+fn label_if_short(size: u32, length: Option<u64>, token: u32) -> Option<u32>
+    ensures { (known : Option (Option ℕ)) → length ≡ option_map counted_by known → result ≡ label_below size (flat known) token }
 {
     match length {
-        Some(length) if length < size => Some(token),
-        _ => None,
+        Some(length) => label_if(length < u64::from(size), token),
+        None => None,
     }
+}
+
+fn label_if(short: bool, token: u32) -> Option<u32>
+    ensures { result ≡ (if short then Some token else None) }
+{
+    if short { Some(token) } else { None }
 }

@@ -3,11 +3,10 @@
 ghost use Rattle.std.specs.Prelude.{◌≡◌, IfOk};
 ghost use Rattle.type_terms.specs.declared.term.SigType.{Value};
 ghost use Rattle.ilasm_grammar.specs.declared.productions.TheConstants.{TYPE_BASE_VALUETYPE};
-ghost use Rattle.check_data.specs.DeclaredSizes.{counted_size};
 ghost use Rattle.check_data.specs.TypeSizes.{Measures};
-ghost use Rattle.source_model.specs.Data.{data_size};
 ghost use Rattle.source_model.specs.Forest.{Forest, preorder};
 ghost use Rattle.source_model.specs.Nodes.{Around};
+ghost use Rattle.source_model.specs.OutOfRange.{asked_size};
 ghost use Rattle.source_model.specs.Source.{Source};
 ghost use Rattle.source_model.specs.Types.{base_type, type_of, types_in};
 ghost use Rattle.source_syntax.specs.Derived.{HasBodies};
@@ -33,12 +32,12 @@ pub struct Measure<'a> {
 }
 
 impl<'a> Measure<'a> {
-    /// The bytes of a value of a type in data, from what stands below the type's production. None where they aren't stated.
-    /// Counted up to 2^32.
-    pub fn type_size(&self, alloc: Global, nodes: &[TreeNode]) -> Result<Option<u64>, NoMemory>
+    /// The bytes that are asked of data for a value of a type, from what stands below the type's production: none of a class size
+    /// that is out of its range. None where they aren't stated.
+    pub fn type_size(&self, alloc: Global, nodes: &[TreeNode]) -> Result<Option<u32>, NoMemory>
         requires { IsForest nodes.now }
         ensures { (s : Source) (a : Around) (f : Forest) → Measures self.now s → preorder f ≡ nodes.now → HasBodies s f →
-            IfOk result (λ n. n ≡ counted_size (data_size s (type_of s a f))) }
+            IfOk result (λ n. n ≡ asked_size s (type_of s a f)) }
     {
         let Some(x) = open(nodes) else {
             return Ok(None);
@@ -58,10 +57,10 @@ impl<'a> Measure<'a> {
         alloc: Global,
         production: u16,
         below: &[TreeNode],
-    ) -> Result<Option<u64>, NoMemory>
+    ) -> Result<Option<u32>, NoMemory>
         requires { IsForest below.now }
         ensures { (s : Source) (a : Around) (f : Forest) → Measures self.now s → preorder f ≡ below.now → HasBodies s f →
-            IfOk result (λ n. n ≡ counted_size (data_size s (base_type s a production f (types_in s a f)))) }
+            IfOk result (λ n. n ≡ asked_size s (base_type s a production f (types_in s a f))) }
     {
         if production == TYPE_BASE_VALUETYPE {
             self.value_size(alloc, below)
@@ -71,10 +70,10 @@ impl<'a> Measure<'a> {
     }
 
     // The bytes of a value type: without generic arguments, by the class with its name in this source.
-    fn value_size(&self, alloc: Global, below: &[TreeNode]) -> Result<Option<u64>, NoMemory>
+    fn value_size(&self, alloc: Global, below: &[TreeNode]) -> Result<Option<u32>, NoMemory>
         requires { IsForest below.now }
         ensures { (s : Source) (a : Around) (f : Forest) → Measures self.now s → preorder f ≡ below.now → HasBodies s f →
-            IfOk result (λ n. n ≡ counted_size (data_size s (base_type s a TYPE_BASE_VALUETYPE f (types_in s a f)))) }
+            IfOk result (λ n. n ≡ asked_size s (base_type s a TYPE_BASE_VALUETYPE f (types_in s a f))) }
     {
         if has(below, TYPE) {
             return Ok(None);
@@ -84,8 +83,8 @@ impl<'a> Measure<'a> {
     }
 
     // The bytes of a value of the class with a name, where it stands in this source.
-    fn named_size(&self, name: &TypeName) -> Option<u64>
-        ensures { (s : Source) → Measures self.now s → result ≡ counted_size (data_size s (Value name.now)) }
+    fn named_size(&self, name: &TypeName) -> Option<u32>
+        ensures { (s : Source) → Measures self.now s → result ≡ asked_size s (Value name.now) }
     {
         match name.scope {
             Scope::Here => size_at(self.classes, self.sizes, name.path.as_slice()),
@@ -95,11 +94,11 @@ impl<'a> Measure<'a> {
 }
 
 // The same size.
-fn widened(size: Option<u8>) -> Option<u64>
-    ensures { result ≡ counted_size size }
+fn widened(size: Option<u8>) -> Option<u32>
+    ensures { result ≡ size }
 {
     match size {
-        Some(bytes) => Some(bytes as u64),
+        Some(bytes) => Some(bytes as u32),
         None => None,
     }
 }

@@ -8,13 +8,13 @@ use Rattle.source_model.specs.Names.{written_name}
 use Rattle.source_model.specs.Nodes.{Node}
 use Rattle.source_model.specs.Shapes.{Bound, commas, dimensions, is_vector}
 use Rattle.source_model.specs.Source.{Source}
-use Rattle.source_model.specs.TypeRules.{arguments_out_of_range, array_out_of_range, bound_out_of_range, breaks_signature, comma_past_rank, generic_number_out_of_range, index_out_of_range, is_nothing, lower_out_of_range, number_in_type_out_of_range, parameter_flags_out_of_range, path_too_long, scope_undeclared, second_ellipsis, shape_out_of_range, size_after_gap, size_out_of_range, type_too_deep, typar_undeclared, type_undeclared}
+use Rattle.source_model.specs.TypeRules.{arguments_out_of_range, array_out_of_range, bound_out_of_range, breaks_signature, comma_past_rank, generic_number_out_of_range, index_out_of_range, is_nothing, lower_out_of_range, number_in_signature_out_of_range, path_too_long, scope_undeclared, second_ellipsis, shape_out_of_range, size_after_gap, size_out_of_range, type_too_deep, typar_undeclared, type_undeclared}
 use Rattle.source_model.specs.Values.{name_text}
 use Rattle.source_syntax.specs.ClassNumbers.{Knows}
 use Rattle.source_syntax.specs.Namings.{names_in}
 use Rattle.source_syntax.specs.declared.class_paths.ClassName.{ClassName}
 use Rattle.source_syntax.specs.declared.name_lists.Naming.TheVariants.{Assembly, Own}
-use Rattle.check_names.specs.ArrayNumbers.{array_number, dimension_number, number_in_type, or_else, shape_number}
+use Rattle.check_names.specs.ArrayNumbers.{array_number, dimension_number, number_in_signature, or_else, shape_number}
 use Rattle.check_names.specs.DeclaredClasses.{declared_paths}
 use Rattle.check_names.specs.NamedTypes.{scope_missing_in, type_missing_in}
 use Rattle.check_names.proofs.NamedTypeLemmas.{one_scope, one_type}
@@ -69,7 +69,7 @@ one_shape s f =
 one_array : (s : Source) (n : Node) → is_nothing (array_number s n) ≡ is_nothing (array_out_of_range s n)
 one_array s n = if_so (n.production == TYPE_SUFFIX_BRACKET) (shape_number s n.below) (shape_out_of_range s n.below) (one_shape s n.below)
 
-one_number : (s : Source) (n : Node) → is_nothing (number_in_type s n) ≡ is_nothing (number_in_type_out_of_range s n)
+one_number : (s : Source) (n : Node) → is_nothing (number_in_signature s n) ≡ is_nothing (number_in_signature_out_of_range s n)
 one_number s n =
     let index = index_out_of_range s n in
     let generic = generic_number_out_of_range s n in
@@ -77,10 +77,9 @@ one_number s n =
     let ellipsis = second_ellipsis n in
     let mine = index ++ array_number s n in
     let theirs = index ++ array_out_of_range s n in
-    fronts (mine ++ generic ++ arguments ++ ellipsis) (theirs ++ generic ++ arguments ++ ellipsis) (parameter_flags_out_of_range s n)
-    (fronts (mine ++ generic ++ arguments) (theirs ++ generic ++ arguments) ellipsis
+    fronts (mine ++ generic ++ arguments) (theirs ++ generic ++ arguments) ellipsis
     (fronts (mine ++ generic) (theirs ++ generic) arguments
-    (fronts mine theirs generic (both index index (array_number s n) (array_out_of_range s n) refl (one_array s n)))))
+    (fronts mine theirs generic (both index index (array_number s n) (array_out_of_range s n) refl (one_array s n))))
 
 -- ---- all rules
 
@@ -97,6 +96,6 @@ breaks_as_known s keys own k o cs knows n =
     let names = fronts (types ++ scopes) (type_undeclared s n ++ scope_undeclared s n) typars
     (both types (type_undeclared s n) scopes (scope_undeclared s n) (ap is_nothing (one_type s keys own k o cs knows w))
     (ap is_nothing (one_scope s keys own k o w))) in
-    fronts (mine ++ number_in_type s n ++ deep) (theirs ++ number_in_type_out_of_range s n ++ deep) (path_too_long n)
-    (fronts (mine ++ number_in_type s n) (theirs ++ number_in_type_out_of_range s n) deep
-    (both mine theirs (number_in_type s n) (number_in_type_out_of_range s n) names (one_number s n)))
+    fronts (mine ++ number_in_signature s n ++ deep) (theirs ++ number_in_signature_out_of_range s n ++ deep) (path_too_long n)
+    (fronts (mine ++ number_in_signature s n) (theirs ++ number_in_signature_out_of_range s n) deep
+    (both mine theirs (number_in_signature s n) (number_in_signature_out_of_range s n) names (one_number s n)))

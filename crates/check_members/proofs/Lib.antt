@@ -11,6 +11,5 @@ pub mod MemberWalks
 pub mod OwnerLemmas
 pub mod ReadLemmas
 pub mod ReferenceParts
-pub mod TieLemmas
 pub mod TwiceLemmas
 pub mod WithinLemmas

@@ -1,25 +1,29 @@
 -- Members as they are read: what a rule finds in their signatures, and the place of their types.
 use Rattle.std.proofs.Common.{◌≡◌, ℕ, ◌-◌, ◌<◌, ◌≤◌, ◌^◌, List, [], ◌∷◌, None, Some, length, map, drop, refl, ap, sym, ◌∙◌, arith, length-drop}
-use Rattle.std.specs.Prelude.{Bool, true, false, not, ◌&&◌, if◌then◌else◌, min}
+use Rattle.std.specs.Prelude.{Bool, true, false, not, ◌&&◌, if◌then◌else◌, is_some, min}
 use Rattle.std.specs.List.{flat_map}
 use Rattle.std.proofs.lemmas.List.{length-map}
 use Rattle.type_terms.specs.declared.name.TypeId.{TypeId}
-use Rattle.ilasm_grammar.specs.declared.productions.TheConstants.{ASSEMBLY_EXTERN, TYPAR, TYPARS_OPT_SOME}
-use Rattle.source_model.specs.Forest.{Forest, child, leaf_at, preorder}
+use Rattle.ilasm_grammar.specs.declared.productions.TheConstants.{ASSEMBLY_EXTERN, TARGET_SCOPE, TYPAR, TYPARS_OPT_SOME}
+use Rattle.source_model.specs.Forest.{Forest, child, has, leaf_at, preorder}
 use Rattle.source_model.specs.Members.{in_method}
-use Rattle.source_model.specs.Names.{extern_key, externs}
+use Rattle.source_model.specs.Names.{extern_key, externs, scope_named}
 use Rattle.source_model.specs.Nodes.{Around, Node, nodes_in, nothing_around, typar_names, typars}
 use Rattle.source_model.specs.Parameters.{parameters}
 use Rattle.source_model.specs.Source.{Source}
 use Rattle.source_model.specs.TypeRules.{are_unbroken, breaks_signature, first_of, is_nothing, past_count}
-use Rattle.source_model.specs.Values.{name_text}
+use Rattle.source_model.specs.Undeclared.{has_known_scope}
+use Rattle.source_model.specs.Values.{name_text, scope_text}
 use Rattle.source_syntax.specs.Namings.{AreNames, tokens_named}
 use Rattle.source_syntax.specs.Places.{IsAt}
 use Rattle.source_syntax.specs.Readers.{Reads}
 use Rattle.source_syntax.specs.declared.name_lists.Named.{Named}
-use Rattle.source_syntax.specs.declared.name_lists.Naming.TheVariants.{Assembly}
+use Rattle.source_syntax.specs.declared.name_lists.Naming.TheVariants.{Assembly, Own}
 use Rattle.source_syntax.specs.declared.place.Place.{Place}
 use Rattle.source_syntax.proofs.SizeLemmas.{child_smaller, few_each}
+use Rattle.check_names.specs.NamedTypes.{scope_by, written_scope_by}
+use Rattle.check_names.specs.declared.named_types.Scopes.{Scopes}
+use Rattle.check_names.proofs.NamedTypeLemmas.{scope_is}
 use Rattle.check_members.proofs.KeepLemmas.{nothing_same}
 use Rattle.check_members.specs.MemberKinds.{class_around, is_unbroken_of, member_of, unbroken_member}
 use Rattle.check_members.specs.MemberReading.{Serves}
@@ -29,13 +33,13 @@ use Rattle.check_members.specs.declared.member_kinds.Kind.{Kind}
 use Rattle.check_members.specs.declared.member_sets.Member.{Member}
 
 -- the rule finds nothing where nothing breaks a signature
-pub kept_is : (broken : Source → Node → List ℕ) (keys : List (List ℕ)) (s : Source) → Serves broken keys s → (a : Around) (f : Forest)
+pub kept_is : (broken : Source → Node → List ℕ) (scopes : Scopes) (s : Source) → Serves broken scopes s → (a : Around) (f : Forest)
     → is_nothing (found_in broken s a f) ≡ are_unbroken s (nodes_in s a f)
-kept_is broken keys s v a f = nothing_same (broken s) (breaks_signature s) v.breaks (nodes_in s a f)
+kept_is broken scopes s v a f = nothing_same (broken s) (breaks_signature s) v.breaks (nodes_in s a f)
 
-pub place_is : (broken : Source → Node → List ℕ) (keys : List (List ℕ)) (s : Source) → Serves broken keys s → (a : Around) (x : Place) (p : Surrounding)
-    → Reads x.reader s → HasParameters s p a → x.keys.now ≡ keys → x.class.now ≡ p.class_typars.now → x.method.now ≡ p.method_typars.now → IsAt x s a
-place_is broken keys s v a x p r has k c m = record {
+pub place_is : (broken : Source → Node → List ℕ) (scopes : Scopes) (s : Source) → Serves broken scopes s → (a : Around) (x : Place) (p : Surrounding)
+    → Reads x.reader s → HasParameters s p a → x.keys.now ≡ scopes.keys.now → x.class.now ≡ p.class_typars.now → x.method.now ≡ p.method_typars.now → IsAt x s a
+place_is broken scopes s v a x p r has k c m = record {
   reads = r;
   keys = k ∙ v.keys-are;
   few = v.few;
@@ -106,14 +110,30 @@ keys_as s (f ∷ fs) = ap (λ ks. extern_key s f ∷ ks) (keys_as s fs)
 few_externs : (s : Source) (n : ℕ) → length (preorder s.tree) < n → length (externs s) < n
 few_externs s n h = omega (arith, h, few_each ASSEMBLY_EXTERN s.tree)
 
-pub serves_by : (broken : Source → Node → List ℕ) (s : Source) (x : Named) → AreNames s Assembly x
-    → ((n : Node) → is_nothing (broken s n) ≡ is_nothing (breaks_signature s n)) → length (preorder s.tree) < 2 ^ 32
-    → Serves broken x.names s
-serves_by broken s x names same few = record {
+pub serves_by : (broken : Source → Node → List ℕ) (s : Source) (scopes : Scopes) (x own : Named) → scopes.keys.now ≡ x.names → scopes.own.now ≡ own.names
+    → AreNames s Assembly x → AreNames s Own own → ((n : Node) → is_nothing (broken s n) ≡ is_nothing (breaks_signature s n))
+    → length (preorder s.tree) < 2 ^ 32 → Serves broken scopes s
+serves_by broken s scopes x own k o names owns same few = record {
   breaks = same;
-  keys-are = names.texts ∙ keys_as s (externs s);
+  keys-are = k ∙ names.texts ∙ keys_as s (externs s);
+  own-are = o ∙ owns.texts;
   few = few_externs s (2 ^ 32) few;
 }
+
+-- the name in brackets before the owner of a reference, by what stands for it
+module _ (broken : Source → Node → List ℕ) (s : Source) (scopes : Scopes) (v : Serves broken scopes s) where
+  standing_known : (text : List ℕ) → is_some (scope_by scopes.keys.now scopes.own.now text) ≡ is_some (scope_named s text)
+  standing_known text = ap is_some (scope_is s scopes.keys.now scopes.own.now (v.keys-are ∙ sym (keys_as s (externs s))) v.own-are text)
+
+  pub scope_known : (f : Forest) (token : ℕ) (b : Bool) → has TARGET_SCOPE f ≡ true → token ≡ leaf_at 0 (child (TARGET_SCOPE ∷ []) f)
+      → b ≡ is_some (written_scope_by scopes.keys.now scopes.own.now s (Some token)) → b ≡ has_known_scope s f
+  scope_known f token b some at is =
+      is ∙ standing_known (scope_text s token) ∙ ap (λ k. is_some (scope_named s (scope_text s k))) at
+      ∙ sym (ap (λ (c : Bool). if c then is_some (scope_named s (scope_text s (leaf_at 0 (child (TARGET_SCOPE ∷ []) f)))) else true) some)
+
+pub unscoped_known : (s : Source) (f : Forest) → has TARGET_SCOPE f ≡ false → true ≡ has_known_scope s f
+unscoped_known s f none =
+    sym (ap (λ (c : Bool). if c then is_some (scope_named s (scope_text s (leaf_at 0 (child (TARGET_SCOPE ∷ []) f)))) else true) none)
 
 -- ---- what stands around
 

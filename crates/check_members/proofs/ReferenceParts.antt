@@ -20,7 +20,7 @@ use Rattle.source_model.specs.Nodes.{Around}
 use Rattle.source_model.specs.References.{owner_of}
 use Rattle.source_model.specs.Source.{Source}
 use Rattle.source_model.specs.Types.{the_type}
-use Rattle.source_model.specs.Undeclared.{is_class_named, is_this_class}
+use Rattle.source_model.specs.Undeclared.{is_class_named, names_this_class}
 use Rattle.source_syntax.specs.Derived.{Fits, FitsBody, HasBodies, head_of}
 use Rattle.source_syntax.specs.Readers.{IsOf}
 use Rattle.source_syntax.specs.Sound.{HasPath}
@@ -178,7 +178,7 @@ module _ (s : Source) (a : Around) (f : Forest) where
       ∙ sym (untyped m ∙ ap (λ (c : Bool). if c then Name (or_module s (written_name TARGET_SCOPE (child (TARGET_SCOPE ∷ []) f))) else Name (or_module s (written_name TARGET_NAME (child (TARGET_NAME ∷ []) f)))) o)
 
   -- a type that is no name alone is no class of the source
-  pub not_this_class : has TARGET_TYPE f ≡ true → false ≡ is_this_class s a f
+  pub not_this_class : has TARGET_TYPE f ≡ true → false ≡ names_this_class s a f
   not_this_class e =
       sym (ap (λ (c : Bool). is_class_named a.path (out-Owner (if c then Spec (the_type s a (child (TARGET_TYPE ∷ []) f))
       else if has TARGET_SCOPE f then Name (or_module s (written_name TARGET_SCOPE (child (TARGET_SCOPE ∷ []) f)))
@@ -186,7 +186,7 @@ module _ (s : Source) (a : Around) (f : Forest) where
       ∙ ap (is_class_named a.path) (owner.outs-Spec (the_type s a (child (TARGET_TYPE ∷ []) f))))
 
   pub this_class : (name : TypeName) (path : List TypeId) → a.path ≡ path → Name name ≡ owner_of s a TARGET_SCOPE TARGET_TYPE TARGET_NAME f
-      → is_path_here path name ≡ is_this_class s a f
+      → is_path_here path name ≡ names_this_class s a f
   this_class name path here is =
       ap (λ p. is_path_here p name) (sym here)
       ∙ sym (ap (is_class_named a.path) (owner.outs-Name name))

@@ -6,7 +6,8 @@ use Rattle.std.proofs.lemmas.Grind.{flat_map-append}
 use Rattle.std.proofs.lemmas.List.{map-append}
 use Rattle.std.specs.Cmp.{IsTotalOrder}
 use Rattle.type_terms.specs.Order.{term_order}
-use Rattle.assembly_tree.specs.WellFormedMembers.{is_same_signature, is_same_type}
+use Rattle.type_terms.specs.Same.{is_same_signature, is_same_type}
+use Rattle.type_terms.proofs.SameLaws.{signature_itself}
 use Rattle.ilasm_grammar.specs.declared.productions.TheConstants.{CLASS, METHOD, TYPE}
 use Rattle.source_model.specs.DeclaredTwice.{events_twice, fields_twice, is_same_event, is_same_field, is_same_method, is_same_property, members_twice, members_twice_in, methods_twice, properties_twice, repeats_after}
 use Rattle.source_model.specs.Forest as tree
@@ -24,7 +25,6 @@ use Rattle.check_members.specs.MemberKinds.{again_after, again_in, again_with, c
 use Rattle.check_members.specs.SameMembers.{is_member, is_same_member}
 use Rattle.check_members.specs.declared.member_kinds.Kind.{Kind}
 use Rattle.check_members.specs.declared.member_kinds.Kind.TheVariants.{Field, Method, Property, Event}
-use Rattle.check_members.proofs.MemberLemmas.{signature_itself}
 use Rattle.check_names.proofs.MissingLemmas.{flat_filtered}
 
 -- ---- one kind
@@ -100,7 +100,7 @@ module _ (s : Source) (a : Around) (ps : List Part) where
       ap (λ fs. map (token_of Event) (repeats_after (is_same_event s) [] fs)) (sym (all_kept (forests_of Event ps)))
       ∙ repeats_are s a Event (is_same_event s)
       (λ f g. sym (and_true (is_same_event s f g))
-      ∙ ap (λ b. is_same_event s f g && b) (sym (signature_itself total no_signature))) [] (forests_of Event ps)
+      ∙ ap (λ b. is_same_event s f g && b) (sym (signature_itself no_signature))) [] (forests_of Event ps)
 
   pub twice_is : IsTotalOrder term_order → (field method property event : Option ℕ) → field ≡ least (again_in s a Field ps) → method ≡ least (again_in s a Method ps)
       → property ≡ least (again_in s a Property ps) → event ≡ least (again_in s a Event ps)

@@ -1,7 +1,7 @@
 -- Members that are the same: those of one name and one signature (ECMA-335 II.22.15, II.22.26, II.22.34).
 use Rattle.std.specs.Prelude.{◌&&◌, Bool, List, bytes_eq}
 use Rattle.std.specs.List.{list_any}
-use Rattle.assembly_tree.specs.WellFormedMembers.{is_same_signature}
+use Rattle.type_terms.specs.Same.{is_same_signature}
 use Rattle.check_members.specs.declared.member_sets.Member.{Member}
 
 abbrev pub is_same_member : Member → Member → Bool

@@ -20,6 +20,7 @@ ghost use Rattle.check_visitor.specs.Surroundings.{HasParameters, IsSurrounding,
 
 use crate::member_reading::Signatures;
 use crate::member_sets::Members;
+use check_names::named_types::Scopes;
 use check_visitor::asking::{Rule, Surrounding, deeper};
 use il_base::{Items, NoMemory};
 use ilasm_grammar::{TreeNode, productions};
@@ -40,10 +41,12 @@ pub fn accessor_undeclared<R: Rule>(
     alloc: Global,
     reader: &Reader,
     externs: &Named,
+    own: &Named,
 ) -> Result<Option<u32>, NoMemory>
     requires forest { IsForest reader.now.nodes.now }
     requires few { length reader.now.nodes.now < 2 ^ 32 }
-    ensures { (s : Source) → Reads reader.now s → AreNames s naming.Assembly externs.now → ((n : Node) → is_nothing (R.broken rule.now s n) ≡ is_nothing (breaks_signature s n)) →
+    ensures { (s : Source) → Reads reader.now s → AreNames s naming.Assembly externs.now → AreNames s naming.Own own.now →
+        ((n : Node) → is_nothing (R.broken rule.now s n) ≡ is_nothing (breaks_signature s n)) →
         IfOk result (λ k. k ≡ least (accessors_undeclared s)) }
 {
     derivations_have_bodies();
@@ -52,7 +55,10 @@ pub fn accessor_undeclared<R: Rule>(
     }
     let signatures = Signatures {
         rule,
-        keys: &externs.names,
+        scopes: Scopes {
+            keys: &externs.names,
+            own: &own.names,
+        },
     };
     let none = Declared::new(alloc);
     let outside = Surrounding {
@@ -81,7 +87,7 @@ impl<'a, R: Rule> Signatures<'a, R> {
         nodes: &[TreeNode],
     ) -> Result<Option<u32>, NoMemory>
         requires { IsForest nodes.now }
-        ensures found { (s : Source) (a : Around) (f : Forest) → Serves (R.broken self.now.rule.now) self.now.keys.now s → Reads reader.now s → IsSurrounding place.now a →
+        ensures found { (s : Source) (a : Around) (f : Forest) → Serves (R.broken self.now.rule.now) self.now.scopes s → Reads reader.now s → IsSurrounding place.now a →
             HasParameters s place.now a → a.path ≡ path.old → methods.now ≡ own_methods s a → preorder f ≡ nodes.now → HasBodies s f →
             IfOk result (λ k. k ≡ least (found_in undeclared_at s a f)) }
         ensures kept { IfOk result (λ _. path.new ≡ path.old) }
@@ -137,7 +143,7 @@ impl<'a, R: Rule> Signatures<'a, R> {
     ) -> Result<Option<u32>, NoMemory>
         requires forest { IsForest class.now }
         requires few { length class.now < 2 ^ 32 }
-        ensures found { (s : Source) (a : Around) (f : Forest) → Serves (R.broken self.now.rule.now) self.now.keys.now s → Reads reader.now s → a.path ≡ path.old →
+        ensures found { (s : Source) (a : Around) (f : Forest) → Serves (R.broken self.now.rule.now) self.now.scopes s → Reads reader.now s → a.path ≡ path.old →
             depth ≡ min (length a.path) 101 → preorder f ≡ class.now → FitsBody s CLASS f → HasBodies s f →
             IfOk result (λ k. k ≡ least (found_in undeclared_at s (entered s a CLASS f) f)) }
         ensures kept { IfOk result (λ _. path.new ≡ path.old) }

@@ -23,7 +23,7 @@ ghost use Rattle.check_members.specs.BrokenSignatures.{part_broken};
 use check_names::class_rules::Classes;
 use check_names::named_types::{Scopes, Types};
 use check_names::nestings::long_path;
-use check_names::out_of_range::number_in_type;
+use check_names::out_of_range::number_in_signature;
 use check_names::type_depths::depths_of;
 use check_names::undeclared::index;
 use check_visitor::asking::{Rule, Surrounding};
@@ -78,7 +78,7 @@ impl<'a> Rule for BrokenSignatures<'a> {
         let name = self.types.first(alloc, reader, place, production, below)?;
         let scope = scopes.first(alloc, reader, place, production, below)?;
         let typar = typar(alloc, reader, place, production, below)?;
-        let number = number_in_type(alloc, reader, production, below)?;
+        let number = number_in_signature(alloc, reader, production, below)?;
         let path = long_path(alloc, production, below)?;
         let to_scope = sooner(name, scope);
         let to_typar = sooner(to_scope, typar);

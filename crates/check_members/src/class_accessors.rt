@@ -41,7 +41,7 @@ impl<'a, R: Rule> Signatures<'a, R> {
         nodes: &[TreeNode],
     ) -> Result<Option<u32>, NoMemory>
         requires { IsForest nodes.now }
-        ensures { (s : Source) (a : Around) (f : Forest) → Serves (R.broken self.now.rule.now) self.now.keys.now s → Reads reader.now s → IsSurrounding place.now a →
+        ensures { (s : Source) (a : Around) (f : Forest) → Serves (R.broken self.now.rule.now) self.now.scopes s → Reads reader.now s → IsSurrounding place.now a →
             HasParameters s place.now a → a.path ≡ path.now → methods.now ≡ own_methods s a → preorder f ≡ nodes.now → HasBodies s f →
             IfOk result (λ k. k ≡ least (accessors_of s a (accessors_in f))) }
     {
@@ -72,7 +72,7 @@ impl<'a, R: Rule> Signatures<'a, R> {
     ) -> Result<Option<u32>, NoMemory>
         requires forest { IsForest below.now }
         requires few { length below.now < 2 ^ 32 }
-        ensures { (s : Source) (a : Around) (p : ℕ) (b : Forest) → Serves (R.broken self.now.rule.now) self.now.keys.now s → Reads reader.now s → IsSurrounding place.now a →
+        ensures { (s : Source) (a : Around) (p : ℕ) (b : Forest) → Serves (R.broken self.now.rule.now) self.now.scopes s → Reads reader.now s → IsSurrounding place.now a →
             HasParameters s place.now a → a.path ≡ path.now → methods.now ≡ own_methods s a → preorder b ≡ below.now →
             FitsBody s METHOD_REF (the METHOD_REF b) → HasBodies s (the METHOD_REF b) →
             IfOk result (λ k. k ≡ least (accessor_undeclared_of s a (method_forests (members a.class)) (part p b))) }

@@ -5,7 +5,6 @@ pub mod accessor_rules;
 pub mod broken_signatures;
 pub mod class_accessors;
 pub mod lone_members;
-pub mod member_hashes;
 pub mod member_kinds;
 pub mod member_reading;
 pub mod member_rules;

@@ -19,6 +19,7 @@ use crate::member_kinds::Kind;
 use crate::member_sets::Member;
 use crate::unbroken::keeps;
 use check_names::barred::not_in_property;
+use check_names::named_types::Scopes;
 use check_visitor::asking::{Rule, Surrounding, count_parameters};
 use il_base::{Items, NoMemory};
 use ilasm_grammar::TreeNode;
@@ -35,11 +36,11 @@ use type_terms::{MethodSig, Prim, SigType};
 // How many generic parameters a method may have.
 const MOST_TYPARS: usize = 65_535;
 
-/// How members are read: the rule that no production of a signature may break, and the keys of the source's assemblies.
+/// How members are read: the rule that no production of a signature may break, and the names of the source's assemblies.
 #[derive(Drop)]
 pub struct Signatures<'a, R> {
     pub rule: &'a R,
-    pub keys: &'a Declared,
+    pub scopes: Scopes<'a>,
 }
 
 impl<'a, R: Rule> Signatures<'a, R> {
@@ -54,7 +55,7 @@ impl<'a, R: Rule> Signatures<'a, R> {
     ) -> Result<Option<Member>, NoMemory>
         requires forest { IsForest nodes.now }
         requires few { length nodes.now < 2 ^ 32 }
-        ensures { (s : Source) (a : Around) (f : Forest) → Serves (R.broken self.now.rule.now) self.now.keys.now s → Reads reader.now s → IsSurrounding place.now a →
+        ensures { (s : Source) (a : Around) (f : Forest) → Serves (R.broken self.now.rule.now) self.now.scopes s → Reads reader.now s → IsSurrounding place.now a →
             HasParameters s place.now a → preorder f ≡ nodes.now → FitsBody s (production_of kind) f → HasBodies s f →
             IfOk result (λ m. m ≡ unbroken_member s a kind f) }
     {
@@ -74,7 +75,7 @@ impl<'a, R: Rule> Signatures<'a, R> {
         nodes: &[TreeNode],
     ) -> Result<Option<Member>, NoMemory>
         requires { IsForest nodes.now }
-        ensures { (s : Source) (a : Around) (f : Forest) → Serves (R.broken self.now.rule.now) self.now.keys.now s → Reads reader.now s → IsSurrounding place.now a →
+        ensures { (s : Source) (a : Around) (f : Forest) → Serves (R.broken self.now.rule.now) self.now.scopes s → Reads reader.now s → IsSurrounding place.now a →
             HasParameters s place.now a → preorder f ≡ nodes.now → FitsBody s (production_of kind.Field) f → HasBodies s f →
             IfOk result (λ m. m ≡ unbroken_member s a kind.Field f) }
     {
@@ -97,7 +98,7 @@ impl<'a, R: Rule> Signatures<'a, R> {
     ) -> Result<Option<Member>, NoMemory>
         requires forest { IsForest nodes.now }
         requires few { length nodes.now < 2 ^ 32 }
-        ensures { (s : Source) (a : Around) (f : Forest) → Serves (R.broken self.now.rule.now) self.now.keys.now s → Reads reader.now s → IsSurrounding place.now a →
+        ensures { (s : Source) (a : Around) (f : Forest) → Serves (R.broken self.now.rule.now) self.now.scopes s → Reads reader.now s → IsSurrounding place.now a →
             HasParameters s place.now a → preorder f ≡ nodes.now → HasBodies s f →
             IfOk result (λ m. m ≡ unbroken_member s a kind.Method f) }
     {
@@ -127,7 +128,7 @@ impl<'a, R: Rule> Signatures<'a, R> {
     ) -> Result<Option<Member>, NoMemory>
         requires forest { IsForest nodes.now }
         requires few { length nodes.now < 2 ^ 32 }
-        ensures { (s : Source) (a : Around) (f : Forest) → Serves (R.broken self.now.rule.now) self.now.keys.now s → Reads reader.now s → IsSurrounding place.now (in_method a f) →
+        ensures { (s : Source) (a : Around) (f : Forest) → Serves (R.broken self.now.rule.now) self.now.scopes s → Reads reader.now s → IsSurrounding place.now (in_method a f) →
             HasParameters s place.now (in_method a f) → preorder f ≡ nodes.now → HasBodies s f → is_nothing (past_count (typars f)) ≡ true →
             IfOk result (λ m. m ≡ unbroken_member s a kind.Method f) }
     {
@@ -148,7 +149,7 @@ impl<'a, R: Rule> Signatures<'a, R> {
         nodes: &[TreeNode],
     ) -> Result<Option<Member>, NoMemory>
         requires { IsForest nodes.now }
-        ensures { (s : Source) (a : Around) (f : Forest) → Serves (R.broken self.now.rule.now) self.now.keys.now s → Reads reader.now s → IsSurrounding place.now a →
+        ensures { (s : Source) (a : Around) (f : Forest) → Serves (R.broken self.now.rule.now) self.now.scopes s → Reads reader.now s → IsSurrounding place.now a →
             HasParameters s place.now a → preorder f ≡ nodes.now → FitsBody s (production_of kind.Property) f → HasBodies s f →
             IfOk result (λ m. m ≡ unbroken_member s a kind.Property f) }
     {
@@ -166,11 +167,11 @@ impl<'a, R: Rule> Signatures<'a, R> {
 
     /// The place of a signature, where its types are read.
     pub fn at<'b>(&'b self, reader: &Reader<'b>, place: &Surrounding<'_, 'b>) -> Place<'b>
-        ensures { (s : Source) (a : Around) → Serves (R.broken self.now.rule.now) self.now.keys.now s → Reads reader.now s → HasParameters s place.now a → IsAt result s a }
+        ensures { (s : Source) (a : Around) → Serves (R.broken self.now.rule.now) self.now.scopes s → Reads reader.now s → HasParameters s place.now a → IsAt result s a }
     {
         Place {
             reader: *reader,
-            keys: self.keys,
+            keys: self.scopes.keys,
             class: place.class_typars,
             method: place.method_typars,
         }

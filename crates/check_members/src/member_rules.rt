@@ -22,6 +22,7 @@ use crate::lone_members::{are_lone, has_two};
 use crate::member_kinds::{Kind, Level};
 use crate::member_reading::Signatures;
 use crate::member_sets::{Member, Members};
+use check_names::named_types::Scopes;
 use check_visitor::asking::{Rule, Surrounding, deeper};
 use il_base::NoMemory;
 use ilasm_grammar::{TreeNode, productions};
@@ -42,15 +43,17 @@ pub fn member_twice<R: Rule>(
     alloc: Global,
     reader: &Reader,
     externs: &Named,
+    own: &Named,
 ) -> Result<Option<u32>, NoMemory>
     requires forest { IsForest reader.now.nodes.now }
     requires few { length reader.now.nodes.now < 2 ^ 32 }
-    ensures { (s : Source) → Reads reader.now s → AreNames s naming.Assembly externs.now → ((n : Node) → is_nothing (R.broken rule.now s n) ≡ is_nothing (breaks_signature s n)) →
+    ensures { (s : Source) → Reads reader.now s → AreNames s naming.Assembly externs.now → AreNames s naming.Own own.now →
+        ((n : Node) → is_nothing (R.broken rule.now s n) ≡ is_nothing (breaks_signature s n)) →
         IfOk result (λ k. k ≡ least (members_twice s)) }
 {
     derivations_have_bodies();
-    let here = outer_twice(rule, alloc, reader, externs)?;
-    let within = inner_twice(rule, alloc, reader, externs, reader.nodes)?;
+    let here = outer_twice(rule, alloc, reader, externs, own)?;
+    let within = inner_twice(rule, alloc, reader, externs, own, reader.nodes)?;
     Ok(sooner(here, within))
 }
 
@@ -60,16 +63,21 @@ pub fn outer_twice<R: Rule>(
     alloc: Global,
     reader: &Reader,
     externs: &Named,
+    own: &Named,
 ) -> Result<Option<u32>, NoMemory>
     requires forest { IsForest reader.now.nodes.now }
     requires few { length reader.now.nodes.now < 2 ^ 32 }
-    ensures { (s : Source) → Reads reader.now s → AreNames s naming.Assembly externs.now → ((n : Node) → is_nothing (R.broken rule.now s n) ≡ is_nothing (breaks_signature s n)) →
+    ensures { (s : Source) → Reads reader.now s → AreNames s naming.Assembly externs.now → AreNames s naming.Own own.now →
+        ((n : Node) → is_nothing (R.broken rule.now s n) ≡ is_nothing (breaks_signature s n)) →
         IfOk result (λ k. k ≡ least (members_twice_in s nothing_around (declarations s.tree))) }
 {
     derivations_have_bodies();
     let signatures = Signatures {
         rule,
-        keys: &externs.names,
+        scopes: Scopes {
+            keys: &externs.names,
+            own: &own.names,
+        },
     };
     let none = Declared::new(alloc);
     let outside = Surrounding {
@@ -90,17 +98,21 @@ pub fn inner_twice<R: Rule>(
     alloc: Global,
     reader: &Reader,
     externs: &Named,
+    own: &Named,
     nodes: &[TreeNode],
 ) -> Result<Option<u32>, NoMemory>
     requires forest { IsForest nodes.now }
     requires few { length reader.now.nodes.now < 2 ^ 32 }
-    ensures { (s : Source) (f : Forest) → Reads reader.now s → AreNames s naming.Assembly externs.now →
+    ensures { (s : Source) (f : Forest) → Reads reader.now s → AreNames s naming.Assembly externs.now → AreNames s naming.Own own.now →
         ((n : Node) → is_nothing (R.broken rule.now s n) ≡ is_nothing (breaks_signature s n)) → preorder f ≡ nodes.now → HasBodies s f →
         IfOk result (λ k. k ≡ least (twice_within s [] f)) }
 {
     let signatures = Signatures {
         rule,
-        keys: &externs.names,
+        scopes: Scopes {
+            keys: &externs.names,
+            own: &own.names,
+        },
     };
     let first = signatures.again_within(alloc, reader, 0, nodes)?;
     Ok(first)
@@ -116,7 +128,7 @@ impl<'a, R: Rule> Signatures<'a, R> {
         nodes: &[TreeNode],
     ) -> Result<Option<u32>, NoMemory>
         requires { IsForest nodes.now }
-        ensures { (s : Source) (path : List TypeId) (f : Forest) → Serves (R.broken self.now.rule.now) self.now.keys.now s → Reads reader.now s →
+        ensures { (s : Source) (path : List TypeId) (f : Forest) → Serves (R.broken self.now.rule.now) self.now.scopes s → Reads reader.now s →
             depth ≡ min (length path) 101 → preorder f ≡ nodes.now → HasBodies s f → IfOk result (λ k. k ≡ least (twice_within s path f)) }
     {
         derivations_are_forests();
@@ -162,7 +174,7 @@ impl<'a, R: Rule> Signatures<'a, R> {
     ) -> Result<Option<u32>, NoMemory>
         requires forest { IsForest class.now }
         requires few { length class.now < 2 ^ 32 }
-        ensures { (s : Source) (path : List TypeId) (f : Forest) → Serves (R.broken self.now.rule.now) self.now.keys.now s → Reads reader.now s →
+        ensures { (s : Source) (path : List TypeId) (f : Forest) → Serves (R.broken self.now.rule.now) self.now.scopes s → Reads reader.now s →
             depth ≡ min (length (class_around s path f).path) 101 → preorder f ≡ class.now → HasBodies s f →
             IfOk result (λ k. k ≡ least (members_twice_in s (class_around s path f) (members f))) }
     {
@@ -194,7 +206,7 @@ impl<'a, R: Rule> Signatures<'a, R> {
         nodes: &[TreeNode],
     ) -> Result<Option<u32>, NoMemory>
         requires { IsForest nodes.now }
-        ensures { (s : Source) (a : Around) (f : Forest) → Serves (R.broken self.now.rule.now) self.now.keys.now s → Reads reader.now s → IsSurrounding place.now a →
+        ensures { (s : Source) (a : Around) (f : Forest) → Serves (R.broken self.now.rule.now) self.now.scopes s → Reads reader.now s → IsSurrounding place.now a →
             HasParameters s place.now a → preorder f ≡ nodes.now → HasBodies s f → IfOk result (λ k. k ≡ least (members_twice_in s a (parts_at level f))) }
     {
         orders_are_total();
@@ -221,7 +233,7 @@ impl<'a, R: Rule> Signatures<'a, R> {
         nodes: &[TreeNode],
     ) -> Result<Option<u32>, NoMemory>
         requires { IsForest nodes.now }
-        ensures { (s : Source) (a : Around) (f : Forest) → Serves (R.broken self.now.rule.now) self.now.keys.now s → Reads reader.now s → IsSurrounding place.now a →
+        ensures { (s : Source) (a : Around) (f : Forest) → Serves (R.broken self.now.rule.now) self.now.scopes s → Reads reader.now s → IsSurrounding place.now a →
             HasParameters s place.now a → preorder f ≡ nodes.now → HasBodies s f → IfOk result (λ k. k ≡ least (again_in s a kind (parts_at level f))) }
     {
         forests_join();
@@ -256,7 +268,7 @@ impl<'a, R: Rule> Signatures<'a, R> {
     ) -> Result<Option<u32>, NoMemory>
         requires forest { IsForest below.now }
         requires few { length below.now < 2 ^ 32 }
-        ensures { (s : Source) (a : Around) (b f : Forest) → Serves (R.broken self.now.rule.now) self.now.keys.now s → Reads reader.now s → IsSurrounding place.now a →
+        ensures { (s : Source) (a : Around) (b f : Forest) → Serves (R.broken self.now.rule.now) self.now.scopes s → Reads reader.now s → IsSurrounding place.now a →
             HasParameters s place.now a → preorder b ≡ below.now → f ≡ the (production_of kind) b → FitsBody s (production_of kind) f → HasBodies s f →
             IfOk result (λ k. IsPut (token_of kind f) (unbroken_member s a kind f) before.old before.new k) }
     {

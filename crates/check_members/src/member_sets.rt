@@ -6,12 +6,12 @@ ghost use Rattle.indexmap.specs.IndexMap.{get};
 ghost use Rattle.check_members.specs.MemberHashes.{member_hash};
 ghost use Rattle.check_members.specs.SameMembers.{is_member};
 
-use crate::member_hashes::member_hash;
 use crate::same_members::is_same_member;
 use il_base::{Items, NoMemory, Text};
 use indexmap::IndexMap;
 use std::alloc::Global;
 use std::marker::Model;
+use type_terms::hashing::hash_member;
 use type_terms::{MethodSig, orders_are_total};
 
 /// What tells a member from the others of its kind: its name and its signature. That of a field has its type alone.
@@ -98,4 +98,11 @@ impl Members {
             }
         }
     }
+}
+
+// The hash of a member.
+fn member_hash(member: &Member) -> u64
+    ensures { result ≡ member_hash member.now }
+{
+    hash_member(member.name.as_bytes(), &member.sig)
 }

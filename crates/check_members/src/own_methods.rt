@@ -35,7 +35,7 @@ impl<'a, R: Rule> Signatures<'a, R> {
         class: &[TreeNode],
     ) -> Result<Members, NoMemory>
         requires { IsForest class.now }
-        ensures { (s : Source) (a : Around) → Serves (R.broken self.now.rule.now) self.now.keys.now s → Reads reader.now s → IsSurrounding place.now a →
+        ensures { (s : Source) (a : Around) → Serves (R.broken self.now.rule.now) self.now.scopes s → Reads reader.now s → IsSurrounding place.now a →
             HasParameters s place.now a → preorder a.class ≡ class.now → HasBodies s a.class → IfOk result (λ methods. methods ≡ own_methods s a) }
     {
         forests_join();
@@ -67,7 +67,7 @@ impl<'a, R: Rule> Signatures<'a, R> {
     ) -> Result<(), NoMemory>
         requires forest { IsForest below.now }
         requires few { length below.now < 2 ^ 32 }
-        ensures { (s : Source) (a : Around) (b : Forest) → Serves (R.broken self.now.rule.now) self.now.keys.now s → Reads reader.now s → IsSurrounding place.now a →
+        ensures { (s : Source) (a : Around) (b : Forest) → Serves (R.broken self.now.rule.now) self.now.scopes s → Reads reader.now s → IsSurrounding place.now a →
             HasParameters s place.now a → preorder b ≡ below.now → FitsBody s METHOD (the METHOD b) → HasBodies s (the METHOD b) →
             IfOk result (λ _. methods.new ≡ with_own_method s a (the METHOD b) methods.old) }
     {
@@ -90,7 +90,7 @@ impl<'a, R: Rule> Signatures<'a, R> {
     ) -> Result<bool, NoMemory>
         requires forest { IsForest reference.now }
         requires few { length reference.now < 2 ^ 32 }
-        ensures { (s : Source) (a : Around) (f : Forest) → Serves (R.broken self.now.rule.now) self.now.keys.now s → Reads reader.now s → HasParameters s place.now a →
+        ensures { (s : Source) (a : Around) (f : Forest) → Serves (R.broken self.now.rule.now) self.now.scopes s → Reads reader.now s → HasParameters s place.now a →
             a.path ≡ path.now → methods.now ≡ own_methods s a → preorder f ≡ reference.now → FitsBody s METHOD_REF f → HasBodies s f →
             is_reference_unbroken s a f ≡ true → IfOk result (λ b. b ≡ is_own_method s a f) }
     {

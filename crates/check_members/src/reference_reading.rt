@@ -1,7 +1,8 @@
 //! References to methods: whether their signatures break a rule of their own, what they name, and the type that they name it in
 //! (ECMA-335 II.10.5, II.15.3, II.23.2.2).
 
-ghost use Rattle.std.specs.Prelude.{◌≡◌, ◌<◌, ◌^◌, ◌∷◌, [], IfOk, List, false, length, true};
+ghost use Rattle.std.specs.Prelude.{◌≡◌, ◌<◌, ◌^◌, ◌∷◌, [], IfOk, List, Option, false, is_some, length, true};
+ghost use Rattle.type_terms.specs.declared.name.Scope.{Scope};
 ghost use Rattle.type_terms.specs.declared.term.Owner.{Name};
 ghost use Rattle.ilasm_grammar.specs.declared.productions.TheConstants.{METHOD_GENERICS, METHOD_REF, TARGET_NAME, TARGET_SCOPE, TARGET_TYPE};
 ghost use Rattle.source_model.specs.Forest.{Forest, branch, has, none, preorder, the};
@@ -11,11 +12,12 @@ ghost use Rattle.source_model.specs.References.{generic_number, owner_of, refere
 ghost use Rattle.source_model.specs.Signatures.{is_reference_unbroken};
 ghost use Rattle.source_model.specs.Source.{Source};
 ghost use Rattle.source_model.specs.TypeRules.{breaks_signature, is_nothing};
-ghost use Rattle.source_model.specs.Undeclared.{is_this_class};
+ghost use Rattle.source_model.specs.Undeclared.{has_known_scope, is_this_class};
 ghost use Rattle.source_syntax.specs.Derived.{FitsBody, HasBodies};
 ghost use Rattle.source_syntax.specs.Places.{IsAt, IsReadable};
 ghost use Rattle.source_syntax.specs.Readers.{Reads};
 ghost use Rattle.source_syntax.specs.Walk.{IsForest};
+ghost use Rattle.check_names.specs.NamedTypes.{standing_of};
 ghost use Rattle.check_members.specs.OwnMethods.{is_path_here, referred};
 ghost use Rattle.check_members.specs.MemberReading.{Serves};
 ghost use Rattle.check_visitor.specs.Surroundings.{HasParameters, IsSurrounding, found_in, is_scope};
@@ -25,6 +27,7 @@ use crate::member_reading::Signatures;
 use crate::member_sets::Member;
 use crate::unbroken::keeps;
 use check_names::barred::generic_arguments;
+use check_names::named_types::Standing;
 use check_visitor::asking::{Rule, Surrounding, first_in};
 use il_base::{NoMemory, Text};
 use ilasm_grammar::{TreeNode, productions};
@@ -49,7 +52,7 @@ impl<'a, R: Rule> Signatures<'a, R> {
         nodes: &[TreeNode],
     ) -> Result<bool, NoMemory>
         requires { IsForest nodes.now }
-        ensures { (s : Source) (a : Around) (f : Forest) → Serves (R.broken self.now.rule.now) self.now.keys.now s → Reads reader.now s → IsSurrounding place.now a →
+        ensures { (s : Source) (a : Around) (f : Forest) → Serves (R.broken self.now.rule.now) self.now.scopes s → Reads reader.now s → IsSurrounding place.now a →
             HasParameters s place.now a → preorder f ≡ nodes.now → HasBodies s f → IfOk result (λ b. b ≡ is_reference_unbroken s a f) }
     {
         if generic_arguments(nodes).is_some() {
@@ -79,7 +82,7 @@ impl<'a, R: Rule> Signatures<'a, R> {
     ) -> Result<Member, NoMemory>
         requires forest { IsForest nodes.now }
         requires few { length nodes.now < 2 ^ 32 }
-        ensures { (s : Source) (a : Around) (f : Forest) → Serves (R.broken self.now.rule.now) self.now.keys.now s → Reads reader.now s → HasParameters s place.now a →
+        ensures { (s : Source) (a : Around) (f : Forest) → Serves (R.broken self.now.rule.now) self.now.scopes s → Reads reader.now s → HasParameters s place.now a →
             preorder f ≡ nodes.now → FitsBody s METHOD_REF f → HasBodies s f → is_reference_unbroken s a f ≡ true → IfOk result (λ m. m ≡ referred s a f) }
     {
         unbroken_signatures_are_sound();
@@ -90,7 +93,8 @@ impl<'a, R: Rule> Signatures<'a, R> {
         Ok(Member { name, sig })
     }
 
-    /// Whether a reference names the class with this path.
+    /// Whether the owner of a reference is the class with this path: a name in brackets before it stands for an assembly, and it
+    /// names that class.
     pub fn is_this_class(
         &self,
         alloc: Global,
@@ -100,14 +104,47 @@ impl<'a, R: Rule> Signatures<'a, R> {
         nodes: &[TreeNode],
     ) -> Result<bool, NoMemory>
         requires { IsForest nodes.now }
-        ensures { (s : Source) (a : Around) (f : Forest) → Serves (R.broken self.now.rule.now) self.now.keys.now s → Reads reader.now s → HasParameters s place.now a →
+        ensures { (s : Source) (a : Around) (f : Forest) → Serves (R.broken self.now.rule.now) self.now.scopes s → Reads reader.now s → HasParameters s place.now a →
             preorder f ≡ nodes.now → FitsBody s METHOD_REF f → HasBodies s f → a.path ≡ path.now → IfOk result (λ b. b ≡ is_this_class s a f) }
     {
         if has(nodes, productions::TARGET_TYPE) {
             return Ok(false);
         }
+        let known = self.knows_scope(alloc, reader, nodes)?;
+        if !known {
+            return Ok(false);
+        }
         let name = type_named(&self.at(reader, place), alloc, nodes)?;
         Ok(is_here(&name, path))
+    }
+
+    // Whether the name in brackets before the owner of a reference, where there is one, stands for an assembly.
+    fn knows_scope(
+        &self,
+        alloc: Global,
+        reader: &Reader,
+        nodes: &[TreeNode],
+    ) -> Result<bool, NoMemory>
+        requires { IsForest nodes.now }
+        ensures { (s : Source) (f : Forest) → Serves (R.broken self.now.rule.now) self.now.scopes s → Reads reader.now s → preorder f ≡ nodes.now →
+            FitsBody s METHOD_REF f → HasBodies s f → IfOk result (λ b. b ≡ has_known_scope s f) }
+    {
+        if !has(nodes, productions::TARGET_SCOPE) {
+            return Ok(true);
+        }
+        let token = leaf_at(child(nodes, productions::TARGET_SCOPE), 0);
+        let standing = self.scopes.written(alloc, reader, Some(token))?;
+        Ok(is_assembly(standing))
+    }
+}
+
+// Whether a name in brackets stands for an assembly.
+fn is_assembly(standing: Standing) -> bool
+    ensures { (known : Option Scope) → standing ≡ standing_of known → result ≡ is_some known }
+{
+    match standing {
+        Standing::Here | Standing::Elsewhere => true,
+        Standing::Nowhere => false,
     }
 }
 

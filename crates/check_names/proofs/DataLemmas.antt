@@ -1,6 +1,7 @@
 -- The lengths of data, item by item.
 use Rattle.std.proofs.Common.{◌≡◌, ℕ, ◌+◌, ◌<◌, ◌≤◌, List, [], ◌∷◌, ◌++◌, ap, sym, ◌∙◌, refl, subst, arith, Option, None, Some}
 use Rattle.std.specs.Prelude.{Bool, true, false, nat_lt, if◌then◌else◌, slice_get, option_map}
+use Rattle.std.proofs.lemmas.Option.{same_Some}
 use Rattle.il_lexer.specs.declared.types.Token.{Token}
 use Rattle.il_lexer.specs.declared.types.TokenKind.{TokenKind}
 use Rattle.il_lexer.specs.declared.types.TokenKind.TheVariants as kind
@@ -12,18 +13,18 @@ use Rattle.ilasm_grammar.specs.declared.productions.TheConstants.{DATA_ITEM_BYTE
 use Rattle.ilasm_grammar.specs.declared.symbol.Symbol.TheVariants.{Terminal}
 use Rattle.ilasm_grammar.specs.declared.terminals.TheConstants as t
 use Rattle.ilasm_grammar.specs.declared.tree.TreeNode.{TreeNode}
-use Rattle.source_model.specs.Data.{data_items}
+use Rattle.source_model.specs.Data.{data_items, item_length}
 use Rattle.source_model.specs.Forest as tree
 use Rattle.source_model.specs.Forest.{Forest, Part, first_token, joined, leaf_at, part, parts}
 use Rattle.source_model.specs.Laws.{ForestsJoin}
-use Rattle.source_model.specs.OutOfRange.{counted_length, item_past_length}
+use Rattle.source_model.specs.OutOfRange.{counted_length, item_past_length, stands_too_often}
 use Rattle.source_model.specs.Source.{Source}
 use Rattle.source_syntax.specs.Derived.{FitsBody}
 use Rattle.source_syntax.specs.Least.{least}
 use Rattle.source_syntax.specs.Readers.{IsOf, Reads}
 use Rattle.source_syntax.specs.declared.reader.Reader.{Reader}
 use Rattle.source_syntax.proofs.WrittenNames.{first_terminal, fits_rule, word_is_more}
-use Rattle.check_names.specs.DataItems.{is_item}
+use Rattle.check_names.specs.DataItems.{is_item, known_length}
 use Rattle.check_visitor.proofs.AskingLemmas.{Bodied}
 
 -- ---- items
@@ -64,6 +65,22 @@ module _ (s : Source) (before length q : ℕ) (b a : Forest) (own : is_item q �
   keeps next less same =
       let test : nat_lt 67108864 (before + length) ≡ false = grind arith in
       ap (λ k. least (item_past_length s k (data_items a))) same ∙ at_item false test
+
+-- ---- what is known of an item, and what is counted
+
+some_of : (c : Bool) (n known : ℕ) → Some n ≡ (if c then None else Some known) → n ≡ (if c then 0 else known)
+some_of true n known e = absurd cc
+some_of false n known e = same_Some n known e
+
+none_of : (c : Bool) (known : ℕ) → None ≡ (if c then None else Some known) → 0 ≡ (if c then 0 else known)
+none_of true known e = refl
+none_of false known e = absurd cc
+
+pub some_counted : (s : Source) (p : Part) (n : ℕ) → Some n ≡ known_length s p → n ≡ counted_length s p
+some_counted s p n e = some_of (stands_too_often s p.below) n (item_length s p) e
+
+pub none_counted : (s : Source) (p : Part) → None ≡ known_length s p → 0 ≡ counted_length s p
+none_counted s p e = none_of (stands_too_often s p.below) (item_length s p) e
 
 -- ---- bytes
 

@@ -1,28 +1,27 @@
 -- The lengths of data, counted up to a most.
-use Rattle.std.proofs.Common.{◌≡◌, ℕ, zero, suc, ◌+◌, ◌≤◌, ◌^◌, List, [], ◌∷◌, ◌++◌, cond, map, min, subst, append_assoc, ap, sym, ◌∙◌, refl, arith, Option, None, Some}
-use Rattle.std.specs.Prelude.{Bool, true, false, fold, pos, neg_ℤ, if◌then◌else◌, drop, filter, find, bytes_eq, position, option_map, slice_get}
+use Rattle.std.proofs.Common.{◌≡◌, ℕ, zero, suc, ◌+◌, ◌≤◌, List, [], ◌∷◌, ◌++◌, cond, map, min, subst, append_assoc, ap, sym, ◌∙◌, refl, arith, Option, None, Some}
+use Rattle.std.specs.Prelude.{Bool, true, false, ◌||◌, fold, if◌then◌else◌, filter, find, bytes_eq, position, option_map, slice_get}
+use Rattle.std.specs.List.{list_any}
 use Rattle.std.proofs.lemmas.Option.{slice_get-map}
 use Rattle.std.proofs.lemmas.Slice.Eq.{bytes_eq-Decides}
-use Rattle.il_lexer.specs.Classes.{first_is}
 use Rattle.ilasm_grammar.specs.declared.productions.TheConstants.{DATA, DATA_LABEL}
 use Rattle.ilasm_grammar.specs.declared.tree.TreeNode.{TreeNode}
 use Rattle.ilasm_grammar.specs.declared.tree.TreeNode.TheVariants.{Branch}
-use Rattle.source_model.specs.Data.{data_items, data_named, item_length, label_token, labelled}
+use Rattle.source_model.specs.Data.{data_items, data_length, data_named, item_length, label_token, labelled}
 use Rattle.source_model.specs.Forest as tree
 use Rattle.source_model.specs.Forest.{Forest, Part, each, has, joined, part, preorder}
 use Rattle.source_model.specs.Laws.{ForestsJoin}
-use Rattle.source_model.specs.Shapes.{natural}
+use Rattle.source_model.specs.OutOfRange.{stands_too_often}
 use Rattle.source_model.specs.Source.{Source}
-use Rattle.source_model.specs.Values.{integer, magnitude, name_text}
+use Rattle.source_model.specs.Values.{name_text}
 use Rattle.source_syntax.specs.Derived.{FitsBody, HasBodies}
-use Rattle.source_syntax.specs.Integers.{distance}
 use Rattle.source_syntax.specs.Walk.{Opens, is_of}
 use Rattle.source_syntax.specs.declared.walk.Opened.{Opened}
 use Rattle.source_syntax.proofs.Collecting.{SoFar, each_other, each_own, ends, goes_in, is_other, starts}
 use Rattle.source_syntax.specs.declared.reader.Reader.{Reader}
 use Rattle.source_syntax.proofs.LabelLemmas.{position_first}
-use Rattle.check_names.specs.DataItems.{is_item}
-use Rattle.check_names.specs.MappedData.{counted_length, length_labelled}
+use Rattle.check_names.specs.DataItems.{is_item, known_length}
+use Rattle.check_names.specs.MappedData.{counted_by, counted_length, length_labelled}
 use Rattle.check_names.proofs.DataLemmas.{In, items_other, items_own}
 
 -- ---- sums
@@ -36,41 +35,52 @@ same_sum s most m n (p ∷ ps) e =
     let next : min (m + item_length s p) most ≡ min (n + item_length s p) most = omega (arith, e) in
     same_sum s most (m + item_length s p) (n + item_length s p) ps next
 
+grown : (s : Source) (n : ℕ) (ps : List Part) → n ≤ sum_from s n ps
+grown s n [] = omega arith
+grown s n (p ∷ ps) = let more = grown s (n + item_length s p) ps in omega (arith, more)
+
+abbrev pub too_often : Source → List Part → Bool
+too_often s ps = list_any (λ p. stands_too_often s p.below) ps
+
 -- the length with what is left, with so many bytes before it
+abbrev pub sum_by : Source → Bool → ℕ → List Part → ℕ
+sum_by s out n ps = if out then 0x100000000 else min (sum_from s n ps) 0x100000000
+
+abbrev pub sum_asked : Source → ℕ → List Part → ℕ
+sum_asked s n ps = sum_by s (too_often s ps) n ps
+
 abbrev pub counted : ℕ → (r : Reader) (nodes : List TreeNode) → In r nodes → Forest → ℕ
-counted total r nodes i f = min (sum_from i.source total (data_items f)) 0x100000000
+counted total r nodes i f = sum_asked i.source total (data_items f)
+
+pub counted_all : (s : Source) (f : Forest) → sum_asked s 0 (data_items f) ≡ counted_length s f
+counted_all s f = go (too_often s (data_items f))
+  where
+    go : (c : Bool) → sum_by s c 0 (data_items f) ≡ counted_by (if c then None else Some (data_length s f))
+    go true = refl
+    go false = refl
 
 module _ (s : Source) (total : ℕ) where
-  pub counted_item : (length next q : ℕ) (b a : Forest) → is_item q ≡ true → length ≡ min (item_length s (part q b)) 0x100000000 → next ≡ min (total + length) 0x100000000
-      → min (sum_from s next (data_items a)) 0x100000000 ≡ min (sum_from s total (data_items (tree.branch q b a))) 0x100000000
+  one_counted : (next : ℕ) (p : Part) (ps : List Part) (out more : Bool) → next ≡ min (total + counted_by (if out then None else Some (item_length s p))) 0x100000000
+      → sum_by s more next ps ≡ sum_by s (out || more) total (p ∷ ps)
+  one_counted next p ps true true e = refl
+  one_counted next p ps false true e = refl
+  one_counted next p ps true false e =
+      let large : next ≡ 0x100000000 = omega (arith, e) in
+      let least = grown s next ps in
+      omega (arith, large, least)
+  one_counted next p ps false false e =
+      let same : min next 0x100000000 ≡ min (total + item_length s p) 0x100000000 = omega (arith, e) in
+      same_sum s 0x100000000 next (total + item_length s p) ps same
+
+  pub counted_item : (length : Option ℕ) (next q : ℕ) (b a : Forest) → is_item q ≡ true → length ≡ known_length s (part q b) → next ≡ min (total + counted_by length) 0x100000000
+      → sum_asked s next (data_items a) ≡ sum_asked s total (data_items (tree.branch q b a))
   counted_item length next q b a own is more =
-      let same : min next 0x100000000 ≡ min (total + item_length s (part q b)) 0x100000000 = omega (arith, is, more) in
-      same_sum s 0x100000000 next (total + item_length s (part q b)) (data_items a) same
-      ∙ ap (λ ps. min (sum_from s total ps) 0x100000000) (sym (items_own q b a own))
+      one_counted next (part q b) (data_items a) (stands_too_often s b) (too_often s (data_items a)) (more ∙ ap (λ o. min (total + counted_by o) 0x100000000) is)
+      ∙ ap (λ ps. sum_asked s total ps) (sym (items_own q b a own))
 
   pub counted_other : ForestsJoin → (q : ℕ) (b a : Forest) → is_item q ≡ false
-      → min (sum_from s total (data_items (joined b a))) 0x100000000 ≡ min (sum_from s total (data_items (tree.branch q b a))) 0x100000000
-  counted_other joins q b a other = ap (λ ps. min (sum_from s total ps) 0x100000000) (items_other joins q b a other)
-
--- ---- numbers beyond all others
-
-none_below : (n : ℕ) → natural (neg_ℤ (pos n)) ≡ 0
-none_below zero = refl
-none_below (suc n) = refl
-
-pub beyond_negative : (bs : List ℕ) → first_is 45 bs ≡ true → natural (integer bs) ≡ 0
-unfolding integer
-beyond_negative bs e =
-    ap (λ (c : Bool). natural (if c then neg_ℤ (pos (magnitude (drop 1 bs))) else pos (magnitude bs))) e ∙ none_below (magnitude (drop 1 bs))
-
-pub beyond_positive : (bs : List ℕ) → first_is 45 bs ≡ false → 2 ^ 64 ≤ distance (integer bs) → 2 ^ 64 ≤ natural (integer bs)
-unfolding integer
-beyond_positive bs e far =
-    let whole : (if first_is 45 bs then neg_ℤ (pos (magnitude (drop 1 bs))) else pos (magnitude bs)) ≡ pos (magnitude bs) =
-    ap (λ (c : Bool). if c then neg_ℤ (pos (magnitude (drop 1 bs))) else pos (magnitude bs)) e in
-    let size : distance (integer bs) ≡ magnitude bs = ap distance whole in
-    let number : natural (integer bs) ≡ magnitude bs = ap natural whole in
-    omega (arith, far, size, number)
+      → sum_asked s total (data_items (joined b a)) ≡ sum_asked s total (data_items (tree.branch q b a))
+  counted_other joins q b a other = ap (λ ps. sum_asked s total ps) (items_other joins q b a other)
 
 -- ---- data with labels
 

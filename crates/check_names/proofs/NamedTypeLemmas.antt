@@ -101,7 +101,7 @@ module _ (s : Source) (keys own : List (List ℕ)) (k : keys ≡ map (name_text 
   own_as [] text = refl
   own_as (f ∷ fs) text = refl
 
-  scope_is : (text : List ℕ) → scope_by keys own text ≡ scope_named s text
+  pub scope_is : (text : List ℕ) → scope_by keys own text ≡ scope_named s text
   scope_is text =
       ap (λ x. or_here (is_first x text) (position (bytes_eq text) keys)) o ∙ ap (λ b. or_here b (position (bytes_eq text) keys)) (own_as (assemblies s) text)
       ∙ ap (λ x. or_here (is_own_name_of s (assemblies s) text) (position (bytes_eq text) x)) (k ∙ keys_as (externs s))

@@ -3,6 +3,8 @@ use Rattle.std.proofs.Common.{◌≡◌, ℕ, ◌/◌, List, [], ◌∷◌, leng
 use Rattle.std.specs.Prelude.{Bool, true, false, ◌==◌, ◌||◌, if◌then◌else◌, Option, None, Some}
 use Rattle.std.proofs.lemmas.Bool.Decides.{Decides-eqb}
 use Rattle.type_terms.proofs.Layers.{fold-Array, fold-ByRef, fold-Class, fold-Inst, fold-MVar, fold-Mod, fold-Pinned, fold-Pointer, fold-Prim, fold-SzArray, fold-Var}
+use Rattle.type_terms.specs.declared.name.Scope as scope
+use Rattle.type_terms.specs.declared.name.TypeId.{TypeId}
 use Rattle.type_terms.specs.declared.name.TypeName.{TypeName}
 use Rattle.type_terms.specs.declared.term.Owner.{Owner}
 use Rattle.type_terms.specs.declared.term.Primitive.{Primitive}
@@ -13,7 +15,7 @@ use Rattle.ilasm_grammar.specs.declared.productions.TheConstants.{INT_TYPE_INT16
 use Rattle.ilasm_grammar.specs.declared.tree.TreeNode.{TreeNode}
 use Rattle.ilasm_grammar.specs.declared.tree.TreeNode.TheVariants.{Branch, Leaf}
 use Rattle.source_model.specs.Constants.{bits_of}
-use Rattle.source_model.specs.Data.{data_size, size_step}
+use Rattle.source_model.specs.Data.{size_by, size_step}
 use Rattle.source_model.specs.Forest.{Forest, none, leaf, branch, has, is_among, joined, preorder}
 use Rattle.source_model.specs.Laws.{ForestsJoin}
 use Rattle.source_model.specs.Names.{type_name}
@@ -30,64 +32,64 @@ use Rattle.check_names.specs.StatedSizes.{base_width}
 use Rattle.check_names.specs.TypeDepths.{is_modifier}
 use Rattle.check_names.proofs.DepthLemmas.{suffixed_at}
 
-module _ (s : Source) where
-  either : (c : Bool) (x y : SigType) (m n : Option ℕ) → data_size s x ≡ m → data_size s y ≡ n → data_size s (if c then x else y) ≡ (if c then m else n)
+module _ (s : Source) (value : scope.Scope → List TypeId → Option ℕ) where
+  either : (c : Bool) (x y : SigType) (m n : Option ℕ) → size_by value x ≡ m → size_by value y ≡ n → size_by value (if c then x else y) ≡ (if c then m else n)
   either true x y m n e f = e
   either false x y m n e f = f
 
-  neither : (c : Bool) (x y : SigType) → data_size s x ≡ None → data_size s y ≡ None → data_size s (if c then x else y) ≡ None
+  neither : (c : Bool) (x y : SigType) → size_by value x ≡ None → size_by value y ≡ None → size_by value (if c then x else y) ≡ None
   neither true x y e f = e
   neither false x y e f = f
 
-  other : (c : Bool) (x y : SigType) → c ≡ false → data_size s (if c then x else y) ≡ data_size s y
-  other c x y e = ap (λ b. data_size s (if b then x else y)) e
+  other : (c : Bool) (x y : SigType) → c ≡ false → size_by value (if c then x else y) ≡ size_by value y
+  other c x y e = ap (λ b. size_by value (if b then x else y)) e
 
   -- ---- suffixes
 
   module _ (p : ℕ) (f : Forest) (by : List Owner) (t : SigType) where
-    plain_suffix : (p == TYPE_SUFFIX_MODREQ) ≡ false → (p == TYPE_SUFFIX_MODOPT) ≡ false → data_size s (suffix s p f by t) ≡ None
+    plain_suffix : (p == TYPE_SUFFIX_MODREQ) ≡ false → (p == TYPE_SUFFIX_MODOPT) ≡ false → size_by value (suffix s p f by t) ≡ None
     plain_suffix req opt =
         let mods = if p == TYPE_SUFFIX_MODOPT then Mod false (first_owner by) t else array s f t in
         let reqs = if p == TYPE_SUFFIX_MODREQ then Mod true (first_owner by) t else mods in
         let pins = if p == TYPE_SUFFIX_PINNED then Pinned t else reqs in
         let stars = if p == TYPE_SUFFIX_STAR then Pointer t else pins in
         let shaped = Array t (length (dimensions f)) (sizes s (dimensions f)) (lower_bounds s (dimensions f)) in
-        neither (p == TYPE_SUFFIX_AMPERSAND) (ByRef t) stars (fold-ByRef (Option ℕ) (Option ℕ) no_size (size_step s) t)
-        (neither (p == TYPE_SUFFIX_STAR) (Pointer t) pins (fold-Pointer (Option ℕ) (Option ℕ) no_size (size_step s) t)
-        (neither (p == TYPE_SUFFIX_PINNED) (Pinned t) reqs (fold-Pinned (Option ℕ) (Option ℕ) no_size (size_step s) t)
+        neither (p == TYPE_SUFFIX_AMPERSAND) (ByRef t) stars (fold-ByRef (Option ℕ) (Option ℕ) no_size (size_step value) t)
+        (neither (p == TYPE_SUFFIX_STAR) (Pointer t) pins (fold-Pointer (Option ℕ) (Option ℕ) no_size (size_step value) t)
+        (neither (p == TYPE_SUFFIX_PINNED) (Pinned t) reqs (fold-Pinned (Option ℕ) (Option ℕ) no_size (size_step value) t)
         (other (p == TYPE_SUFFIX_MODREQ) (Mod true (first_owner by) t) mods req
         ∙ other (p == TYPE_SUFFIX_MODOPT) (Mod false (first_owner by) t) (array s f t) opt
-        ∙ neither (is_vector f) (SzArray t) shaped (fold-SzArray (Option ℕ) (Option ℕ) no_size (size_step s) t)
-        (fold-Array (Option ℕ) (Option ℕ) no_size (size_step s) t (length (dimensions f)) (sizes s (dimensions f)) (lower_bounds s (dimensions f))))))
+        ∙ neither (is_vector f) (SzArray t) shaped (fold-SzArray (Option ℕ) (Option ℕ) no_size (size_step value) t)
+        (fold-Array (Option ℕ) (Option ℕ) no_size (size_step value) t (length (dimensions f)) (sizes s (dimensions f)) (lower_bounds s (dimensions f))))))
 
-    pub suffix_size : data_size s (suffix s p f by t) ≡ (if is_modifier p then data_size s t else None)
+    pub suffix_size : size_by value (suffix s p f by t) ≡ (if is_modifier p then size_by value t else None)
     suffix_size = go (p == TYPE_SUFFIX_MODREQ) refl (p == TYPE_SUFFIX_MODOPT) refl
       where
-        go : (c : Bool) → (p == TYPE_SUFFIX_MODREQ) ≡ c → (v : Bool) → (p == TYPE_SUFFIX_MODOPT) ≡ v → data_size s (suffix s p f by t) ≡ (if is_modifier p then data_size s t else None)
+        go : (c : Bool) → (p == TYPE_SUFFIX_MODREQ) ≡ c → (v : Bool) → (p == TYPE_SUFFIX_MODOPT) ≡ v → size_by value (suffix s p f by t) ≡ (if is_modifier p then size_by value t else None)
         go true req v opt =
-            subst (λ q. data_size s (suffix s q f by t) ≡ (if is_modifier q then data_size s t else None)) (sym ((Decides-eqb p TYPE_SUFFIX_MODREQ).0 req))
-            (fold-Mod (Option ℕ) (Option ℕ) no_size (size_step s) true (first_owner by) t)
+            subst (λ q. size_by value (suffix s q f by t) ≡ (if is_modifier q then size_by value t else None)) (sym ((Decides-eqb p TYPE_SUFFIX_MODREQ).0 req))
+            (fold-Mod (Option ℕ) (Option ℕ) no_size (size_step value) true (first_owner by) t)
         go false req true opt =
-            subst (λ q. data_size s (suffix s q f by t) ≡ (if is_modifier q then data_size s t else None)) (sym ((Decides-eqb p TYPE_SUFFIX_MODOPT).0 opt))
-            (fold-Mod (Option ℕ) (Option ℕ) no_size (size_step s) false (first_owner by) t)
+            subst (λ q. size_by value (suffix s q f by t) ≡ (if is_modifier q then size_by value t else None)) (sym ((Decides-eqb p TYPE_SUFFIX_MODOPT).0 opt))
+            (fold-Mod (Option ℕ) (Option ℕ) no_size (size_step value) false (first_owner by) t)
         go false req false opt =
             plain_suffix req opt
-            ∙ sym (ap (λ (c : Bool). if c || (p == TYPE_SUFFIX_MODOPT) then data_size s t else None) req
-            ∙ ap (λ (c : Bool). if c then data_size s t else None) opt)
+            ∙ sym (ap (λ (c : Bool). if c || (p == TYPE_SUFFIX_MODOPT) then size_by value t else None) req
+            ∙ ap (λ (c : Bool). if c then size_by value t else None) opt)
 
   -- a type without a size has none with suffixes
-  pub none_stays : (a : Around) (f : Forest) (t : SigType) → data_size s t ≡ None → data_size s (suffixed s a f t) ≡ None
-  none_stays a none t e = ap (data_size s) (type.suffixed_none s a t) ∙ e
-  none_stays a (leaf k f) t e = ap (data_size s) (type.suffixed_leaf s a k f t) ∙ none_stays a f t e
+  pub none_stays : (a : Around) (f : Forest) (t : SigType) → size_by value t ≡ None → size_by value (suffixed s a f t) ≡ None
+  none_stays a none t e = ap (size_by value) (type.suffixed_none s a t) ∙ e
+  none_stays a (leaf k f) t e = ap (size_by value) (type.suffixed_leaf s a k f t) ∙ none_stays a f t e
   none_stays a (branch p b f) t e =
-      ap (data_size s) (suffixed_at s a p b f t)
+      ap (size_by value) (suffixed_at s a p b f t)
       ∙ none_stays a f (if is_among suffixes p then suffix s p b (owners_in s a b) t else suffixed s a b t) (go (is_among suffixes p) (none_stays a b t e))
     where
-      within : (c : Bool) → (if c then data_size s t else None) ≡ None
+      within : (c : Bool) → (if c then size_by value t else None) ≡ None
       within true = e
       within false = refl
 
-      go : (c : Bool) → data_size s (suffixed s a b t) ≡ None → data_size s (if c then suffix s p b (owners_in s a b) t else suffixed s a b t) ≡ None
+      go : (c : Bool) → size_by value (suffixed s a b t) ≡ None → size_by value (if c then suffix s p b (owners_in s a b) t else suffixed s a b t) ≡ None
       go true inner = suffix_size p b (owners_in s a b) t ∙ within (is_modifier p)
       go false inner = inner
 
@@ -97,9 +99,9 @@ module _ (s : Source) where
     pub is : preorder rest ≡ left
     pub type : SigType
     pub same : suffixed s a rest type ≡ whole
-    pub size-is : data_size s type ≡ size
+    pub size-is : size_by value type ≡ size
 
-  pub sized_start : (a : Around) (f : Forest) (nodes : List TreeNode) (t : SigType) → preorder f ≡ nodes → Sized a (suffixed s a f t) (data_size s t) nodes
+  pub sized_start : (a : Around) (f : Forest) (nodes : List TreeNode) (t : SigType) → preorder f ≡ nodes → Sized a (suffixed s a f t) (size_by value t) nodes
   sized_start a f nodes t e = record { rest = f; is = e; type = t; same = refl; size-is = refl }
 
   pub sized_into : ForestsJoin → (a : Around) (whole : SigType) (size : Option ℕ) (left : List TreeNode) (x : Opened) → Opens left x → is_suffix x.node ≡ false
@@ -137,32 +139,32 @@ module _ (s : Source) where
         is = b.rest-is;
         type = suffix s p b.inner by w.type;
         same = sym (type.suffixed_own s a p b.inner b.rest w.type known) ∙ ap (λ g. suffixed s a g w.type) (sym b.is) ∙ w.same;
-        size-is = suffix_size p b.inner by w.type ∙ ap (λ (c : Bool). if c then data_size s w.type else None) modifier ∙ w.size-is;
+        size-is = suffix_size p b.inner by w.type ∙ ap (λ (c : Bool). if c then size_by value w.type else None) modifier ∙ w.size-is;
       }
 
   pub sized_lost : (a : Around) (whole : SigType) (size : Option ℕ) (left : List TreeNode) (x : Opened) (p count : ℕ) → Opens left x → x.node ≡ Branch p count
-      → is_among suffixes p ≡ true → is_modifier p ≡ false → Sized a whole size left → data_size s whole ≡ None
+      → is_among suffixes p ≡ true → is_modifier p ≡ false → Sized a whole size left → size_by value whole ≡ None
   sized_lost a whole size left x p count o is known plain w =
       let b = o.branch w.rest p count w.is is in
       let by = owners_in s a b.inner in
-      ap (data_size s)
+      ap (size_by value)
       (sym (sym (type.suffixed_own s a p b.inner b.rest w.type known) ∙ ap (λ g. suffixed s a g w.type) (sym b.is) ∙ w.same))
       ∙ none_stays a b.rest (suffix s p b.inner by w.type)
-      (suffix_size p b.inner by w.type ∙ ap (λ (c : Bool). if c then data_size s w.type else None) plain)
+      (suffix_size p b.inner by w.type ∙ ap (λ (c : Bool). if c then size_by value w.type else None) plain)
 
-  pub sized_end : (a : Around) (whole : SigType) (size : Option ℕ) (left : List TreeNode) → left ≡ [] → Sized a whole size left → data_size s whole ≡ size
+  pub sized_end : (a : Around) (whole : SigType) (size : Option ℕ) (left : List TreeNode) → left ≡ [] → Sized a whole size left → size_by value whole ≡ size
   sized_end a whole size left e w =
       let nothing = no_forest w.rest (w.is ∙ e) in
-      ap (data_size s) (sym (sym (type.suffixed_none s a w.type) ∙ ap (λ g. suffixed s a g w.type) (sym nothing) ∙ w.same)) ∙ w.size-is
+      ap (size_by value) (sym (sym (type.suffixed_none s a w.type) ∙ ap (λ g. suffixed s a g w.type) (sym nothing) ∙ w.same)) ∙ w.size-is
 
   -- ---- bases
 
-  prim_size : (x : Primitive) → data_size s (Prim x) ≡ primitive_size x
-  prim_size x = fold-Prim (Option ℕ) (Option ℕ) no_size (size_step s) x
+  prim_size : (x : Primitive) → size_by value (Prim x) ≡ primitive_size x
+  prim_size x = fold-Prim (Option ℕ) (Option ℕ) no_size (size_step value) x
 
-  class_size : (name : TypeName) (args : List SigType) → data_size s (named_type false name args) ≡ None
-  class_size name [] = fold-Class (Option ℕ) (Option ℕ) no_size (size_step s) name
-  class_size name (t ∷ ts) = fold-Inst (Option ℕ) (Option ℕ) no_size (size_step s) false name (t ∷ ts)
+  class_size : (name : TypeName) (args : List SigType) → size_by value (named_type false name args) ≡ None
+  class_size name [] = fold-Class (Option ℕ) (Option ℕ) no_size (size_step value) name
+  class_size name (t ∷ ts) = fold-Inst (Option ℕ) (Option ℕ) no_size (size_step value) false name (t ∷ ts)
 
   int_size : (f : Forest) → primitive_size (int_type f) ≡ Some (bits_of (int_type f) / 8)
   int_size f =
@@ -180,8 +182,8 @@ module _ (s : Source) where
       one false x y e f = f
 
   module _ (a : Around) (p : ℕ) (f : Forest) (args : List SigType) where
-    pub base_size : (p == TYPE_BASE_VALUETYPE) ≡ false → data_size s (base_type s a p f args) ≡ base_width p f
-    base_size value =
+    pub base_size : (p == TYPE_BASE_VALUETYPE) ≡ false → size_by value (base_type s a p f args) ≡ base_width p f
+    base_size differs =
         let bang = if p == TYPE_BASE_BANG then Var (variable_number s (typar_names s a.class) f) else MVar (variable_number s (typar_names s a.method) f) in
         let values = if p == TYPE_BASE_VALUETYPE then named_type true (type_name s f) args else bang in
         let classes = if p == TYPE_BASE_CLASS then named_type false (type_name s f) args else values in
@@ -214,7 +216,7 @@ module _ (s : Source) where
         (neither (p == TYPE_BASE_NATIVE) (if has NATIVE_INT_INT f then Prim prim.NInt else Prim prim.NUint) classes
         (neither (has NATIVE_INT_INT f) (Prim prim.NInt) (Prim prim.NUint) (prim_size prim.NInt) (prim_size prim.NUint))
         (neither (p == TYPE_BASE_CLASS) (named_type false (type_name s f) args) values (class_size (type_name s f) args)
-        (other (p == TYPE_BASE_VALUETYPE) (named_type true (type_name s f) args) bang value
+        (other (p == TYPE_BASE_VALUETYPE) (named_type true (type_name s f) args) bang differs
         ∙ neither (p == TYPE_BASE_BANG) (Var (variable_number s (typar_names s a.class) f)) (MVar (variable_number s (typar_names s a.method) f))
-        (fold-Var (Option ℕ) (Option ℕ) no_size (size_step s) (variable_number s (typar_names s a.class) f))
-        (fold-MVar (Option ℕ) (Option ℕ) no_size (size_step s) (variable_number s (typar_names s a.method) f)))))))))))))
+        (fold-Var (Option ℕ) (Option ℕ) no_size (size_step value) (variable_number s (typar_names s a.class) f))
+        (fold-MVar (Option ℕ) (Option ℕ) no_size (size_step value) (variable_number s (typar_names s a.method) f)))))))))))))

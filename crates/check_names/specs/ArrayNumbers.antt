@@ -28,10 +28,13 @@ array_number s n = if n.production == TYPE_SUFFIX_BRACKET then shape_number s n.
 
 -- ---- all numbers, with those of arrays
 
-abbrev pub number_in_type : Source → Node → List ℕ
-number_in_type s n =
+abbrev pub number_in_signature : Source → Node → List ℕ
+number_in_signature s n =
     index_out_of_range s n ++ array_number s n ++ generic_number_out_of_range s n ++ arguments_out_of_range n
-    ++ second_ellipsis n ++ parameter_flags_out_of_range s n
+    ++ second_ellipsis n
+
+abbrev pub number_in_type : Source → Node → List ℕ
+number_in_type s n = number_in_signature s n ++ parameter_flags_out_of_range s n
 
 abbrev pub declared_number : Source → Node → List ℕ
 declared_number s n =

@@ -1,15 +1,15 @@
--- The items of data, by their productions, and how often they stand (ECMA-335 II.16.3).
-use Rattle.std.specs.Prelude.{ℕ, ◌&&◌, Bool, not, [], ◌∷◌}
-use Rattle.ilasm_grammar.specs.declared.productions.TheConstants.{BRACKETED_INT, DATA_ITEM_BYTES, DATA_ITEM_DATA_NUM}
-use Rattle.source_model.specs.Forest.{Forest, has, is_among, leaf_at, the}
-use Rattle.source_model.specs.OutOfRange.{is_repeat}
+-- The items of data, by their productions, and their lengths where they don't stand too often (ECMA-335 II.16.3).
+use Rattle.std.specs.Prelude.{ℕ, Bool, [], ◌∷◌, if◌then◌else◌, Option, None, Some}
+use Rattle.ilasm_grammar.specs.declared.productions.TheConstants.{DATA_ITEM_BYTES, DATA_ITEM_DATA_NUM}
+use Rattle.source_model.specs.Data.{item_length}
+use Rattle.source_model.specs.Forest.{Part, is_among}
+use Rattle.source_model.specs.OutOfRange.{stands_too_often}
 use Rattle.source_model.specs.Source.{Source}
-use Rattle.source_model.specs.Values.{int_at}
 
 -- a production is an item of data
 abbrev pub is_item : ℕ → Bool
 is_item p = is_among (DATA_ITEM_BYTES ∷ DATA_ITEM_DATA_NUM ∷ []) p
 
--- an item stands more often than it may
-abbrev pub stands_too_often : Source → Forest → Bool
-stands_too_often s f = has BRACKETED_INT f && not (is_repeat (int_at s (leaf_at 1 (the BRACKETED_INT f))))
+-- the bytes of an item, where it doesn't stand too often
+abbrev pub known_length : Source → Part → Option ℕ
+known_length s p = if stands_too_often s p.below then None else Some (item_length s p)

@@ -3,16 +3,16 @@
 ghost use Rattle.std.specs.Prelude.{◌≡◌, ◌/◌, IfOk, MatchOption, false, length, pos, true};
 ghost use Rattle.il_lexer.specs.declared.types.TokenKind.TheVariants.{ByteArray};
 ghost use Rattle.source_model.specs.Data.{data_items, item_bits, item_count};
-ghost use Rattle.source_model.specs.Forest.{Forest, part, preorder};
+ghost use Rattle.source_model.specs.Forest.{Forest, Part, part, preorder};
 ghost use Rattle.source_model.specs.Nodes.{Node};
-ghost use Rattle.source_model.specs.OutOfRange.{counted_length, data_too_long, is_repeat, item_past_length};
+ghost use Rattle.source_model.specs.OutOfRange.{counted_length, data_too_long, is_repeat, item_past_length, stands_too_often};
 ghost use Rattle.source_model.specs.Source.{Source};
 ghost use Rattle.source_model.specs.Values.{array_bytes, int_at};
 ghost use Rattle.source_syntax.specs.Derived.{FitsBody, HasBodies};
 ghost use Rattle.source_syntax.specs.Least.{least};
 ghost use Rattle.source_syntax.specs.Readers.{IsOf, Reads};
 ghost use Rattle.source_syntax.specs.Walk.{IsForest};
-ghost use Rattle.check_names.specs.DataItems.{is_item, stands_too_often};
+ghost use Rattle.check_names.specs.DataItems.{is_item, known_length};
 ghost use Rattle.check_visitor.specs.NumberTests.{bits_in};
 
 use crate::data_numbers::item_width;
@@ -101,17 +101,41 @@ fn counted_length(
     ensures { (s : Source) (f : Forest) → Reads reader.now s → preorder f ≡ item.now → FitsBody s production f →
         IfOk result (λ n. n ≡ counted_length s (part production f)) }
 {
-    let Some(count) = item_count(reader, item) else {
-        return Ok(0);
-    };
-    if production == productions::DATA_ITEM_BYTES {
-        byte_count(alloc, reader, leaf_at(item, 0))
-    } else {
-        Ok(u64::from(count) * u64::from(number_length(item)))
+    let length = known_length(alloc, reader, production, item)?;
+    Ok(or_none(length))
+}
+
+fn or_none(length: Option<u64>) -> u64
+    ensures { (s : Source) (p : Part) → length ≡ known_length s p → result ≡ counted_length s p }
+{
+    match length {
+        Some(length) => length,
+        None => 0,
     }
 }
 
-/// How often an item stands, where it doesn't stand too often.
+/// The bytes of an item, where it doesn't stand too often.
+pub fn known_length(
+    alloc: Global,
+    reader: &Reader,
+    production: u16,
+    item: &[TreeNode],
+) -> Result<Option<u64>, NoMemory>
+    requires { IsForest item.now }
+    ensures { (s : Source) (f : Forest) → Reads reader.now s → preorder f ≡ item.now → FitsBody s production f →
+        IfOk result (λ n. n ≡ known_length s (part production f)) }
+{
+    let Some(count) = item_count(reader, item) else {
+        return Ok(None);
+    };
+    if production == productions::DATA_ITEM_BYTES {
+        let bytes = byte_count(alloc, reader, leaf_at(item, 0))?;
+        return Ok(Some(bytes));
+    }
+    Ok(Some(u64::from(count) * u64::from(number_length(item))))
+}
+
+// How often an item stands, where it doesn't stand too often.
 fn item_count(reader: &Reader, item: &[TreeNode]) -> Option<u32>
     requires { IsForest item.now }
     ensures { (s : Source) (f : Forest) → Reads reader.now s → preorder f ≡ item.now →
@@ -144,8 +168,8 @@ fn repeat_of(value: i128) -> Option<u32>
     }
 }
 
-/// How many bytes `bytearray ( .. )` has.
-pub fn byte_count(alloc: Global, reader: &Reader, token: u32) -> Result<u64, NoMemory>
+// How many bytes `bytearray ( .. )` has.
+fn byte_count(alloc: Global, reader: &Reader, token: u32) -> Result<u64, NoMemory>
     ensures { (s : Source) → Reads reader.now s → IsOf s ByteArray token → IfOk result (λ n. n ≡ length (array_bytes s token)) }
 {
     let bytes = reader.array_bytes(alloc, token)?;

@@ -1,37 +1,30 @@
 //! The lengths of data that fields are mapped to (ECMA-335 II.16.3).
 
-ghost use Rattle.std.specs.Prelude.{◌≡◌, ◌≤◌, ◌++◌, ◌*◌, ◌/◌, ◌^◌, ℕ, IfOk, map, min, option_map, slice_get};
-ghost use Rattle.il_lexer.specs.Classes.{first_is};
-ghost use Rattle.source_model.specs.Data.{data_length, data_named, item_count, item_length, labelled};
-ghost use Rattle.source_model.specs.Forest.{Forest, part, preorder};
-ghost use Rattle.source_model.specs.Shapes.{natural};
+ghost use Rattle.std.specs.Prelude.{◌≡◌, ◌≤◌, ◌++◌, IfOk, map, min, option_map, slice_get};
+ghost use Rattle.source_model.specs.Data.{data_named, labelled};
+ghost use Rattle.source_model.specs.Forest.{Forest, preorder};
 ghost use Rattle.source_model.specs.Source.{Source};
-ghost use Rattle.source_model.specs.Values.{int_at, integer};
-ghost use Rattle.source_syntax.specs.Derived.{FitsBody, HasBodies};
-ghost use Rattle.source_syntax.specs.Integers.{distance};
+ghost use Rattle.source_syntax.specs.Derived.{HasBodies};
 ghost use Rattle.source_syntax.specs.Namings.{AreNames};
 ghost use Rattle.source_syntax.specs.Readers.{Reads};
 ghost use Rattle.source_syntax.specs.declared.name_lists.Naming.TheVariants as naming;
 ghost use Rattle.source_syntax.specs.Walk.{IsForest};
-ghost use Rattle.check_names.specs.MappedData.{counted_length, length_labelled};
-ghost use Rattle.check_visitor.specs.NumberTests.{bits_in};
+ghost use Rattle.check_names.specs.MappedData.{counted_by, counted_length, length_labelled};
 
-use crate::data_lengths::{byte_count, is_item};
-use crate::data_numbers::item_width;
-use check_visitor::ranges::Width;
+use crate::data_lengths::{is_item, known_length};
 use il_base::{Items, NoMemory};
 use ilasm_grammar::{TreeNode, productions};
 use source_model::{derivations_are_forests, forests_join, forests_open};
 use source_syntax::derived::derivations_have_bodies;
 use source_syntax::name_lists::Named;
 use source_syntax::reader::Reader;
-use source_syntax::walk::{has, is_of, leaf_at, next, open, the};
+use source_syntax::walk::{has, is_of, next, open};
 use std::alloc::Global;
 
 // Up to which number bytes are counted: no value has so many.
 const MOST: u64 = 0x1_0000_0000;
 
-/// The length of the first data with this label, counted up to 2^32.
+/// The length of the first data with this label, counted up to 2^32; 2^32 where a repeat in it is out of its range.
 pub fn length_named(labels: &Named, lengths: &[u64], label: &[u8]) -> Option<u64>
     ensures { (s : Source) → AreNames s naming.Label labels.now → lengths.now ≡ map (counted_length s) (labelled s) →
         result ≡ option_map (counted_length s) (data_named s label.now) }
@@ -48,7 +41,7 @@ fn length_at(lengths: &[u64], k: usize) -> Option<u64>
     lengths.get(k).copied()
 }
 
-/// The lengths of the data with labels, in order, each counted up to 2^32.
+/// The lengths of the data with labels, in order, each counted up to 2^32; 2^32 where a repeat in it is out of its range.
 pub fn lengths(alloc: Global, reader: &Reader) -> Result<Items<u64>, NoMemory>
     requires { IsForest reader.now.nodes.now }
     ensures { (s : Source) → Reads reader.now s → IfOk result (λ ns. ns ≡ map (counted_length s) (labelled s)) }
@@ -87,10 +80,10 @@ fn push_length(
     }
 }
 
-// How many bytes data has, counted up to 2^32.
+// How many bytes data has, counted up to 2^32; 2^32 where a repeat in it is out of its range.
 fn data_length(alloc: Global, reader: &Reader, below: &[TreeNode]) -> Result<u64, NoMemory>
     requires { IsForest below.now }
-    ensures { (s : Source) (f : Forest) → Reads reader.now s → preorder f ≡ below.now → HasBodies s f → IfOk result (λ n. n ≡ min (data_length s f) 0x100000000) }
+    ensures { (s : Source) (f : Forest) → Reads reader.now s → preorder f ≡ below.now → HasBodies s f → IfOk result (λ n. n ≡ counted_length s f) }
 {
     derivations_are_forests();
     forests_open();
@@ -105,8 +98,8 @@ fn data_length(alloc: Global, reader: &Reader, below: &[TreeNode]) -> Result<u64
             } => {
                 if is_item(production) {
                     let (item, after) = rest.split_at(count as usize);
-                    let length = item_length(alloc, reader, production, item)?;
-                    total = up_to_most(total + length);
+                    let length = known_length(alloc, reader, production, item)?;
+                    total = up_to_most(total + counted(length));
                     left = after;
                 } else {
                     left = rest;
@@ -118,77 +111,14 @@ fn data_length(alloc: Global, reader: &Reader, below: &[TreeNode]) -> Result<u64
     Ok(total)
 }
 
-// How many bytes an item has.
-fn item_length(
-    alloc: Global,
-    reader: &Reader,
-    production: u16,
-    item: &[TreeNode],
-) -> Result<u64, NoMemory>
-    requires { IsForest item.now }
-    ensures few { IfOk result (λ n. n ≤ 0x100000000) }
-    ensures length { (s : Source) (f : Forest) → Reads reader.now s → preorder f ≡ item.now → FitsBody s production f →
-        IfOk result (λ n. n ≡ min (item_length s (part production f)) 0x100000000) }
-{
-    if production == productions::DATA_ITEM_BYTES {
-        let count = byte_count(alloc, reader, leaf_at(item, 0))?;
-        return Ok(up_to_most(count));
-    }
-    let count = item_count(reader, item);
-    Ok(times(count, item_width(item)))
-}
-
-// How often an item stands.
-fn item_count(reader: &Reader, item: &[TreeNode]) -> u64
-    requires { IsForest item.now }
+// A length as it is counted; one that isn't known is enough for all.
+fn counted(length: Option<u64>) -> u64
     ensures few { result ≤ 0x100000000 }
-    ensures count { (s : Source) (f : Forest) → Reads reader.now s → preorder f ≡ item.now → result ≡ min (item_count s f) 0x100000000 }
+    ensures number { result ≡ counted_by length }
 {
-    if has(item, productions::BRACKETED_INT) {
-        natural(reader, leaf_at(the(item, productions::BRACKETED_INT), 1))
-    } else {
-        1
-    }
-}
-
-/// The number that an INT spells, counted up to 2^32; 0 for a negative one.
-pub fn natural(reader: &Reader, token: u32) -> u64
-    ensures few { result ≤ 0x100000000 }
-    ensures number { (s : Source) → Reads reader.now s → result ≡ min (natural (int_at s token)) 0x100000000 }
-{
-    match reader.integer(token) {
-        Some(value) => natural_of(value),
-        None => beyond_all(reader.spelling(token)),
-    }
-}
-
-fn natural_of(value: i128) -> u64
-    ensures few { result ≤ 0x100000000 }
-    ensures number { result ≡ min (natural value) 0x100000000 }
-{
-    if value < 0 {
-        0
-    } else if value < 0x1_0000_0000 {
-        value as u64
-    } else {
-        MOST
-    }
-}
-
-// The same of a number that lies 2^64 or more from 0.
-fn beyond_all(spelling: &[u8]) -> u64
-    ensures few { result ≤ 0x100000000 }
-    ensures number { 2 ^ 64 ≤ distance (integer spelling.now) → result ≡ min (natural (integer spelling.now)) 0x100000000 }
-{
-    if is_negative(spelling) { 0 } else { MOST }
-}
-
-fn is_negative(spelling: &[u8]) -> bool
-    ensures { result ≡ first_is 45 spelling.now }
-{
-    match spelling {
-        [first, ..] => *first == b'-',
-        [] => false,
+    match length {
+        Some(length) => up_to_most(length),
+        None => MOST,
     }
 }
 
@@ -196,18 +126,4 @@ fn up_to_most(count: u64) -> u64
     ensures { result ≡ min count 0x100000000 }
 {
     if count < MOST { count } else { MOST }
-}
-
-// So many times the bytes of a width.
-fn times(count: u64, width: Width) -> u64
-    requires { count ≤ 0x100000000 }
-    ensures few { result ≤ 0x100000000 }
-    ensures number { (n : ℕ) → count ≡ min n 0x100000000 → result ≡ min (n * (bits_in width / 8)) 0x100000000 }
-{
-    match width {
-        Width::Bits8 => up_to_most(count),
-        Width::Bits16 => up_to_most(count * 2),
-        Width::Bits32 => up_to_most(count * 4),
-        Width::Bits64 => up_to_most(count * 8),
-    }
 }

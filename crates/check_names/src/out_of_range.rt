@@ -9,7 +9,7 @@ ghost use Rattle.source_model.specs.Source.{Source};
 ghost use Rattle.source_syntax.specs.Least.{least};
 ghost use Rattle.source_syntax.specs.Readers.{Reads};
 ghost use Rattle.source_syntax.specs.Walk.{IsForest};
-ghost use Rattle.check_names.specs.ArrayNumbers.{declared_number, number_at, number_in_type};
+ghost use Rattle.check_names.specs.ArrayNumbers.{declared_number, number_at, number_in_signature, number_in_type};
 
 use crate::array_numbers::array_number;
 use crate::barred::{barred_argument, barred_of_property, parameter_flags_number};
@@ -78,8 +78,9 @@ fn declared_number(reader: &Reader, production: u16, below: &[TreeNode]) -> Opti
     sooner(to_layout, data_number(reader, production, below))
 }
 
-/// The least number or count of a type or a signature that is out of its range, where this production is a part of one.
-pub fn number_in_type(
+/// The least number or count of a type or a signature that is out of its range, where this production is a part of one, and of
+/// the flags of a parameter.
+fn number_in_type(
     alloc: Global,
     reader: &Reader,
     production: u16,
@@ -89,13 +90,25 @@ pub fn number_in_type(
     ensures { (s : Source) (n : Node) → Reads reader.now s → n.production ≡ production → preorder n.below ≡ below.now →
         IfOk result (λ k. k ≡ least (number_in_type s n)) }
 {
+    let signature = number_in_signature(alloc, reader, production, below)?;
+    Ok(sooner(signature, parameter_flags_number(reader, production, below)))
+}
+
+/// The least number or count of a type or a signature that is out of its range, where this production is a part of one.
+pub fn number_in_signature(
+    alloc: Global,
+    reader: &Reader,
+    production: u16,
+    below: &[TreeNode],
+) -> Result<Option<u32>, NoMemory>
+    requires { IsForest below.now }
+    ensures { (s : Source) (n : Node) → Reads reader.now s → n.production ≡ production → preorder n.below ≡ below.now →
+        IfOk result (λ k. k ≡ least (number_in_signature s n)) }
+{
     let array = array_number(alloc, reader, production, below)?;
     let to_array = sooner(index_number(reader, production, below), array);
     let to_generic = sooner(to_array, generic_number(reader, production, below));
     let to_argument = sooner(to_generic, argument_past_most(production, below));
     let to_ellipsis = sooner(to_argument, second_ellipsis(production, below));
-    Ok(sooner(
-        to_ellipsis,
-        parameter_flags_number(reader, production, below),
-    ))
+    Ok(to_ellipsis)
 }

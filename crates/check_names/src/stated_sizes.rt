@@ -1,9 +1,11 @@
 //! The sizes in data that types state by themselves: the widths of primitive types (ECMA-335 II.16.3).
 
-ghost use Rattle.std.specs.Prelude.{◌≡◌, List, None, false, if◌then◌else◌, ◌==◌};
+ghost use Rattle.std.specs.Prelude.{◌≡◌, ℕ, List, None, Option, false, if◌then◌else◌, ◌==◌};
+ghost use Rattle.type_terms.specs.declared.name.Scope.{Scope};
+ghost use Rattle.type_terms.specs.declared.name.TypeId.{TypeId};
 ghost use Rattle.type_terms.specs.declared.term.SigType.{SigType};
 ghost use Rattle.ilasm_grammar.specs.declared.productions.TheConstants.{TYPE_BASE_VALUETYPE};
-ghost use Rattle.source_model.specs.Data.{data_size};
+ghost use Rattle.source_model.specs.Data.{size_by};
 ghost use Rattle.source_model.specs.Forest.{Forest, preorder};
 ghost use Rattle.source_model.specs.Nodes.{Around};
 ghost use Rattle.source_model.specs.Source.{Source};
@@ -25,8 +27,8 @@ use source_syntax::walk::open;
 /// Whether a type has the size of what its suffixes stand behind: where these are modifiers. Else it has none.
 pub fn keeps_size(suffixes: &[TreeNode]) -> bool
     requires { IsForest suffixes.now }
-    ensures { (s : Source) (a : Around) (f : Forest) → preorder f ≡ suffixes.now → (t : SigType) →
-        data_size s (suffixed s a f t) ≡ (if result then data_size s t else None) }
+    ensures { (s : Source) (a : Around) (f : Forest) → preorder f ≡ suffixes.now → (value : Scope → List TypeId → Option ℕ) (t : SigType) →
+        size_by value (suffixed s a f t) ≡ (if result then size_by value t else None) }
 {
     forests_join();
     let mut left = suffixes;
@@ -46,8 +48,8 @@ pub fn keeps_size(suffixes: &[TreeNode]) -> bool
 /// The bytes of a base that is no value type, where it has a stated size.
 pub fn primitive_size(production: u16, below: &[TreeNode]) -> Option<u8>
     requires { IsForest below.now }
-    ensures { (s : Source) (a : Around) (f : Forest) (args : List SigType) → preorder f ≡ below.now → (production == TYPE_BASE_VALUETYPE) ≡ false →
-        data_size s (base_type s a production f args) ≡ result }
+    ensures { (s : Source) (a : Around) (f : Forest) (args : List SigType) (value : Scope → List TypeId → Option ℕ) → preorder f ≡ below.now →
+        (production == TYPE_BASE_VALUETYPE) ≡ false → size_by value (base_type s a production f args) ≡ result }
 {
     base_width(production, below)
 }

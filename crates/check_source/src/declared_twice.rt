@@ -86,7 +86,7 @@ fn each_twice(alloc: Global, reader: &Reader, declared: &Declarations) -> Result
     let rule = signatures_of(&declared.externs, &declared.own, &declared.classes);
     Ok(Twice {
         types: declared.classes.again,
-        members: member_twice(&rule, alloc, reader, &declared.externs)?,
+        members: member_twice(&rule, alloc, reader, &declared.externs, &declared.own)?,
         externs: assembly_again(&declared.externs),
         labels: label_twice(alloc, reader)?,
         entries: entry_again(reader, &declared.census),

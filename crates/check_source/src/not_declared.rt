@@ -104,7 +104,7 @@ fn other_undeclared(
         labels: None,
         variables: None,
         typars: None,
-        accessors: accessor_absent(&rule, alloc, reader, externs, census)?,
+        accessors: accessor_absent(&rule, alloc, reader, externs, own, census)?,
         assembly: without_assembly(reader),
         data_labels: None,
     })
@@ -145,7 +145,7 @@ fn each_undeclared(
         labels: label_undeclared(alloc, reader)?,
         variables: variable_undeclared(alloc, reader)?,
         typars: typar_undeclared(alloc, reader)?,
-        accessors: accessor_absent(&rule, alloc, reader, externs, census)?,
+        accessors: accessor_absent(&rule, alloc, reader, externs, own, census)?,
         assembly: without_assembly(reader),
         data_labels: data_undeclared(alloc, reader, labels)?,
     })
@@ -157,18 +157,19 @@ fn accessor_absent(
     alloc: Global,
     reader: &Reader,
     externs: &Named,
+    own: &Named,
     census: &Census,
 ) -> Result<Option<u32>, NoMemory>
     requires forest { IsForest reader.now.nodes.now }
     requires few { length reader.now.nodes.now < 2 ^ 32 }
-    ensures { (s : Source) → Reads reader.now s → AreNames s naming.Assembly externs.now → IsCensus (preorder s.tree) census.now →
+    ensures { (s : Source) → Reads reader.now s → AreNames s naming.Assembly externs.now → AreNames s naming.Own own.now → IsCensus (preorder s.tree) census.now →
         ((n : Node) → is_nothing (part_broken rule.now.types.scopes.keys.now rule.now.types.scopes.own.now rule.now.types.classes.now s n) ≡ is_nothing (breaks_signature s n)) →
         IfOk result (λ k. k ≡ least (accessors_undeclared s)) }
 {
     if !has_owners(census) {
         return Ok(None);
     }
-    let absent = accessor_undeclared(rule, alloc, reader, externs)?;
+    let absent = accessor_undeclared(rule, alloc, reader, externs, own)?;
     Ok(absent)
 }
 

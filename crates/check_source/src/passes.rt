@@ -59,7 +59,7 @@ pub fn pass_fault(
         ..
     } = declared;
     let rule = signatures_of(externs, own, classes);
-    let outer = outer_fault(&rule, alloc, reader, externs, census)?;
+    let outer = outer_fault(&rule, alloc, reader, externs, own, census)?;
     let inner = declaration_fault(alloc, reader, declared)?;
     Ok(sooner(inner, outer))
 }
@@ -70,11 +70,12 @@ fn outer_fault(
     alloc: Global,
     reader: &Reader,
     externs: &Named,
+    own: &Named,
     census: &Census,
 ) -> Result<Option<u32>, NoMemory>
     requires forest { IsForest reader.now.nodes.now }
     requires few { length reader.now.nodes.now < 2 ^ 32 }
-    ensures { (s : Source) → Reads reader.now s → AreNames s naming.Assembly externs.now → IsCensus (preorder s.tree) census.now →
+    ensures { (s : Source) → Reads reader.now s → AreNames s naming.Assembly externs.now → AreNames s naming.Own own.now → IsCensus (preorder s.tree) census.now →
         ((n : Node) → is_nothing (part_broken rule.now.types.scopes.keys.now rule.now.types.scopes.own.now rule.now.types.classes.now s n) ≡ is_nothing (breaks_signature s n)) →
         IfOk result (λ k. k ≡ least (members_twice_in s nothing_around (declarations s.tree))) }
 {
@@ -82,7 +83,7 @@ fn outer_fault(
     if !has_outer_members(census) {
         return Ok(None);
     }
-    let first = outer_twice(rule, alloc, reader, externs)?;
+    let first = outer_twice(rule, alloc, reader, externs, own)?;
     Ok(first)
 }
 
@@ -160,7 +161,7 @@ fn tree_fault(
     let rule = signatures_of(externs, own, classes);
     let bodies = body_fault(alloc, reader, nodes)?;
     let parts = part_fault(alloc, reader, externs, own, classes, labels, nodes)?;
-    let members = inner_twice(&rule, alloc, reader, externs, nodes)?;
+    let members = inner_twice(&rule, alloc, reader, externs, own, nodes)?;
     let to_parts = sooner(bodies, parts);
     Ok(sooner(to_parts, members))
 }

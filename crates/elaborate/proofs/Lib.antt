@@ -4,7 +4,6 @@ pub mod ClassLemmas
 pub mod ClassWalks
 pub mod CoreLemmas
 pub mod Elaborated
-pub mod InterfaceLemmas
 pub mod NestedLemmas
 pub mod PassedForms
 pub mod PlainLemmas

@@ -3,10 +3,7 @@ pub mod ClassParts
 pub mod Cores
 pub mod Elaborated
 pub mod HeadForms
-pub mod Interfaces
 pub mod KnownSizes
-pub mod OwnerLaws
-pub mod OwnerOrder
 pub mod SourceMembers
 pub mod Standing
 pub mod WholeParts

@@ -17,12 +17,12 @@ ghost use Rattle.source_syntax.specs.Places.{IsAt};
 ghost use Rattle.source_syntax.specs.Walk.{IsForest};
 
 use crate::bases::{base, is_root};
-use crate::interfaces::rising;
 use assembly_tree::Layout;
 use il_base::{Items, NoMemory};
 use ilasm_grammar::TreeNode;
 use ilasm_grammar::productions::IMPLEMENTS_OPT_SOME;
 use lower_members::layouts::layout;
+use sorted_owners::rising;
 use source_flags::declared_flags::type_flags;
 use source_syntax::pieces::Piece;
 use source_syntax::place::Place;

@@ -1,7 +1,7 @@
 //! The sizes of a source's classes in data, by their paths (ECMA-335 II.10.7, II.16.3, II.22.8).
 
-ghost use Rattle.std.specs.Prelude.{◌≡◌, ◌∷◌, [], IfOk, map, min};
-ghost use Rattle.elaborate.specs.KnownSizes.{in_word};
+ghost use Rattle.std.specs.Prelude.{◌≡◌, ◌∷◌, [], IfOk, map};
+ghost use Rattle.elaborate.specs.KnownSizes.{known_size};
 ghost use Rattle.elaborate.specs.Standing.{stands_outside};
 ghost use Rattle.ilasm_grammar.specs.declared.productions.TheConstants.{MEMBER_SIZE};
 ghost use Rattle.lower_members.specs.ClassSizes.{AreSizes};
@@ -49,40 +49,30 @@ fn stated_sizes(alloc: Global, reader: &Reader) -> Result<ClassSizes, NoMemory>
     ensures { (s : Source) → Reads reader.now s → AllInRange s s.tree → IfOk result (λ sizes. AreSizes s sizes) }
 {
     let classes = collect_classes(alloc, reader)?;
-    let counted = collect_sizes(alloc, reader, &classes)?;
-    let sizes = in_words(alloc, counted.as_slice())?;
+    let asked = collect_sizes(alloc, reader, &classes)?;
+    let sizes = known_of(alloc, asked.as_slice())?;
     Ok(ClassSizes {
         paths: classes.paths,
         sizes,
     })
 }
 
-fn in_words(alloc: Global, counted: &[Option<Option<u64>>]) -> Result<Items<Option<u32>>, NoMemory>
-    ensures { IfOk result (λ sizes. sizes ≡ map in_word counted.now) }
+// The sizes that are known.
+fn known_of(alloc: Global, asked: &[Option<Option<u32>>]) -> Result<Items<Option<u32>>, NoMemory>
+    ensures { IfOk result (λ sizes. sizes ≡ map known_size asked.now) }
 {
-    let mut sizes = Items::with_capacity(alloc, counted.len())?;
-    for size in counted {
-        sizes.push(in_word(*size))?;
+    let mut sizes = Items::with_capacity(alloc, asked.len())?;
+    for size in asked {
+        sizes.push(known_size(*size))?;
     }
     Ok(sizes)
 }
 
-fn in_word(size: Option<Option<u64>>) -> Option<u32>
-    ensures { result ≡ in_word size }
+fn known_size(size: Option<Option<u32>>) -> Option<u32>
+    ensures { result ≡ known_size size }
 {
     match size {
-        Some(Some(n)) => Some(low_word(n)),
-        Some(None) | None => None,
-    }
-}
-
-// A number, or 2^32 - 1 where it is beyond that.
-fn low_word(n: u64) -> u32
-    ensures { result ≡ min n 0xFFFFFFFF }
-{
-    if n < 0xFFFF_FFFF {
-        n as u32
-    } else {
-        0xFFFF_FFFF
+        Some(known) => known,
+        None => None,
     }
 }

@@ -12,7 +12,6 @@ pub mod elaborating;
 pub mod extern_keys;
 pub mod faultless_sources;
 pub mod gathering;
-pub mod interfaces;
 pub mod known_sizes;
 pub mod member_reader;
 pub mod name_fault;
@@ -21,3 +20,4 @@ pub mod standing;
 
 pub use elaborating::{elaborate, elaborate_spans};
 pub use name_fault::NameFault;
+pub use source_model::NameClass;

@@ -9,14 +9,14 @@ use Rattle.il_lexer.specs.declared.types.Lexeme.{Lexeme}
 use Rattle.il_lexer.specs.declared.types.TokenKind.{TokenKind}
 use Rattle.il_lexer.specs.declared.types.TokenKind.TheVariants.{Name, Scope, Int, QString, EqBytes, ByteArray, RealBytes, Hash, Unused, Word}
 use Rattle.il_lexer.specs.declared.word.TheConstants.{BANG, DOUBLE_BANG, COLON, DOUBLE_COLON, MINUS, EQUALS, OPEN_PAREN, OPEN_BRACKET, ELLIPSIS, SLASH}
-use Rattle.il_lexer.specs.Classes.{is_blank, is_digit, is_hex, is_id_start, is_id_part, first_passes, first_is}
+use Rattle.il_lexer.specs.Classes.{is_digit, is_hex, is_id_start, is_id_part, first_passes, first_is}
 use Rattle.il_lexer.specs.Runs.{front}
 use Rattle.il_lexer.specs.Quotes.{quoted_length, quote_fault}
 use Rattle.il_lexer.specs.Spellings.{is_barred, id_length, name_length, int_length, pairs_in, bytes_length}
 use Rattle.il_lexer.specs.WordList.{word_number}
 use Rattle.il_lexer.specs.Tokens.{Found, lexeme, token, token_or, word_or, quoted_name_token, string_token, digits_token, minus_token, directive_or, dot_token, hash_token, scope_or, bracket_token, equals_token, real_or, paren_token, slash_token, doubled_token, mark_token, token_at}
 use Rattle.il_lexer.specs.Spelled.{IsId, IsName, IsWord, IsGap, IsPairs, IsDecimal, IsHexadecimal, IsSpelling}
-use Rattle.il_lexer.specs.Longest.{is_word, ends_parenthesis, ends_word}
+use Rattle.il_lexer.specs.Longest.{is_word, gap_begins, ends_parenthesis, ends_word}
 use Rattle.il_lexer.proofs.Fronts.{Front, front-rest, first-is-cons, front-stops, not-true, eq-self}
 use Rattle.il_lexer.proofs.SpelledBytes.{PairsAt, pairs-front}
 use Rattle.il_lexer.proofs.SpelledNames.{id-front, name-front, name-some, IntFront, int-front}
@@ -123,16 +123,16 @@ reach_equals k w after word =
         sym (no-bytes-behind after h) ∙ e in cc))
 
 -- behind a `(` that ends there stands one pair at most
-gap_begins : {g : List ℕ} → IsGap g → 0 < length g → (c : ℕ) × (rest : List ℕ) × (g ≡ c ∷ rest) × ((is_blank c || nat_eq c 47) ≡ true)
-gap_begins IsGap.none lt = absurd (omega arith)
-gap_begins (IsGap.blank {b = b} {bs = bs} h more) lt = (b, bs, refl, ap (λ t. t || nat_eq b 47) h)
-gap_begins (IsGap.line text {bs = bs} each more is) lt = (47, 47 ∷ (text ++ 10 ∷ bs), is, refl)
-gap_begins (IsGap.block {text = text} {bs = bs} closed more is) lt = (47, 42 ∷ (text ++ bs), is, refl)
+begun_gap : {g : List ℕ} → IsGap g → 0 < length g → (after : List ℕ) → gap_begins (g ++ after) ≡ true
+begun_gap IsGap.none lt after = absurd (omega arith)
+begun_gap (IsGap.blank {b = b} {bs = bs} h more) lt after =
+    ap (λ t. t || (nat_eq b 47 && (first_is 42 (bs ++ after) || first_is 47 (bs ++ after)))) h
+begun_gap (IsGap.line text {bs = bs} each more is) lt after = ap (λ g. gap_begins (g ++ after)) is
+begun_gap (IsGap.block {text = text} {bs = bs} closed more is) lt after = ap (λ g. gap_begins (g ++ after)) is
 
-not_gap_first : (c : ℕ) (rest : List ℕ) → (is_blank c || nat_eq c 47) ≡ true → ends_parenthesis (c ∷ rest) ≡ false
-not_gap_first c [] h = ap not h
-not_gap_first c (d ∷ []) h = ap not h
-not_gap_first c (d ∷ e ∷ rest) h = ap (λ t. not t && not (is_hex c && is_hex d && (is_blank e || nat_eq e 47))) h
+not_gap_first : (after : List ℕ) → gap_begins after ≡ true → ends_parenthesis after ≡ false
+not_gap_first after h =
+    ap (λ t. not t && not (first_passes is_hex after && first_passes is_hex (drop 1 after) && gap_begins (drop 2 after))) h
 
 and_true : (x y z : Bool) → x ≡ true → y ≡ true → z ≡ true → (x && y && z) ≡ true
 and_true true true z a b c = c
@@ -143,20 +143,19 @@ second_false : (x y : Bool) → y ≡ false → (x && y) ≡ false
 second_false true y h = h
 second_false false y h = refl
 
-not_pairs_first : (a b c : ℕ) (rest : List ℕ) → is_hex a ≡ true → is_hex b ≡ true → (is_blank c || nat_eq c 47) ≡ true →
-    ends_parenthesis (a ∷ b ∷ c ∷ rest) ≡ false
-not_pairs_first a b c rest ha hb hc =
-    second_false (not (is_blank a || nat_eq a 47)) (not (is_hex a && is_hex b && (is_blank c || nat_eq c 47)))
-    (ap not (and_true (is_hex a) (is_hex b) (is_blank c || nat_eq c 47) ha hb hc))
+not_pairs_first : (a b : ℕ) (rest : List ℕ) → is_hex a ≡ true → is_hex b ≡ true → gap_begins rest ≡ true →
+    ends_parenthesis (a ∷ b ∷ rest) ≡ false
+not_pairs_first a b rest ha hb hc =
+    second_false (not (gap_begins (a ∷ b ∷ rest))) (not (is_hex a && is_hex b && gap_begins rest))
+    (ap not (and_true (is_hex a) (is_hex b) (gap_begins rest) ha hb hc))
 
 few_inner : {n : ℕ} {inner : List ℕ} → IsPairs n inner → (after : List ℕ) → ends_parenthesis (inner ++ 41 ∷ after) ≡ true → n ≤ 1
 few_inner (IsPairs.none en is) after h = omega arith
 few_inner (IsPairs.last en ha hb hg is) after h = omega arith
 few_inner (IsPairs.more {a = a} {b = b} {g = g} {rest = rest} en ha hb hg some tail is) after h =
-    let c = gap_begins hg some in
-    let whole = is ∙ ap (λ x. a ∷ b ∷ (x ++ rest)) c.2 in
-    absurd (false≢true (sym (not_pairs_first a b c.0 ((c.1 ++ rest) ++ 41 ∷ after) ha hb c.3)
-    ∙ sym (ap (λ x. ends_parenthesis (x ++ 41 ∷ after)) whole) ∙ h))
+    absurd (false≢true (sym (not_pairs_first a b ((g ++ rest) ++ 41 ∷ after) ha hb
+    (ap gap_begins (append_assoc g rest (41 ∷ after)) ∙ begun_gap hg some (rest ++ 41 ∷ after)))
+    ∙ sym (ap (λ x. ends_parenthesis (x ++ 41 ∷ after)) is) ∙ h))
 
 few_pairs : {after : List ℕ} {bytes n : ℕ} → PairsAt after bytes n → ends_parenthesis after ≡ true → n ≤ 1
 few_pairs {after} {bytes} {n} p h = go p.lead p.gap_is p.whole
@@ -164,9 +163,8 @@ few_pairs {after} {bytes} {n} p h = go p.lead p.gap_is p.whole
     go : (lead : List ℕ) → IsGap lead → after ≡ lead ++ (p.inner ++ 41 ∷ p.after) → n ≤ 1
     go [] g e = few_inner p.spelled p.after (sym (ap ends_parenthesis e) ∙ h)
     go (x ∷ lead) g e =
-        let c = gap_begins g (omega arith) in
-        absurd (false≢true (sym (not_gap_first c.0 (c.1 ++ (p.inner ++ 41 ∷ p.after)) c.3)
-        ∙ sym (ap (λ y. ends_parenthesis (y ++ (p.inner ++ 41 ∷ p.after))) c.2) ∙ sym (ap ends_parenthesis e) ∙ h))
+        absurd (false≢true (sym (not_gap_first (x ∷ (lead ++ (p.inner ++ 41 ∷ p.after))) (begun_gap g (omega arith) (p.inner ++ 41 ∷ p.after)))
+        ∙ sym (ap ends_parenthesis e) ∙ h))
 
 reach_paren : (k : ℕ) (w after : List ℕ) → IsWord k (40 ∷ w) → Reach (Word k) (40 ∷ w) after
 unfolding token_at paren_token

@@ -91,11 +91,16 @@ abbrev pub ends_before_bytes : List ℕ → Bool
 ends_before_bytes [] = true
 ends_before_bytes (b ∷ bs) = if is_blank b then ends_before_bytes bs else not (b == 40 || b == 47)
 
+-- a gap begins at the front: a blank, or a comment by its first two bytes
+abbrev pub gap_begins : List ℕ → Bool
+gap_begins bs =
+    first_passes is_blank bs || (first_is 47 bs && (first_is 42 (drop 1 bs) || first_is 47 (drop 1 bs)))
+
 -- behind `(` there is no gap, and no pair of digits with a gap behind it
 abbrev pub ends_parenthesis : List ℕ → Bool
-ends_parenthesis (a ∷ b ∷ c ∷ after) =
-    not (is_blank a || a == 47) && not (is_hex a && is_hex b && (is_blank c || c == 47))
-ends_parenthesis after = not (first_passes is_blank after || first_is 47 after)
+ends_parenthesis after =
+    not (gap_begins after)
+    && not (first_passes is_hex after && first_passes is_hex (drop 1 after) && gap_begins (drop 2 after))
 
 -- behind a word, by its first bytes
 abbrev pub ends_word : List ℕ → List ℕ → Bool

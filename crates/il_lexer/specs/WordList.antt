@@ -3,6 +3,7 @@ use Rattle.std.specs.Prelude.{ℕ, List, [], ◌∷◌, codes, if◌then◌else�
 use Rattle.std.specs.Str.{bytes_eq}
 use Rattle.std.proofs.Common.{suc}
 
+-- `words` is made by tools/words.py from tools/words.txt.
 unfoldable pub words : List (List ℕ)
 words =
     codes "!" ∷

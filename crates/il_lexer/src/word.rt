@@ -1,3 +1,4 @@
+// Made by tools/words.py from tools/words.txt: change that text, and run the script.
 //! The numbers of the words, each named by its spelling: `DOT_` stands for a first dot, `_` for a dot
 //! within, and nothing for a last one. `WORDS` has the words in this order.
 

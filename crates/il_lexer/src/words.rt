@@ -5,6 +5,7 @@ ghost use Rattle.il_lexer.specs.declared.words.TheConstants.{SLOTS};
 
 use crate::keys::{is_same_keyed, key_of, slot_of};
 
+// WORDS, KEYS and SLOTS are made by tools/words.py from tools/words.txt.
 /// The words of the language: each reserved word, each directive of the grammar or left out of it, the
 /// bracket words and the marks, by their bytes in rising order. The number of a word is its place here.
 pub static WORDS: [&str; 401] = [

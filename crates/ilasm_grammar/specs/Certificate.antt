@@ -1,3 +1,4 @@
+-- Made by tools/grammar.py from tools/grammar.txt: change that text, and run the script.
 -- What the table's facts are checked by. Nothing rests on how these numbers were found: the facts are proved of them, by computing.
 -- A set of terminals, or of nonterminals, is the number that has their bits.
 use Rattle.std.specs.Prelude.{ℕ, List, [], ◌∷◌}

@@ -1,3 +1,4 @@
+// Made by tools/grammar.py from tools/grammar.txt: change that text, and run the script.
 //! The cells and the places of the tables again, for the parser to walk over: the numbers that it asks of one of them stand
 //! side by side.
 

@@ -1,3 +1,4 @@
+// Made by tools/grammar.py from tools/grammar.txt: change that text, and run the script.
 //! The table that picks a production by a nonterminal and the next token's terminal. The rows of the
 //! nonterminals lie over each other in one list of cells, each cell of at most one row.
 

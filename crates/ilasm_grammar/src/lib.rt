@@ -13,7 +13,7 @@ mod outcome;
 mod parser;
 mod places;
 pub mod productions;
-mod rules;
+pub mod rules;
 mod stack;
 mod symbol;
 mod table;

@@ -1,3 +1,4 @@
+// Made by tools/grammar.py from tools/grammar.txt: change that text, and run the script.
 //! The nonterminals of the grammar, by their numbers. `X?`, `X*` and round groups stand for nonterminals of
 //! their own: `X? = X | nothing`, `X* = X X* | nothing`.
 

@@ -1,3 +1,4 @@
+// Made by tools/grammar.py from tools/grammar.txt: change that text, and run the script.
 //! The bodies of the productions again, for the parser to walk over: a place here is one in `BODIES`, and behind them
 //! all stands the start symbol, alone.
 

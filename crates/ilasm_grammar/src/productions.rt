@@ -1,3 +1,4 @@
+// Made by tools/grammar.py from tools/grammar.txt: change that text, and run the script.
 //! The productions of the grammar, by their numbers. Those without a name here each spell one word:
 //! instructions by the form of their operand, and words for flags.
 

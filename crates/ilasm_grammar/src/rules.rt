@@ -1,3 +1,4 @@
+// Made by tools/grammar.py from tools/grammar.txt: change that text, and run the script.
 //! The productions, in their order: a number is a place here. `productions` spells them out.
 
 use crate::Symbol::{Nonterminal as N, Terminal as T};
@@ -5,7 +6,7 @@ use crate::{Symbol, nonterminals as n, terminals as t};
 use il_lexer::word;
 
 /// The nonterminal that each production may be applied to.
-pub(crate) static HEADS: [u16; 641] = [
+pub static HEADS: [u16; 641] = [
     0, 1, 1, 1, 1, 1, 1, 1, 1, 1, 1, 1, 1, 2, 2, 3, 3, 4, 4, 5, 6, 6, 7, 8, 8, 9, 9, 10, 10, 10,
     10, 10, 11, 12, 12, 13, 14, 14, 15, 15, 15, 16, 17, 18, 19, 19, 20, 21, 21, 22, 22, 23, 23, 24,
     25, 25, 25, 25, 25, 25, 25, 25, 25, 25, 25, 25, 25, 25, 26, 26, 26, 26, 26, 26, 26, 26, 26, 27,
@@ -40,7 +41,7 @@ pub(crate) static HEADS: [u16; 641] = [
 ];
 
 /// Where the body of each production begins in `BODIES`; it ends where the next begins.
-pub(crate) static STARTS: [u16; 642] = [
+pub static STARTS: [u16; 642] = [
     0, 2, 4, 6, 8, 11, 13, 15, 17, 18, 19, 20, 21, 22, 29, 34, 36, 36, 37, 38, 42, 43, 43, 45, 47,
     47, 48, 50, 58, 60, 62, 64, 66, 68, 70, 70, 72, 74, 74, 75, 78, 79, 82, 85, 87, 88, 88, 90, 91,
     91, 92, 92, 93, 94, 96, 97, 98, 99, 100, 101, 102, 103, 104, 105, 107, 110, 113, 115, 117, 118,
@@ -78,7 +79,7 @@ pub(crate) static STARTS: [u16; 642] = [
 ];
 
 /// The bodies of the productions, one after another.
-pub(crate) static BODIES: [Symbol; 886] = [
+pub static BODIES: [Symbol; 886] = [
     // Source = Decl Decl*
     N(n::DECL),
     N(n::DECL_STAR),

@@ -12,12 +12,13 @@ use Rattle.source_model.specs.Items.{Run, runs}
 use Rattle.source_model.specs.Manifests.{attributes}
 use Rattle.source_model.specs.Nodes.{Around}
 use Rattle.source_model.specs.Parameters as params
+use Rattle.source_model.specs.Parameters.{is_typar_line}
 use Rattle.source_model.specs.Source.{Source}
 use Rattle.source_syntax.specs.Pieces.{ArePieces, piece_of, written}
 use Rattle.source_syntax.specs.declared.pieces.Piece.{Piece}
 use Rattle.lower_members.specs.FieldContexts.{run_at}
 use Rattle.lower_members.specs.GivenAttributes.{AreGiven, none_given, with_line}
-use Rattle.lower_members.specs.ParamLines.{appended, given, speaks_of_typar}
+use Rattle.lower_members.specs.ParamLines.{appended, given}
 use Rattle.lower_members.specs.Ranged.{IsRangedItem}
 use Rattle.lower_members.proofs.FieldLemmas.{first_piece}
 
@@ -61,12 +62,12 @@ capped_same bs j m more few e = go (nat_lt m (length bs)) (nat_lt j (length bs))
 -- ---- one more line
 
 module _ (s : Source) (a : Around) (names : List (List ℕ)) where
-  other_line : (k : ℕ) (p : Part) (ps : List Part) → speaks_of_typar p ≡ false → given s a names k (runs (p ∷ ps)) ≡ given s a names k (runs ps)
+  other_line : (k : ℕ) (p : Part) (ps : List Part) → is_typar_line p ≡ false → given s a names k (runs (p ∷ ps)) ≡ given s a names k (runs ps)
   other_line k p ps e =
       ap (λ (c : Bool). params.attributes_of s a
       (filter (λ r. params.typar_number s names r.head.below == k) (cond c (run_at p ps ∷ filter params.speaks_of_typar (runs ps)) (filter params.speaks_of_typar (runs ps))))) e
 
-  line : (k : ℕ) (p : Part) (ps : List Part) (c : Bool) → speaks_of_typar p ≡ true → (params.typar_number s names p.below == k) ≡ c
+  line : (k : ℕ) (p : Part) (ps : List Part) (c : Bool) → is_typar_line p ≡ true → (params.typar_number s names p.below == k) ≡ c
       → given s a names k (runs (p ∷ ps)) ≡ (if c then attributes s a (run_at p ps).customs else []) ++ given s a names k (runs ps)
   line k p ps c e is =
       ap (λ (d : Bool). params.attributes_of s a
@@ -116,7 +117,7 @@ module _ (s : Source) (a : Around) (names : List (List ℕ)) where
     more = attributes s a (run_at p ps).customs
 
     with_many : length (with_line s a names p ps bs) ≡ length names
-    with_many = go (speaks_of_typar p) (nat_lt j (length bs)) ∙ many
+    with_many = go (is_typar_line p) (nat_lt j (length bs)) ∙ many
       where
         go : (c d : Bool) → length (if c then (if d then slice_set bs (length bs - 1 - j) (slice_index_or bs (length bs - 1 - j) [] ++ more) else bs) else bs) ≡ length bs
         go true true = length-set bs (length bs - 1 - j) (slice_index_or bs (length bs - 1 - j) [] ++ more)
@@ -149,9 +150,9 @@ module _ (s : Source) (a : Around) (names : List (List ℕ)) where
 
     step_at : (k : ℕ) → k < length names → slice_index_or (with_line s a names p ps bs) (length names - 1 - k) [] ++ given s a names k (runs ps)
         ≡ slice_index_or bs (length names - 1 - k) [] ++ given s a names k (runs (p ∷ ps))
-    step_at k low = go (speaks_of_typar p) refl
+    step_at k low = go (is_typar_line p) refl
       where
-        go : (c : Bool) → speaks_of_typar p ≡ c → slice_index_or (if speaks_of_typar p then appended bs j more else bs) (length names - 1 - k) [] ++ given s a names k (runs ps)
+        go : (c : Bool) → is_typar_line p ≡ c → slice_index_or (if is_typar_line p then appended bs j more else bs) (length names - 1 - k) [] ++ given s a names k (runs ps)
             ≡ slice_index_or bs (length names - 1 - k) [] ++ given s a names k (runs (p ∷ ps))
         go true is =
             ap (λ (c : Bool). slice_index_or (if c then appended bs j more else bs) (length names - 1 - k) [] ++ given s a names k (runs ps)) is

@@ -8,12 +8,12 @@ use Rattle.ilasm_grammar.specs.declared.productions.TheConstants.{BLOCK, ITEM_TR
 use Rattle.source_model.specs.Forest as tree
 use Rattle.source_model.specs.Forest.{Forest, Part, is_among, part}
 use Rattle.source_model.specs.Items.{begins_run, customs_outside, is_custom, items_and_ends, plain_items}
+use Rattle.source_model.specs.Parameters.{is_typar_line}
 use Rattle.source_model.specs.Source.{Source}
 use Rattle.source_flags.specs.InRange.{AllInRange}
 use Rattle.source_flags.proofs.Gathered.{all_append}
 use Rattle.lower_manifest.specs.Customs.{IsCustom}
 use Rattle.lower_manifest.proofs.CustomParts.{outside_hold}
-use Rattle.lower_members.specs.ParamLines.{speaks_of_typar}
 use Rattle.lower_members.specs.Ranged.{IsEnd, IsRanged, IsRangedItem}
 
 module _ (s : Source) where
@@ -23,8 +23,8 @@ module _ (s : Source) where
   ranged_if test p t b e (inl (inl i)) = let wrong : true ≡ false = sym e ∙ ap test i ∙ t in absurd cc
   ranged_if test p t b e (inl (inr i)) = let wrong : true ≡ false = sym e ∙ ap test i ∙ b in absurd cc
 
-  pub line_ranged : (p : Part) → speaks_of_typar p ≡ true → IsRangedItem s p → IsRanged s p
-  line_ranged p e h = ranged_if speaks_of_typar p refl refl e h
+  pub line_ranged : (p : Part) → is_typar_line p ≡ true → IsRangedItem s p → IsRanged s p
+  line_ranged p e h = ranged_if is_typar_line p refl refl e h
 
   pub custom_ranged : (p : Part) → is_custom p ≡ true → IsRangedItem s p → IsRanged s p
   custom_ranged p e h = ranged_if is_custom p refl refl e h

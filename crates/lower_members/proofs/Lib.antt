@@ -19,5 +19,4 @@ pub mod ParamRows
 pub mod PropertyLemmas
 pub mod RunLemmas
 pub mod SameSignatures
-pub mod TieLemmas
 pub mod UnitLemmas

@@ -1,6 +1,6 @@
 -- Lines of `.param type`: their keys.
 use Rattle.std.proofs.Common.{◌≡◌, ℕ, ◌+◌, ◌-◌, ◌≤◌, ◌<◌, ◌^◌, ◌⊎◌, inl, inr, List, [], ◌∷◌, Option, None, Some, length, min, refl, ap, sym, subst, ◌∙◌, arith}
-use Rattle.std.specs.Prelude.{Bool, true, false, ◌==◌, ◌||◌, if◌then◌else◌, bytes_eq, nat_lt, position}
+use Rattle.std.specs.Prelude.{Bool, true, false, ◌==◌, ◌&&◌, ◌||◌, if◌then◌else◌, bytes_eq, nat_lt, position}
 use Rattle.std.proofs.lemmas.Bool.{ltb-true}
 use Rattle.std.proofs.lemmas.Bool.Decides.{Decides-eqb}
 use Rattle.std.proofs.lemmas.List.Quantifiers.{position-Some}
@@ -9,12 +9,12 @@ use Rattle.il_lexer.specs.declared.word.TheConstants as word
 use Rattle.ilasm_grammar.specs.Grammar.{rule_of}
 use Rattle.ilasm_grammar.specs.Ilasm.{ilasm, rule_by}
 use Rattle.ilasm_grammar.specs.declared.nonterminals.TheConstants as n
-use Rattle.ilasm_grammar.specs.declared.productions.TheConstants.{MEMBER_PARAM, PARAM_OF_TYPE, TYPAR_KEY_BRACKET, TYPAR_KEY_NAME}
+use Rattle.ilasm_grammar.specs.declared.productions.TheConstants.{ITEM_PARAM, MEMBER_PARAM, PARAM_OF_TYPE, TYPAR_KEY_BRACKET, TYPAR_KEY_NAME}
 use Rattle.ilasm_grammar.specs.declared.symbol.Symbol.{Symbol}
 use Rattle.ilasm_grammar.specs.declared.symbol.Symbol.TheVariants.{Nonterminal, Terminal}
 use Rattle.ilasm_grammar.specs.declared.terminals.TheConstants as t
 use Rattle.source_model.specs.Forest.{Forest, Part, none, leaf, branch, has, leaf_at, the}
-use Rattle.source_model.specs.Parameters.{typar_number}
+use Rattle.source_model.specs.Parameters.{is_typar_line, typar_number}
 use Rattle.source_model.specs.Shapes.{natural}
 use Rattle.source_model.specs.Source.{Source}
 use Rattle.source_model.specs.Types.{number_of, or_length}
@@ -29,7 +29,6 @@ use Rattle.source_syntax.proofs.WrittenNames.{fits_rule}
 use Rattle.source_flags.specs.InRange.{IsInRange}
 use Rattle.source_flags.proofs.Gathered.{has_bodies}
 use Rattle.lower_manifest.proofs.ConstantLemmas.{the_has}
-use Rattle.lower_members.specs.ParamLines.{speaks_of_typar}
 use Rattle.lower_members.specs.Ranged.{IsRanged}
 
 -- ---- a nonterminal of a body stands in the forest, as one of its productions
@@ -105,20 +104,25 @@ either : (a b : Bool) → (a || b) ≡ true → a ≡ false → b ≡ true
 either true b e h = absurd cc
 either false b e h = e
 
-has_key : (s : Source) (p : Part) → speaks_of_typar p ≡ true → IsRanged s p → HasKey p.below
-has_key s p e h = go (has PARAM_OF_TYPE p.below) refl
+second : (a b : Bool) → (a && b) ≡ true → b ≡ true
+second true b e = e
+second false b e = absurd cc
+
+has_key : (s : Source) (p : Part) → is_typar_line p ≡ true → IsRanged s p → HasKey p.below
+has_key s p e h = go (p.production == MEMBER_PARAM) refl
   where
-    go : (c : Bool) → has PARAM_OF_TYPE p.below ≡ c → HasKey p.below
+    go : (c : Bool) → (p.production == MEMBER_PARAM) ≡ c → HasKey p.below
     go true is =
+        let fit = subst (λ q. FitsBody s q p.below) ((Decides-eqb p.production MEMBER_PARAM).0 is) h.0.fits in
+        of_stands p.below (fits_some s member_body p.below n.TYPAR_KEY (fits_rule s MEMBER_PARAM n.MEMBER member_body p.below rule_member fit) refl)
+    go false other =
+        let line = either (p.production == MEMBER_PARAM) (p.production == ITEM_PARAM && has PARAM_OF_TYPE p.below) e other in
+        let is = second (p.production == ITEM_PARAM) (has PARAM_OF_TYPE p.below) line in
         let own = sound_part (IsInRange s) PARAM_OF_TYPE p.below h.1 is in
         let below = the PARAM_OF_TYPE p.below in
         within_the p.below (of_stands below (fits_some s type_body below n.TYPAR_KEY (fits_rule s PARAM_OF_TYPE n.PARAM_OF type_body below rule_type own.0.fits) refl))
-    go false is =
-        let made = (Decides-eqb p.production MEMBER_PARAM).0 (either (has PARAM_OF_TYPE p.below) (p.production == MEMBER_PARAM) e is) in
-        let fit = subst (λ q. FitsBody s q p.below) made h.0.fits in
-        of_stands p.below (fits_some s member_body p.below n.TYPAR_KEY (fits_rule s MEMBER_PARAM n.MEMBER member_body p.below rule_member fit) refl)
 
-pub key_name : (s : Source) (p : Part) → speaks_of_typar p ≡ true → IsRanged s p → has TYPAR_KEY_BRACKET p.below ≡ false → IsOf s kind.Name (leaf_at 0 (the TYPAR_KEY_NAME p.below))
+pub key_name : (s : Source) (p : Part) → is_typar_line p ≡ true → IsRanged s p → has TYPAR_KEY_BRACKET p.below ≡ false → IsOf s kind.Name (leaf_at 0 (the TYPAR_KEY_NAME p.below))
 key_name s p e h other = elim (has_key s p e h) [
   | inl some ↦ absurd cc
   | inr some ↦ key_of_typar_is_name s p.below some (has_bodies s p.below h.1)

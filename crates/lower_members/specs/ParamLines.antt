@@ -1,15 +1,10 @@
--- Lines of `.param type`, and the attributes that they give (ECMA-335 II.10.1.7, II.15.4.1.4).
-use Rattle.std.specs.Prelude.{ℕ, ◌-◌, ◌==◌, ◌||◌, ◌++◌, nat_lt, Bool, if◌then◌else◌, List, [], filter, length, slice_index_or, slice_set}
+-- The attributes that lines of `.param type` give (ECMA-335 II.10.1.7, II.15.4.1.4).
+use Rattle.std.specs.Prelude.{ℕ, ◌-◌, ◌==◌, ◌++◌, nat_lt, if◌then◌else◌, List, [], filter, length, slice_index_or, slice_set}
 use Rattle.assembly_tree.specs.declared.members.Attribute.{Attribute}
-use Rattle.ilasm_grammar.specs.declared.productions.TheConstants.{MEMBER_PARAM, PARAM_OF_TYPE}
-use Rattle.source_model.specs.Forest.{Part, has}
 use Rattle.source_model.specs.Items.{Run}
 use Rattle.source_model.specs.Nodes.{Around}
 use Rattle.source_model.specs.Parameters as params
 use Rattle.source_model.specs.Source.{Source}
-
-abbrev pub speaks_of_typar : Part → Bool
-speaks_of_typar p = has PARAM_OF_TYPE p.below || p.production == MEMBER_PARAM
 
 -- the attributes that these lines give the generic parameter of a number
 abbrev pub given : Source → Around → List (List ℕ) → ℕ → List Run → List Attribute

@@ -1,7 +1,7 @@
 -- Methods by what references name them by: their names and signatures (ECMA-335 II.22.26, II.22.28).
 use Rattle.std.specs.Prelude.{ℕ, ◌&&◌, Bool, List, bytes_eq}
 use Rattle.type_terms.specs.declared.reference.MethodSig.{MethodSig}
-use Rattle.assembly_tree.specs.WellFormedMembers.{is_same_signature}
+use Rattle.type_terms.specs.Same.{is_same_signature}
 use Rattle.assembly_tree.specs.declared.members.Method.{Method}
 use Rattle.source_model.specs.Forest.{Forest}
 use Rattle.source_model.specs.Members.{in_method}

@@ -13,7 +13,7 @@ ghost use Rattle.source_syntax.specs.Places.{IsAt};
 ghost use Rattle.source_syntax.specs.Walk.{IsForest};
 
 use crate::next_pieces::next;
-use crate::param_lines::{speaks_of_typar, typar_number};
+use crate::param_lines::{is_typar_line, typar_number};
 use assembly_tree::Attributes;
 use il_base::{Items, NoMemory};
 use ilasm_grammar::TreeNode;
@@ -80,7 +80,7 @@ fn add_line(
         IfOk result (λ _. given.new.items ≡ with_line s a names.now p ps given.old.items) }
 {
     let below = nodes_of(nodes, head);
-    if speaks_of_typar(head.production, below) {
+    if is_typar_line(head.production, below) {
         let number = typar_number(alloc, &place.reader, names, below)?;
         let customs = attributes(alloc, place, nodes, run_of(more))?;
         append_to(given, number, customs)

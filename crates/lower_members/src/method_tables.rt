@@ -7,13 +7,13 @@ ghost use Rattle.indexmap.specs.IndexMap.{get};
 ghost use Rattle.lower_members.specs.MethodHashes.{signed_hash};
 ghost use Rattle.lower_members.specs.SignedMethods.{is_signed, signed};
 
-use crate::method_hashes::signed_hash;
-use crate::same_signatures::is_same_signature;
 use assembly_tree::Method;
 use il_base::{Items, NoMemory};
 use indexmap::IndexMap;
 use std::alloc::Global;
 use std::marker::Model;
+use type_terms::equality::is_same_signature;
+use type_terms::hashing::hash_member;
 use type_terms::{MethodSig, orders_are_total};
 
 /// Methods that can be found. Contracts see the list of their names and signatures.
@@ -92,4 +92,11 @@ fn is_signed(method: &Method, name: &[u8], sig: &MethodSig) -> bool
     ensures { result ≡ is_signed name.now sig.now (signed method.now) }
 {
     method.name.as_bytes() == name && is_same_signature(&method.sig, sig)
+}
+
+// The hash of a method with a name and a signature.
+fn signed_hash(name: &[u8], sig: &MethodSig) -> u64
+    ensures { result ≡ signed_hash (record { name = name.now; sig = sig.now }) }
+{
+    hash_member(name, sig)
 }

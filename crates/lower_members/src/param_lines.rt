@@ -1,10 +1,9 @@
 //! Lines of `.param`: of what they speak (ECMA-335 II.10.1.7, II.15.4.1.4).
 
 ghost use Rattle.std.specs.Prelude.{◌≡◌, ◌<◌, ◌^◌, IfOk, length, min, true};
-ghost use Rattle.lower_members.specs.ParamLines.{speaks_of_typar};
 ghost use Rattle.lower_members.specs.Ranged.{IsRanged};
 ghost use Rattle.source_model.specs.Forest.{Forest, Part, preorder};
-ghost use Rattle.source_model.specs.Parameters.{typar_number};
+ghost use Rattle.source_model.specs.Parameters.{is_typar_line, typar_number};
 ghost use Rattle.source_model.specs.Source.{Source};
 ghost use Rattle.source_model.specs.Types.{number_of};
 ghost use Rattle.source_syntax.specs.Readers.{Reads};
@@ -13,18 +12,20 @@ ghost use Rattle.source_syntax.specs.Walk.{IsForest};
 use crate::capped::natural;
 use il_base::NoMemory;
 use ilasm_grammar::TreeNode;
-use ilasm_grammar::productions::{MEMBER_PARAM, PARAM_OF_TYPE, TYPAR_KEY_BRACKET, TYPAR_KEY_NAME};
+use ilasm_grammar::productions::{
+    ITEM_PARAM, MEMBER_PARAM, PARAM_OF_TYPE, TYPAR_KEY_BRACKET, TYPAR_KEY_NAME,
+};
 use source_syntax::declared::Declared;
 use source_syntax::reader::Reader;
 use source_syntax::walk::{has, leaf_at, the};
 use std::alloc::Global;
 
-/// Whether an item or a member is a line of `.param type`.
-pub fn speaks_of_typar(production: u16, below: &[TreeNode]) -> bool
+/// Whether an item or a member is a line of `.param type` itself, whatever stands in it.
+pub fn is_typar_line(production: u16, below: &[TreeNode]) -> bool
     requires { IsForest below.now }
-    ensures { (p : Part) → production ≡ p.production → preorder p.below ≡ below.now → result ≡ speaks_of_typar p }
+    ensures { (p : Part) → production ≡ p.production → preorder p.below ≡ below.now → result ≡ is_typar_line p }
 {
-    has(below, PARAM_OF_TYPE) || production == MEMBER_PARAM
+    production == MEMBER_PARAM || (production == ITEM_PARAM && has(below, PARAM_OF_TYPE))
 }
 
 /// Of which of these generic parameters a line speaks, by its number, counted from 0, or by its name; counted up to 2^32 - 1.
@@ -35,7 +36,7 @@ pub fn typar_number(
     below: &[TreeNode],
 ) -> Result<u64, NoMemory>
     requires { IsForest below.now }
-    ensures { (s : Source) (p : Part) → Reads reader.now s → preorder p.below ≡ below.now → speaks_of_typar p ≡ true → IsRanged s p → length names.now < 2 ^ 32 →
+    ensures { (s : Source) (p : Part) → Reads reader.now s → preorder p.below ≡ below.now → is_typar_line p ≡ true → IsRanged s p → length names.now < 2 ^ 32 →
         IfOk result (λ n. n ≡ min (typar_number s names.now p.below) 0xFFFFFFFF) }
 {
     if has(below, TYPAR_KEY_BRACKET) {

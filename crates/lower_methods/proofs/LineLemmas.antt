@@ -1,15 +1,19 @@
 -- Methods without lines of `.param` and without attributes.
 use Rattle.std.proofs.Common.{◌≡◌, ℕ, List, [], ◌∷◌, ◌++◌, refl, ap, sym, ◌∙◌}
-use Rattle.std.specs.Prelude.{Bool, true, false, ◌==◌, ◌||◌, filter, if◌then◌else◌, take_while}
+use Rattle.std.specs.Prelude.{Bool, true, false, ◌==◌, ◌&&◌, ◌||◌, filter, if◌then◌else◌, take_while}
 use Rattle.std.specs.List.{AllByRecursion}
 use Rattle.std.proofs.lemmas.Bool.Decides.{Decides-eqb}
-use Rattle.ilasm_grammar.specs.declared.productions.TheConstants.{BLOCK, DECL_CUSTOM, ITEM_CUSTOM, ITEM_TRY, MEMBER_CUSTOM, MEMBER_PARAM, PARAM_OF_BRACKET, PARAM_OF_TYPE}
+use Rattle.ilasm_grammar.specs.declared.productions.TheConstants.{BLOCK, DECL_CUSTOM, ITEM_CUSTOM, ITEM_PARAM, ITEM_TRY, MEMBER_CUSTOM, MEMBER_PARAM, PARAM_OF_BRACKET, PARAM_OF_TYPE}
 use Rattle.source_model.specs.Forest as tree
 use Rattle.source_model.specs.Forest.{Forest, Part, has, is_among, is_any_part, part, parts}
 use Rattle.source_model.specs.Items.{Run, begins_run, customs_outside, is_custom, items_and_ends, own_customs, plain_items, runs}
-use Rattle.source_model.specs.Parameters.{speaks_of_parameter, speaks_of_typar}
+use Rattle.source_model.specs.Parameters.{is_typar_line, speaks_of_parameter, speaks_of_typar}
 use Rattle.source_flags.proofs.Gathered.{all_append}
 use Rattle.lower_bodies.specs.HeldItems.{line_forms}
+
+never : (a : Bool) → (a && false) ≡ false
+never true = refl
+never false = refl
 
 neither : (a b : Bool) → (a || b) ≡ false → (a ≡ false) × (b ≡ false)
 neither true b e = absurd cc
@@ -100,7 +104,9 @@ typar_lines (p ∷ ps) h =
     let silent : has PARAM_OF_TYPE p.below ≡ false = ap is_any_part (none_of_fewer line_forms (PARAM_OF_TYPE ∷ []) among_type p.below h.0.1) in
     let other : (p.production == MEMBER_PARAM) ≡ false = turned MEMBER_PARAM p.production (past_params p.production h.0.0).0 in
     let run : Run = record { head = p; customs = take_while is_custom ps } in
-    let both : (has PARAM_OF_TYPE p.below || p.production == MEMBER_PARAM) ≡ false = ap (λ c. c || p.production == MEMBER_PARAM) silent ∙ other in
+    let both : is_typar_line p ≡ false =
+    ap (λ c. c || (p.production == ITEM_PARAM && has PARAM_OF_TYPE p.below)) other ∙ ap (λ c. p.production == ITEM_PARAM && c) silent
+    ∙ never (p.production == ITEM_PARAM) in
     ap (λ (c : Bool). if c then run ∷ filter speaks_of_typar (runs ps) else filter speaks_of_typar (runs ps)) both ∙ typar_lines ps h.1
 
 isnt_custom : (p : Part) → IsFree line_forms p → is_custom p ≡ false

@@ -13,6 +13,7 @@ use Rattle.source_syntax.specs.Places.{IsReadable}
 use Rattle.source_syntax.specs.declared.pieces.Piece.{Piece}
 use Rattle.source_flags.specs.InRange.{AllInRange}
 use Rattle.source_syntax.proofs.PieceLemmas.{as_many, part_at}
+use Rattle.source_syntax.proofs.SoundLemmas.{signature_fits}
 use Rattle.source_flags.specs.Lines.{IsLast, IsPart, last_part}
 use Rattle.source_flags.specs.declared.lines.Line.{Line}
 
@@ -21,7 +22,7 @@ use Rattle.source_flags.specs.declared.lines.Line.{Line}
 pub readable : (s : Source) (f : Forest) → AllInRange s f → IsReadable s f
 readable s none h = tt
 readable s (leaf k a) h = readable s a h
-readable s (branch p b a) h = ((h.0.fits, h.0.types), readable s b h.1, readable s a h.2)
+readable s (branch p b a) h = ((h.0.fits, signature_fits s p b h.0.types), readable s b h.1, readable s a h.2)
 
 pub has_bodies : (s : Source) (f : Forest) → AllInRange s f → HasBodies s f
 has_bodies s none h = tt

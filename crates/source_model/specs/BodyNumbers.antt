@@ -17,10 +17,10 @@ use Rattle.ilasm_grammar.specs.declared.productions.TheConstants.{
   REAL_BITS_FLOAT64,
   REAL_BITS_REAL_BYTES,
 }
-use Rattle.source_model.specs.Clauses.{clause_forms}
+use Rattle.source_model.specs.Clauses.{Guarded, guarded}
 use Rattle.source_model.specs.Forest.{Forest, Part, parts, each, child, leaf_at}
 use Rattle.source_model.specs.Instructions.{instructions_with, op_of}
-use Rattle.source_model.specs.Nodes.{Around, Node, nodes, nodes_in, nodes_of}
+use Rattle.source_model.specs.Nodes.{Node, nodes, nodes_of}
 use Rattle.source_model.specs.Operands.{number_token}
 use Rattle.source_model.specs.OutOfRange.{fits_width, is_16_bits}
 use Rattle.source_model.specs.Source.{Source}
@@ -91,9 +91,9 @@ local_misnumbered s (number, f) =
 
 -- ---- counts
 
--- the clauses of a method in the order of their first tokens
-abbrev pub clause_forests : Source → Around → Forest → List Forest
-clause_forests s a f = map (λ n. n.below) (nodes_of clause_forms (nodes_in s a f))
+-- the clauses of a method in the order of their last tokens, as its body has them
+abbrev pub clause_forests : Forest → List Forest
+clause_forests f = map (λ g. g.clause.below) (guarded f)
 
 -- ---- all of these
 
@@ -103,7 +103,7 @@ body_numbers_out_of_range_in s n =
     ++ flat_map (real_out_of_range s) (instructions_with INSTRUCTION_OP_REAL n.below)
     ++ flat_map (variable_out_of_range s n.below) (instructions_with INSTRUCTION_OP_VAR n.below)
     ++ flat_map (local_misnumbered s) (enumerate_from 0 (locals n.below)) ++ past_count (locals n.below)
-    ++ past_count (clause_forests s n.around n.below)
+    ++ past_count (clause_forests n.below)
 
 abbrev pub body_numbers_out_of_range : Source → List ℕ
 body_numbers_out_of_range s = flat_map (body_numbers_out_of_range_in s) (nodes_of (METHOD ∷ []) (nodes s))

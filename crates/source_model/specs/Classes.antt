@@ -1,9 +1,7 @@
 -- The classes of a source, each with those that it nests, and the assembly as a whole (ECMA-335 II.10).
 use Rattle.std.specs.Prelude.{ℕ, ◌==◌, ◌&&◌, ◌||◌, Bool, false, not, if◌then◌else◌, List, [], ◌∷◌, ◌++◌, codes, bytes_eq, bit_and, position, Option, None, Some}
 use Rattle.std.specs.List.{list_any}
-use Rattle.std.specs.declared.cmp.Ordering.{Ordering}
-use Rattle.std.specs.declared.cmp.Ordering.TheVariants.{Less, Equal, Greater}
-use Rattle.type_terms.specs.Order.{owner_order}
+pub use Rattle.sorted_owners.specs.Rising.{put, put_before, rising}
 use Rattle.type_terms.specs.declared.name.Scope.{Scope}
 use Rattle.type_terms.specs.declared.name.Scope.TheVariants.{Here, Extern}
 use Rattle.type_terms.specs.declared.name.TypeId.{TypeId}
@@ -69,23 +67,6 @@ base s a f =
     else if has EXTENDS (child (EXTENDS_OPT_SOME ∷ []) f) then Some (the_owner s a (child (EXTENDS_OPT_SOME ∷ []) f))
     else if is_root a.path then None
     else named_object (core_scope s)
-
--- ---- the interfaces
-
--- an owner put into a list that rises; one that is there already counts once
-abbrev pub put_before : Ordering → Owner → Owner → List Owner → List Owner → List Owner
-put_before Less o p rest with_it = o ∷ p ∷ rest
-put_before Equal o p rest with_it = p ∷ rest
-put_before Greater o p rest with_it = p ∷ with_it
-
-abbrev pub put : Owner → List Owner → List Owner
-put o [] = o ∷ []
-put o (p ∷ rest) = put_before (owner_order o p) o p rest (put o rest)
-
--- the same owners, strictly rising
-abbrev pub rising : List Owner → List Owner
-rising [] = []
-rising (o ∷ os) = put o (rising os)
 
 -- ---- classes
 

@@ -58,24 +58,32 @@ abbrev pub value_layout : Source → scope.Scope → List TypeId → Option Layo
 value_layout s scope.TheVariants.Here path = class_layout s (class_at s path)
 value_layout s (scope.TheVariants.Extern k) path = None
 
-abbrev pub size_step : Source → SigType-F (Option ℕ) (Option ℕ) → Option ℕ
-size_step s (Prim p) = primitive_size p
-size_step s (Value name) = layout_size (value_layout s name.scope name.path)
-size_step s (Mod required by of) = of
-size_step s (Class name) = None
-size_step s (Inst value name args) = None
-size_step s (Var n) = None
-size_step s (MVar n) = None
-size_step s (SzArray of) = None
-size_step s (Array of rank sizes lower) = None
-size_step s (ByRef of) = None
-size_step s (Pointer of) = None
-size_step s (Pinned of) = None
+-- the bytes that the layout of a value type of this source states
+abbrev pub value_size : Source → scope.Scope → List TypeId → Option ℕ
+value_size s at path = layout_size (value_layout s at path)
 
--- the bytes of a value of a type, where that is stated: of a primitive type by its width, of a value type of this source
--- by the class size of its layout, of a type with a modifier by the type in it
+-- The bytes of a value of a type, by those of value types of a name: of a primitive type by its width, of a type with a modifier
+-- by the type in it; no other type has a stated size.
+abbrev pub size_step : (scope.Scope → List TypeId → Option ℕ) → SigType-F (Option ℕ) (Option ℕ) → Option ℕ
+size_step value (Prim p) = primitive_size p
+size_step value (Value name) = value name.scope name.path
+size_step value (Mod required by of) = of
+size_step value (Class name) = None
+size_step value (Inst v name args) = None
+size_step value (Var n) = None
+size_step value (MVar n) = None
+size_step value (SzArray of) = None
+size_step value (Array of rank sizes lower) = None
+size_step value (ByRef of) = None
+size_step value (Pointer of) = None
+size_step value (Pinned of) = None
+
+abbrev pub size_by : (scope.Scope → List TypeId → Option ℕ) → SigType → Option ℕ
+size_by value t = fold-SigType (Option ℕ) (Option ℕ) no_size (size_step value) t
+
+-- by the class sizes of their layouts
 abbrev pub data_size : Source → SigType → Option ℕ
-data_size s t = fold-SigType (Option ℕ) (Option ℕ) no_size (size_step s) t
+data_size s t = size_by (value_size s) t
 
 -- ---- data
 

@@ -1,14 +1,19 @@
 -- Numbers, counts, depths and data out of their bounds, outside of instructions (ECMA-335 II.6.2, II.10.7, II.15.4, II.16.2, II.16.3,
 -- II.22, II.23.1, II.25.2.3).
-use Rattle.std.specs.Prelude.{ℕ, ◌+◌, ◌-◌, ◌==◌, ◌&&◌, ◌||◌, ◌^◌, nat_lt, nat_le, min, Bool, false, not, if◌then◌else◌, ℤ, pos, negsuc, List, [], ◌∷◌, ◌++◌, length, bit_and, Option, None, Some}
-use Rattle.std.specs.List.{flat_map}
+use Rattle.std.specs.Prelude.{ℕ, ◌+◌, ◌-◌, ◌==◌, ◌&&◌, ◌||◌, ◌^◌, nat_lt, nat_le, Bool, true, false, not, if◌then◌else◌, ℤ, pos, negsuc, List, [], ◌∷◌, ◌++◌, length, fold, bit_and, Option, None, Some}
+use Rattle.std.specs.List.{flat_map, list_any}
+use Rattle.type_terms.specs.declared.name.Scope as scope
+use Rattle.type_terms.specs.declared.name.TypeId.{TypeId}
+use Rattle.type_terms.specs.declared.term.SigType.{SigType}
+use Rattle.assembly_tree.specs.DataSize.{layout_size}
 use Rattle.assembly_tree.specs.WellFormed.{is_image_base, is_file_alignment}
 use Rattle.assembly_tree.specs.WellFormedTypes.{is_pack}
 use Rattle.ilasm_grammar.specs.declared.productions.TheConstants.{TYPE, DECL_IMAGEBASE, DECL_FILE, DECL_STACKRESERVE, DECL_SUBSYSTEM, DECL_CORFLAGS, ASSEMBLY_ITEM_HASH, KEY_VER, ASSEMBLY_ATTR_FLAGS, CLASS_ATTR_FLAGS, FIELD_ATTR_FLAGS, METHOD_ATTR_FLAGS, IMPL_ATTR_FLAGS, TYPAR_ATTR_FLAGS, PROPERTY_ATTR_FLAGS, FLAGS_OPT_SOME, CLASS, FIELD, BRACKETED_INT, BRACKETED_INT_OPT_SOME, AT_NAME, CONST_INT_TYPE, CONST_FLOAT32, CONST_FLOAT64, CONST_CHAR, MEMBER_PACK, MEMBER_SIZE, MEMBER_PARAM, PARAM_OF_BRACKET, PARAM_OF_TYPE, TYPAR_KEY_BRACKET, CUSTOM, METHOD_REF, OVERRIDDEN_METHOD, PROPERTY, PROPERTY_ITEM_GET, PROPERTY_ITEM_SET, PROPERTY_ITEM_OTHER, EVENT_ITEM_ADDON, EVENT_ITEM_REMOVEON, EVENT_ITEM_FIRE, EVENT_ITEM_OTHER, DATA, DATA_ITEM_DATA_NUM, PARENTHESIZED_INT}
 use Rattle.source_model.specs.Constants.{bits_of, const_token}
-use Rattle.source_model.specs.Data.{data_size, data_named, data_length, data_items, item_length, item_bits, at_token}
+use Rattle.source_model.specs.Data.{lines_of, layout, size_by, data_named, data_length, data_items, item_length, item_bits, at_token}
 use Rattle.source_model.specs.Flags.{flags_token}
 use Rattle.source_model.specs.Forest.{Forest, Part, is_among, each, has, the, child, leaf_at, first_token}
+use Rattle.source_model.specs.Names.{class_at}
 use Rattle.source_model.specs.Nodes.{Node, nodes, nodes_of, typars, class_token}
 use Rattle.source_model.specs.Parameters.{parameters}
 use Rattle.source_model.specs.Signatures.{not_in_property, generic_arguments_token}
@@ -96,10 +101,13 @@ data_number_out_of_range s n =
     ++ flat_map (λ f. unless is_repeat s (leaf_at 1 f)) (each BRACKETED_INT n.below)
     else []
 
+-- an item stands more often than it may
+abbrev pub stands_too_often : Source → Forest → Bool
+stands_too_often s f = has BRACKETED_INT f && not (is_repeat (int_at s (leaf_at 1 (the BRACKETED_INT f))))
+
 -- the bytes of an item, none where it stands too often
 abbrev pub counted_length : Source → Part → ℕ
-counted_length s p =
-    if has BRACKETED_INT p.below && not (is_repeat (int_at s (leaf_at 1 (the BRACKETED_INT p.below)))) then 0 else item_length s p
+counted_length s p = if stands_too_often s p.below then 0 else item_length s p
 
 -- the items of one declaration have at most 67,108,864 bytes: the first token of the item that passes that
 abbrev pub item_past_length : Source → ℕ → List Part → List ℕ
@@ -165,23 +173,44 @@ nestings_too_deep s = flat_map class_too_deep (nodes s) ++ flat_map path_too_lon
 
 -- ---- fields with data
 
--- the size of the type of a field
+-- A class size and a repeat that are out of their ranges are named by B1: of them, and of what rests on them, no more is asked.
+
+-- the last `.size` of a class, if it has one, is in its range
+abbrev pub is_size_in_range : Source → Forest → Bool
+is_size_in_range s class = fold (λ before p. is_32_bits (int_at s (leaf_at 1 p.below))) true (lines_of MEMBER_SIZE class)
+
+-- the bytes that are asked of data for a value of a class: its class size, or none where that is out of its range
+abbrev pub asked_class_size : Source → Forest → Option ℕ
+asked_class_size s class = if is_size_in_range s class then layout_size (layout s class) else Some 0
+
+abbrev pub asked_size_at : Source → Option Node → Option ℕ
+asked_size_at s None = None
+asked_size_at s (Some n) = asked_class_size s n.below
+
+abbrev pub asked_value_size : Source → scope.Scope → List TypeId → Option ℕ
+asked_value_size s scope.TheVariants.Here path = asked_size_at s (class_at s path)
+asked_value_size s (scope.TheVariants.Extern k) path = None
+
+abbrev pub asked_size : Source → SigType → Option ℕ
+asked_size s t = size_by (asked_value_size s) t
+
+-- those for the type of a field
 abbrev pub field_size : Source → Node → Option ℕ
-field_size s n = data_size s (type_of s n.around (child (TYPE ∷ []) n.below))
+field_size s n = asked_size s (type_of s n.around (child (TYPE ∷ []) n.below))
+
+-- the bytes of data, where no repeat in it is out of its range
+abbrev pub asked_length : Source → Forest → Option ℕ
+asked_length s f = if list_any (λ p. stands_too_often s p.below) (data_items f) then None else Some (data_length s f)
 
 abbrev pub data_named_length : Source → Option Forest → Option ℕ
 data_named_length s None = None
-data_named_length s (Some f) = Some (data_length s f)
-
--- Bytes are counted up to 2^32: only a number that is out of its range itself, in `.size` or as a repeat, gives so many.
-abbrev pub counted : ℕ → ℕ
-counted n = min n 0x100000000
+data_named_length s (Some f) = asked_length s f
 
 -- data with fewer bytes than the field has: the label behind `at`
 abbrev pub label_if_short : Option ℕ → Option ℕ → ℕ → List ℕ
 label_if_short None length k = []
 label_if_short (Some size) None k = []
-label_if_short (Some size) (Some length) k = if nat_lt (counted length) (counted size) then k ∷ [] else []
+label_if_short (Some size) (Some length) k = if nat_lt length size then k ∷ [] else []
 
 abbrev pub data_too_short_of : Source → Node → List ℕ
 data_too_short_of s n =

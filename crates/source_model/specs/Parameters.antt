@@ -1,14 +1,14 @@
 -- Parameters and generic parameters, and what `.param` says of them (ECMA-335 II.10.1.7, II.15.4, II.15.4.1.4, II.22.20, II.22.33).
-use Rattle.std.specs.Prelude.{ℕ, ◌-◌, ◌==◌, ◌||◌, nat_lt, Bool, if◌then◌else◌, List, [], ◌∷◌, map, length, filter, fold, bit_or, Option, None, Some}
+use Rattle.std.specs.Prelude.{ℕ, ◌-◌, ◌==◌, ◌&&◌, ◌||◌, nat_lt, Bool, if◌then◌else◌, List, [], ◌∷◌, map, length, filter, fold, bit_or, Option, None, Some}
 use Rattle.std.specs.List.{flat_map, enumerate_from}
 use Rattle.assembly_tree.specs.declared.members.Attribute.{Attribute}
 use Rattle.assembly_tree.specs.declared.members.Constant.{Constant}
 use Rattle.assembly_tree.specs.declared.members.Generic.{Generic}
 use Rattle.assembly_tree.specs.declared.members.Param.{Param}
-use Rattle.ilasm_grammar.specs.declared.productions.TheConstants.{DEF_ARG, DEF_ARGS_OPT_SOME, NAME_OPT_SOME, FLAGS, PARAM_OF_BRACKET, PARAM_OF_TYPE, MEMBER_PARAM, TYPAR_BOUNDS, TYPAR_KEY_BRACKET, TYPAR_KEY_NAME}
+use Rattle.ilasm_grammar.specs.declared.productions.TheConstants.{DEF_ARG, DEF_ARGS_OPT_SOME, NAME_OPT_SOME, FLAGS, ITEM_PARAM, PARAM_OF_BRACKET, PARAM_OF_TYPE, MEMBER_PARAM, TYPAR_BOUNDS, TYPAR_KEY_BRACKET, TYPAR_KEY_NAME}
 use Rattle.source_model.specs.Constants.{constant_of}
 use Rattle.source_model.specs.Flags.{parameter_words, parameter_flags_in, flags_of, flags_number, typar_flags, without_bits}
-use Rattle.source_model.specs.Forest.{Forest, none, each, has, the, child, leaf_at, is_any_part}
+use Rattle.source_model.specs.Forest.{Forest, Part, none, each, has, the, child, leaf_at, is_any_part}
 use Rattle.source_model.specs.Items.{Run}
 use Rattle.source_model.specs.Manifests.{attributes}
 use Rattle.source_model.specs.Nodes.{Around, typars, typar_names}
@@ -23,8 +23,12 @@ use Rattle.source_model.specs.Values.{int_at, name_text}
 abbrev pub speaks_of_parameter : Run → Bool
 speaks_of_parameter r = has PARAM_OF_BRACKET r.head.below
 
+-- an item or a member that is a line of `.param type` itself, whatever stands in it
+abbrev pub is_typar_line : Part → Bool
+is_typar_line p = p.production == MEMBER_PARAM || (p.production == ITEM_PARAM && has PARAM_OF_TYPE p.below)
+
 abbrev pub speaks_of_typar : Run → Bool
-speaks_of_typar r = has PARAM_OF_TYPE r.head.below || r.head.production == MEMBER_PARAM
+speaks_of_typar r = is_typar_line r.head
 
 -- the number in `.param [n]`
 abbrev pub parameter_number : Source → Forest → ℕ

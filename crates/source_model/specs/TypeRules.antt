@@ -187,11 +187,15 @@ parameter_flags_out_of_range s n =
 abbrev pub typars_out_of_range : Node → List ℕ
 typars_out_of_range n = if n.production == TYPARS then past_count (each TYPAR n.below) else []
 
--- all of these that are out of their ranges
-abbrev pub number_in_type_out_of_range : Source → Node → List ℕ
-number_in_type_out_of_range s n =
+-- those of a signature that are out of their ranges
+abbrev pub number_in_signature_out_of_range : Source → Node → List ℕ
+number_in_signature_out_of_range s n =
     index_out_of_range s n ++ array_out_of_range s n ++ generic_number_out_of_range s n ++ arguments_out_of_range n
-    ++ second_ellipsis n ++ parameter_flags_out_of_range s n
+    ++ second_ellipsis n
+
+-- all of these; the flags of a parameter stand among its types and are no part of a signature
+abbrev pub number_in_type_out_of_range : Source → Node → List ℕ
+number_in_type_out_of_range s n = number_in_signature_out_of_range s n ++ parameter_flags_out_of_range s n
 
 -- a type is at most 100 deep: its first token
 abbrev pub type_too_deep : Source → Node → List ℕ
@@ -203,8 +207,8 @@ type_too_deep s n =
 -- what of all these a production in a signature breaks
 abbrev pub breaks_signature : Source → Node → List ℕ
 breaks_signature s n =
-    type_undeclared s n ++ scope_undeclared s n ++ typar_undeclared s n ++ number_in_type_out_of_range s n ++ type_too_deep s n
-    ++ path_too_long n
+    type_undeclared s n ++ scope_undeclared s n ++ typar_undeclared s n ++ number_in_signature_out_of_range s n
+    ++ type_too_deep s n ++ path_too_long n
 
 abbrev pub is_nothing : List ℕ → Bool
 is_nothing ks = length ks == 0

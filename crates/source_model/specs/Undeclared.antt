@@ -21,16 +21,16 @@ use Rattle.ilasm_grammar.specs.declared.productions.TheConstants.{
 }
 use Rattle.source_model.specs.Classes.{wants_object, core_scope}
 use Rattle.source_model.specs.Data.{data_named}
-use Rattle.source_model.specs.Forest.{Forest, Part, has, the, leaf_at}
+use Rattle.source_model.specs.Forest.{Forest, Part, has, the, child, leaf_at}
 use Rattle.source_model.specs.Items.{members}
 use Rattle.source_model.specs.Members.{method_forests, accessors_in, is_meant}
-use Rattle.source_model.specs.Names.{assemblies, classes, is_path}
+use Rattle.source_model.specs.Names.{assemblies, classes, is_path, scope_named}
 use Rattle.source_model.specs.Nodes.{Around, Node, nodes, nodes_of, typar_names, class_token}
 use Rattle.source_model.specs.References.{owner_of}
 use Rattle.source_model.specs.Signatures.{is_method_unbroken, is_reference_unbroken}
 use Rattle.source_model.specs.Source.{Source}
 use Rattle.source_model.specs.TypeRules.{type_undeclared, scope_undeclared, typar_undeclared, name_unless_among}
-use Rattle.source_model.specs.Values.{name_text}
+use Rattle.source_model.specs.Values.{name_text, scope_text}
 
 -- ---- types and assemblies
 
@@ -76,8 +76,19 @@ abbrev pub is_class_named : List TypeId → Owner-F Owner SigType → Bool
 is_class_named path (Name name) = is_here name.scope && is_path name.path path
 is_class_named path (Spec t) = false
 
+-- the name in brackets before a reference's owner, where there is one, stands for an assembly
+abbrev pub has_known_scope : Source → Forest → Bool
+has_known_scope s reference =
+    if has TARGET_SCOPE reference
+    then is_some (scope_named s (scope_text s (leaf_at 0 (child (TARGET_SCOPE ∷ []) reference))))
+    else true
+
+abbrev pub names_this_class : Source → Around → Forest → Bool
+names_this_class s a reference = is_class_named a.path (out-Owner (owner_of s a TARGET_SCOPE TARGET_TYPE TARGET_NAME reference))
+
+-- the owner of a reference is the class around it
 abbrev pub is_this_class : Source → Around → Forest → Bool
-is_this_class s a reference = is_class_named a.path (out-Owner (owner_of s a TARGET_SCOPE TARGET_TYPE TARGET_NAME reference))
+is_this_class s a reference = has_known_scope s reference && names_this_class s a reference
 
 -- one of these methods, whose own signatures break no rule, is the one that a reference means
 abbrev pub is_one_of : Source → Around → List Forest → Forest → Bool

@@ -3,7 +3,7 @@ use Rattle.std.proofs.Common.{◌≡◌, ℕ, List, [], ◌∷◌, ◌++◌, ref
 use Rattle.source_model.specs.Forest.{Forest}
 use Rattle.source_model.specs.Source.{Source}
 use Rattle.source_model.specs.TypeRules.{arguments_out_of_range, array_out_of_range, generic_number_out_of_range, index_out_of_range, parameter_flags_out_of_range, second_ellipsis}
-use Rattle.source_syntax.specs.Places.{node_of, numbers_out_of_range}
+use Rattle.source_syntax.specs.Places.{node_of, numbers_out_of_range, signature_numbers_out_of_range}
 
 pub nothing_in : (xs ys : List ℕ) → xs ++ ys ≡ [] → (xs ≡ []) × (ys ≡ [])
 nothing_in [] ys e = (refl, e)
@@ -19,21 +19,23 @@ module _ (s : Source) (p : ℕ) (f : Forest) where
   abbrev in_signatures : List ℕ
   in_signatures = (in_generics ++ arguments_out_of_range (node_of p f)) ++ second_ellipsis (node_of p f)
 
-  generics_fit : numbers_out_of_range s p f ≡ [] → in_generics ≡ []
+  pub signature_fits : numbers_out_of_range s p f ≡ [] → signature_numbers_out_of_range s p f ≡ []
+  signature_fits e = (nothing_in in_signatures (parameter_flags_out_of_range s (node_of p f)) e).0
+
+  generics_fit : signature_numbers_out_of_range s p f ≡ [] → in_generics ≡ []
   generics_fit e =
       (nothing_in in_generics (arguments_out_of_range (node_of p f))
-      (nothing_in (in_generics ++ arguments_out_of_range (node_of p f)) (second_ellipsis (node_of p f))
-      (nothing_in in_signatures (parameter_flags_out_of_range s (node_of p f)) e).0).0).0
+      (nothing_in (in_generics ++ arguments_out_of_range (node_of p f)) (second_ellipsis (node_of p f)) e).0).0
 
-  pub index_fits : numbers_out_of_range s p f ≡ [] → index_out_of_range s (node_of p f) ≡ []
+  pub index_fits : signature_numbers_out_of_range s p f ≡ [] → index_out_of_range s (node_of p f) ≡ []
   index_fits e =
       (nothing_in (index_out_of_range s (node_of p f)) (array_out_of_range s (node_of p f))
       (nothing_in in_types (generic_number_out_of_range s (node_of p f)) (generics_fit e)).0).0
 
-  pub array_fits : numbers_out_of_range s p f ≡ [] → array_out_of_range s (node_of p f) ≡ []
+  pub array_fits : signature_numbers_out_of_range s p f ≡ [] → array_out_of_range s (node_of p f) ≡ []
   array_fits e =
       (nothing_in (index_out_of_range s (node_of p f)) (array_out_of_range s (node_of p f))
       (nothing_in in_types (generic_number_out_of_range s (node_of p f)) (generics_fit e)).0).1
 
-  pub generic_number_fits : numbers_out_of_range s p f ≡ [] → generic_number_out_of_range s (node_of p f) ≡ []
+  pub generic_number_fits : signature_numbers_out_of_range s p f ≡ [] → generic_number_out_of_range s (node_of p f) ≡ []
   generic_number_fits e = (nothing_in in_types (generic_number_out_of_range s (node_of p f)) (generics_fit e)).1

@@ -10,7 +10,7 @@ use Rattle.source_model.specs.Members.{in_method}
 use Rattle.source_model.specs.Nodes.{Around, Node, entered, nodes_in, typars}
 use Rattle.source_model.specs.Signatures.{generic_arguments_token, is_field_unbroken, is_method_unbroken, is_property_unbroken, is_reference_unbroken, not_in_property}
 use Rattle.source_model.specs.Source.{Source}
-use Rattle.source_model.specs.TypeRules.{are_unbroken, breaks_signature, is_nothing, number_in_type_out_of_range, past_count, path_too_long, scope_undeclared, typar_undeclared, type_too_deep, type_undeclared}
+use Rattle.source_model.specs.TypeRules.{are_unbroken, breaks_signature, is_nothing, number_in_signature_out_of_range, past_count, path_too_long, scope_undeclared, typar_undeclared, type_too_deep, type_undeclared}
 use Rattle.source_syntax.specs.Derived.{FitsBody, HasBodies, OfEach}
 use Rattle.source_syntax.specs.Places.{IsReadable, IsSound}
 use Rattle.source_syntax.specs.Sound.{HasSoundMethod, HasSoundProperty, HasSoundReference, HasSoundType, UnbrokenIsSound}
@@ -25,11 +25,11 @@ nothing_of [] e = refl
 nothing_of (k ∷ ks) e = let h = (Decides-eqb (length (k ∷ ks)) 0).0 e in absurd (omega (arith, h))
 
 -- of what a node breaks nothing is a number or a count
-numbers_unbroken : (s : Source) (m : Node) → breaks_signature s m ≡ [] → number_in_type_out_of_range s m ≡ []
+numbers_unbroken : (s : Source) (m : Node) → breaks_signature s m ≡ [] → number_in_signature_out_of_range s m ≡ []
 numbers_unbroken s m e =
-    (nothing_in (type_undeclared s m ++ scope_undeclared s m ++ typar_undeclared s m) (number_in_type_out_of_range s m)
-    (nothing_in (type_undeclared s m ++ scope_undeclared s m ++ typar_undeclared s m ++ number_in_type_out_of_range s m) (type_too_deep s m)
-    (nothing_in (type_undeclared s m ++ scope_undeclared s m ++ typar_undeclared s m ++ number_in_type_out_of_range s m ++ type_too_deep s m) (path_too_long m) e).0).0).1
+    (nothing_in (type_undeclared s m ++ scope_undeclared s m ++ typar_undeclared s m) (number_in_signature_out_of_range s m)
+    (nothing_in (type_undeclared s m ++ scope_undeclared s m ++ typar_undeclared s m ++ number_in_signature_out_of_range s m) (type_too_deep s m)
+    (nothing_in (type_undeclared s m ++ scope_undeclared s m ++ typar_undeclared s m ++ number_in_signature_out_of_range s m ++ type_too_deep s m) (path_too_long m) e).0).0).1
 
 -- ---- forests in which nothing is broken
 
@@ -39,7 +39,7 @@ module _ (s : Source) where
 
   -- what a production breaks by itself, below it and after it
   split : (a : Around) (p : ℕ) (b after : Forest) → Breaks a (branch p b after) ≡ []
-      → (number_in_type_out_of_range s (record { production = p; below = b; around = entered s a p b }) ≡ [])
+      → (number_in_signature_out_of_range s (record { production = p; below = b; around = entered s a p b }) ≡ [])
       × (Breaks (entered s a p b) b ≡ []) × (Breaks a after ≡ [])
   split a p b after e =
       let m : Node = record { production = p; below = b; around = entered s a p b } in

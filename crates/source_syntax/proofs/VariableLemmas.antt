@@ -21,7 +21,7 @@ use Rattle.source_model.specs.Types.{number_of, or_length, variable_number}
 use Rattle.source_model.specs.Values.{int_at, name_text}
 use Rattle.source_syntax.specs.Derived.{head_of, Fits, FitsBody, HasBodies}
 use Rattle.source_syntax.specs.Indexes.{HasIndex}
-use Rattle.source_syntax.specs.Places.{IsSound, IsReadable, numbers_out_of_range}
+use Rattle.source_syntax.specs.Places.{IsSound, IsReadable, signature_numbers_out_of_range}
 use Rattle.source_syntax.specs.Readers.{IsOf}
 use Rattle.source_syntax.proofs.SoundLemmas.{index_fits}
 use Rattle.source_syntax.proofs.TypeWalks.{has_bodies}
@@ -151,7 +151,7 @@ unless_nothing s k e = elim (cases_Bool (is_within (pos 0) (pos 65535) (int_at s
   | inr over ↦ let none : k ∷ [] ≡ [] = sym (ap (λ (b : Bool). if b then [] else k ∷ []) over) ∙ e in absurd cc
 ]
 
-numbered : (s : Source) (p : ℕ) (f : Forest) → ((p == TYPE_BASE_BANG) || (p == TYPE_BASE_DOUBLE_BANG)) ≡ true → numbers_out_of_range s p f ≡ []
+numbered : (s : Source) (p : ℕ) (f : Forest) → ((p == TYPE_BASE_BANG) || (p == TYPE_BASE_DOUBLE_BANG)) ≡ true → signature_numbers_out_of_range s p f ≡ []
     → has INDEX_INT f ≡ true → IsWord (int_at s (leaf_at 0 (the INDEX_INT f)))
 numbered s p f is e some =
     unless_nothing s (leaf_at 0 (the INDEX_INT f))

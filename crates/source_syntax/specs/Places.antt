@@ -4,7 +4,7 @@ use Rattle.source_model.specs.Forest.{Forest}
 use Rattle.source_model.specs.Names.{externs, extern_key}
 use Rattle.source_model.specs.Nodes.{Around, Node, nothing_around, typar_names}
 use Rattle.source_model.specs.Source.{Source}
-use Rattle.source_model.specs.TypeRules.{number_in_type_out_of_range}
+use Rattle.source_model.specs.TypeRules.{number_in_signature_out_of_range, number_in_type_out_of_range}
 use Rattle.source_syntax.specs.Derived.{OfEach, FitsBody}
 use Rattle.source_syntax.specs.Readers.{Reads}
 use Rattle.source_syntax.specs.declared.place.Place.{Place}
@@ -14,12 +14,16 @@ abbrev pub node_of : ℕ → Forest → Node
 node_of p below = record { production = p; below = below; around = nothing_around }
 
 -- the tokens of the numbers and counts in types, signatures and references that are out of their ranges
+abbrev pub signature_numbers_out_of_range : Source → ℕ → Forest → List ℕ
+signature_numbers_out_of_range s p below = number_in_signature_out_of_range s (node_of p below)
+
+-- those and the flags of parameters
 abbrev pub numbers_out_of_range : Source → ℕ → Forest → List ℕ
 numbers_out_of_range s p below = number_in_type_out_of_range s (node_of p below)
 
 -- below a production stands its body, and its numbers are in their ranges
 abbrev pub IsSound : Source → ℕ → Forest → Type 0
-IsSound s p below = FitsBody s p below × (numbers_out_of_range s p below ≡ [])
+IsSound s p below = FitsBody s p below × (signature_numbers_out_of_range s p below ≡ [])
 
 -- and so it is at each production of a forest
 abbrev pub IsReadable : Source → Forest → Type 0

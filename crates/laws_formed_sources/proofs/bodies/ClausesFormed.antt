@@ -3,6 +3,7 @@ use Rattle.std.proofs.Common.{◌≡◌, ℕ, ◌≤◌, List, [], ◌∷◌, �
 use Rattle.std.specs.Prelude.{Bool, true, false, ◌==◌, ◌&&◌, if◌then◌else◌}
 use Rattle.std.specs.List.{flat_map, list_all}
 use Rattle.std.proofs.lemmas.Bool.{and_from, le-leb}
+use Rattle.std.proofs.lemmas.List.{length-map}
 use Rattle.assembly_tree.specs.WellFormedBodies.{is_clause, is_filter_inside, is_forward, is_inside}
 use Rattle.assembly_tree.specs.declared.body.ClauseKind.TheVariants as handles
 use Rattle.ilasm_grammar.specs.declared.productions.TheConstants.{CLAUSE_CATCH, CLAUSE_FILTER, CLAUSE_FINALLY, FILTER_START_BLOCK, FILTER_START_NAME, HANDLER_BLOCK, HANDLER_HANDLER, ITEM_TRY, TRY_RANGE_BLOCK, TRY_RANGE_NAME}
@@ -14,33 +15,14 @@ use Rattle.source_model.specs.Instructions.{instructions_of, label_number, numbe
 use Rattle.source_model.specs.Nodes.{Around, Node}
 use Rattle.source_model.specs.Source.{Source}
 use Rattle.source_model.specs.Types.{the_owner}
-use Rattle.check_bodies.specs.ClauseCounts.{clauses_in}
-use Rattle.check_bodies.proofs.ClauseCountLemmas.{clauses_are}
 use Rattle.check_bodies.proofs.ShortBranchLemmas.{number_within}
 use Rattle.laws_formed_sources.proofs.sources.Members.{In}
 use Rattle.laws_formed_sources.proofs.bodies.Methods.{all_pass, none_of}
 
 -- ---- how many there are
 
-one_if : (c : Bool) (b : Forest) (g : Guarded) → length (if c then g ∷ [] else []) ≡ length (if c then b ∷ [] else [])
-one_if true b g = refl
-one_if false b g = refl
-
-as_many : (f t : Forest) → length (guarded_in t f) ≡ length (clauses_in f)
-as_many none t = refl
-as_many (leaf k a) t = as_many a t
-as_many (branch p b a) t =
-    let below = as_many b (if p == ITEM_TRY then b else t) in
-    let after = as_many a t in
-    let g : Guarded = record { tried = t; clause = part p b } in
-    let own = one_if (is_among clause_forms p) b g in
-    let xs = guarded_in (if p == ITEM_TRY then b else t) b in
-    let x : List Guarded = if is_among clause_forms p then g ∷ [] else [] in
-    let y : List Forest = if is_among clause_forms p then b ∷ [] else [] in
-    omega (arith, below, after, own, length-append (xs ++ x) (guarded_in t a), length-append xs x, length-append y (clauses_in b ++ clauses_in a), length-append (clauses_in b) (clauses_in a))
-
-pub as_many_clauses : (s : Source) (a : Around) (f : Forest) → length (guarded f) ≡ length (clause_forests s a f)
-as_many_clauses s a f = as_many f none ∙ ap length (sym (clauses_are s f a))
+pub as_many_clauses : (f : Forest) → length (guarded f) ≡ length (clause_forests f)
+as_many_clauses f = sym (length-map (guarded f) (λ (g : Guarded). g.clause.below))
 
 -- ---- their numbers
 

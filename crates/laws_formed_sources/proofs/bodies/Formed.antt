@@ -51,7 +51,7 @@ record NumbersInRange (s : Source) (n : Node) : Type 0 where
   reals : flat_map (real_out_of_range s) (instructions_with INSTRUCTION_OP_REAL n.below) ≡ []
   variables : flat_map (variable_out_of_range s n.below) (instructions_with INSTRUCTION_OP_VAR n.below) ≡ []
   locals-few : past_count (locals n.below) ≡ []
-  clauses-few : past_count (clause_forests s n.around n.below) ≡ []
+  clauses-few : past_count (clause_forests n.below) ≡ []
 
 numbers_in_range : (s : Source) (n : Node) → body_numbers_out_of_range_in s n ≡ [] → NumbersInRange s n
 numbers_in_range s n e =
@@ -61,7 +61,7 @@ numbers_in_range s n e =
     let v = flat_map (variable_out_of_range s n.below) (instructions_with INSTRUCTION_OP_VAR n.below) in
     let m = flat_map (local_misnumbered s) (enumerate_from 0 (locals n.below)) in
     let l = past_count (locals n.below) in
-    let c = past_count (clause_forests s n.around n.below) in
+    let c = past_count (clause_forests n.below) in
     let h1 = empty_in (b ++ i ++ r ++ v ++ m ++ l) c e in
     let h2 = empty_in (b ++ i ++ r ++ v ++ m) l h1.0 in
     let h3 = empty_in (b ++ i ++ r ++ v) m h2.0 in
@@ -124,7 +124,7 @@ module _ (longest : LongestSpelling) (reads : ReadsAsItLexes) (s : Source) (r : 
     few_clauses : is_count (length (clauses s a f)) ≡ true
     few_clauses =
         count_is (length (clauses s a f))
-        (let few = at_most (clause_forests s a f) fit.clauses-few in omega (arith, few, length-map (guarded f) (clause s a f), clause_rules.as_many_clauses s a f))
+        (let few = at_most (clause_forests f) fit.clauses-few in omega (arith, few, length-map (guarded f) (clause s a f), clause_rules.as_many_clauses f))
 
     -- it has code, few locals and few clauses, and its instructions and clauses meet their conditions
     whole_form : nat_lt 0 (length (code s a f)) ≡ true → has_body_form (whole (code s a f)) ≡ true

@@ -1,8 +1,7 @@
 -- The data of a field of a faultless source has as many bytes as a value of its type has in the assembly (ECMA-335 II.16.3).
-use Rattle.std.proofs.Common.{◌≡◌, ℕ, ◌≤◌, inl, inr, List, [], ◌∷◌, ◌++◌, Option, None, Some, cond, length, refl, ap, sym, subst, ◌∙◌, arith, nat_lt, min}
-use Rattle.std.specs.Prelude.{Bool, true, false, ◌==◌, ◌&&◌, ◌||◌, if◌then◌else◌, is_some, find, filter, fold, take, ℤ, pos, negsuc, int_le}
-use Rattle.std.specs.List.{AllByRecursion, flat_map}
-use Rattle.std.proofs.Math.Nat.{min-eq_left, min-le_left}
+use Rattle.std.proofs.Common.{◌≡◌, ℕ, ◌≤◌, inl, inr, List, [], ◌∷◌, ◌++◌, Option, None, Some, cond, length, refl, ap, sym, subst, ◌∙◌, arith, nat_lt, ◌⊎◌}
+use Rattle.std.specs.Prelude.{Bool, true, false, ◌==◌, ◌&&◌, ◌||◌, not, if◌then◌else◌, bytes_eq, is_some, find, filter, fold, take, ℤ, pos, negsuc, int_le}
+use Rattle.std.specs.List.{AllByRecursion, flat_map, list_any}
 use Rattle.std.proofs.lemmas.Bool.{cases_Bool, leb-true, ltb-false}
 use Rattle.std.proofs.lemmas.Bool.Decides.{Decides-eqb}
 use Rattle.std.proofs.lemmas.List.{length-take-le}
@@ -14,20 +13,27 @@ use Rattle.type_terms.specs.declared.name.TypeName.{TypeName}
 use Rattle.type_terms.specs.declared.term.SigType.{SigType}
 use Rattle.assembly_tree.specs.DataSize.{declared, declared_in, layout_size, size_in_data, type_size}
 use Rattle.assembly_tree.specs.WellFormedMembers.{is_content}
-use Rattle.ilasm_grammar.specs.declared.productions.TheConstants.{AT_NAME, CLASS, FIELD, MEMBER_CLASS, MEMBER_CUSTOM, MEMBER_DATA, MEMBER_EVENT, MEMBER_FIELD, MEMBER_METHOD, MEMBER_PACK, MEMBER_PARAM, MEMBER_PROPERTY, MEMBER_SIZE, TYPE}
+use Rattle.ilasm_grammar.specs.Grammar.{rule_of}
+use Rattle.ilasm_grammar.specs.Ilasm.{ilasm, rule_by}
+use Rattle.ilasm_grammar.specs.declared.nonterminals.TheConstants as head
+use Rattle.ilasm_grammar.specs.declared.symbol.Symbol.TheVariants.{Terminal}
+use Rattle.ilasm_grammar.specs.declared.terminals.TheConstants as terminal
+use Rattle.ilasm_grammar.specs.declared.productions.TheConstants.{AT_NAME, BRACKETED_INT, CLASS, DATA, DATA_ITEM_BYTES, DATA_ITEM_DATA_NUM, DATA_LABEL, FIELD, MEMBER_CLASS, MEMBER_CUSTOM, MEMBER_DATA, MEMBER_EVENT, MEMBER_FIELD, MEMBER_METHOD, MEMBER_PACK, MEMBER_PARAM, MEMBER_PROPERTY, MEMBER_SIZE, PARENTHESIZED_INT, TYPE}
 use Rattle.source_model.specs.Classes.{assembly}
-use Rattle.source_model.specs.Data.{at_token, bytes_at, class_layout, content, data_bytes, data_length, data_named, data_size, first_bytes, last_number, layout, layout_from, lines_of, value_layout}
-use Rattle.source_model.specs.Forest.{Forest, Part, none, leaf, branch, below_each, child, first_or, has, is_among, is_any_part, leaf_at, parts}
+use Rattle.source_model.specs.Data.{at_token, bytes_at, class_layout, content, data_bytes, data_items, data_length, data_named, data_size, first_bytes, item_bits, label_token, last_number, layout, layout_from, lines_of, size_by, value_layout, value_size}
+use Rattle.source_model.specs.Forest.{Forest, Part, none, leaf, branch, below_each, child, each, first_or, has, is_among, is_any_part, leaf_at, parts, the}
 use Rattle.source_model.specs.Items.{members}
 use Rattle.source_model.specs.Names.{class_at, classes, is_path}
 use Rattle.source_model.specs.Nodes.{Around, Node, entered, nodes, nodes_in, nothing_around}
-use Rattle.source_model.specs.OutOfRange.{counted, data_named_length, data_too_short_of, data_unsized_of, field_size, is_32_bits, label_if_none, label_if_short}
+use Rattle.source_model.specs.OutOfRange.{asked_length, asked_size, asked_size_at, asked_value_size, data_named_length, data_too_short_of, data_unsized_of, field_size, fits_width, is_32_bits, is_repeat, is_size_in_range, label_if_none, label_if_short, stands_too_often}
+use Rattle.source_model.specs.TypeRules.{unless}
 use Rattle.source_model.specs.Shapes.{natural}
 use Rattle.source_model.specs.Source.{Source}
 use Rattle.source_model.specs.Types.{type_of}
 use Rattle.source_model.specs.Undeclared.{label_undeclared_of}
 use Rattle.source_model.specs.Values.{int_at, name_text}
-use Rattle.source_syntax.specs.Derived.{DerivationsHaveBodies, OfEach}
+use Rattle.source_syntax.specs.Derived.{DerivationsHaveBodies, Fits, OfEach}
+use Rattle.source_syntax.proofs.WrittenNames.{fits_rule}
 use Rattle.source_flags.proofs.Gathered.{IsSought, of_parts}
 use Rattle.laws_formed_sources.specs.sources.Laws.{IsRight}
 use Rattle.laws_formed_sources.specs.sources.Productions.{AllFaultless, IsFaultlessAt}
@@ -35,7 +41,7 @@ use Rattle.laws_formed_sources.specs.sources.Remaining.{Among}
 use Rattle.laws_formed_sources.proofs.sources.Attributes.{IsGood}
 use Rattle.laws_formed_sources.proofs.sources.Declared.{no_class_twice}
 use Rattle.laws_formed_sources.proofs.sources.Occurring.{among_back, among_front}
-use Rattle.laws_formed_sources.proofs.sources.Parts.{parts_good, passed}
+use Rattle.laws_formed_sources.proofs.sources.Parts.{IsOf, each_good, parts_good, passed}
 use Rattle.laws_formed_sources.proofs.sources.Unbroken.{all_bounded, all_declared, all_faultless, empty_in, nothing_twice}
 use Rattle.laws_formed_sources.proofs.contents.Leads.{class_leads, class_placed}
 use Rattle.laws_formed_sources.proofs.contents.Lengths.{data_long}
@@ -148,6 +154,17 @@ module _ (s : Source) where
       MEMBER_CLASS ∷ MEMBER_FIELD ∷ MEMBER_METHOD ∷ MEMBER_PROPERTY ∷ MEMBER_EVENT ∷ MEMBER_CUSTOM ∷ MEMBER_DATA ∷ MEMBER_PARAM ∷ MEMBER_PACK
       ∷ MEMBER_SIZE ∷ []
 
+  numbers_ranged : (ps : List Part) (b : Bool) → AllByRecursion IsSizeLine ps → b ≡ true → fold (λ before p. is_32_bits (int_at s (leaf_at 1 p.below))) b ps ≡ true
+  numbers_ranged [] b h e = e
+  numbers_ranged (p ∷ ps) b h e =
+      let line : IsFaultlessAt s MEMBER_SIZE p.below = subst (λ q. IsFaultlessAt s q p.below) ((Decides-eqb p.production MEMBER_SIZE).0 h.0.0) h.0.1.0 in
+      let k = leaf_at 1 p.below in
+      numbers_ranged ps (is_32_bits (int_at s k)) h.1 (if_nothing (is_32_bits (int_at s k)) k line.range.layouts)
+
+  class_ranged : (f : Forest) → AllFaultless s f → is_size_in_range s f ≡ true
+  class_ranged f all =
+      numbers_ranged (lines_of MEMBER_SIZE f) true (passed (IsGood s) (λ p. p.production == MEMBER_SIZE) (members f) (parts_good s member_productions f all)) refl
+
   size_of : (c : Bool) (size k : ℕ) → cond c (Some size) None ≡ Some k → size ≡ k
   size_of true size k e = same_Some size k e
   size_of false size k e = absurd cc
@@ -167,6 +184,72 @@ module _ (s : Source) where
       go [] [] h e = absurd cc
       go [] (q ∷ sizes) h e = low (q ∷ sizes) h e
       go (p ∷ ps) sizes h e = low sizes h e
+
+-- ---- repeats
+
+rule_bytes : ilasm DATA_ITEM_BYTES ≡ Some (rule_of head.DATA_ITEM (Terminal terminal.BYTE_ARRAY ∷ []))
+unfolding ilasm rule_by
+rule_bytes = refl
+
+-- below a production with a token alone stands no other
+alone : (s : Source) (k p : ℕ) (f : Forest) → Fits s (Terminal k ∷ []) f → has p f ≡ false
+alone s k p none h = absurd h
+alone s k p (leaf j none) h = refl
+alone s k p (leaf j (leaf i f)) h = absurd h.1
+alone s k p (leaf j (branch q b f)) h = absurd h.1
+alone s k p (branch q b f) h = absurd h
+
+bytes_or_numbers : (p : ℕ) → is_among (DATA_ITEM_BYTES ∷ DATA_ITEM_DATA_NUM ∷ []) p ≡ true → (DATA_ITEM_BYTES ≡ p) ⊎ (DATA_ITEM_DATA_NUM ≡ p)
+bytes_or_numbers p e = elim (cases_Bool (DATA_ITEM_BYTES == p)) [
+  | inl is ↦ inl ((Decides-eqb DATA_ITEM_BYTES p).0 is)
+  | inr other ↦ inr (one_of DATA_ITEM_DATA_NUM p (sym (ap (λ (c : Bool). c || is_among (DATA_ITEM_DATA_NUM ∷ []) p) other) ∙ e))
+]
+
+first_repeat : (s : Source) (ps : List Part) → flat_map (λ g. unless is_repeat s (leaf_at 1 g)) (below_each ps) ≡ []
+    → (is_any_part ps && not (is_repeat (int_at s (leaf_at 1 (first_or none (below_each ps)))))) ≡ false
+first_repeat s [] e = refl
+first_repeat s (p ∷ ps) e =
+    let k = leaf_at 1 p.below in
+    let own = (empty_in (unless is_repeat s k) (flat_map (λ g. unless is_repeat s (leaf_at 1 g)) (below_each ps)) e).0 in
+    ap not (if_nothing (is_repeat (int_at s k)) k own)
+
+module _ (s : Source) where
+  abbrev IsItem : Part → Type 0
+  IsItem p = IsSought (IsFaultlessAt s) (DATA_ITEM_BYTES ∷ DATA_ITEM_DATA_NUM ∷ []) p
+
+  item_few : (p : Part) → IsItem p → stands_too_often s p.below ≡ false
+  item_few p h = elim (bytes_or_numbers p.production h.0) [
+    | inl is ↦
+        let own : IsFaultlessAt s DATA_ITEM_BYTES p.below = subst (λ q. IsFaultlessAt s q p.below) (sym is) h.1 in
+        let bare = alone s terminal.BYTE_ARRAY BRACKETED_INT p.below (fits_rule s DATA_ITEM_BYTES head.DATA_ITEM (Terminal terminal.BYTE_ARRAY ∷ []) p.below rule_bytes own.range.fits) in
+        ap (λ c. c && not (is_repeat (int_at s (leaf_at 1 (the BRACKETED_INT p.below))))) bare
+    | inr is ↦
+        let own : IsFaultlessAt s DATA_ITEM_DATA_NUM p.below = subst (λ q. IsFaultlessAt s q p.below) (sym is) h.1 in
+        let few = (empty_in (flat_map (λ g. unless (fits_width (item_bits p.below)) s (leaf_at 1 g)) (each PARENTHESIZED_INT p.below))
+        (flat_map (λ g. unless is_repeat s (leaf_at 1 g)) (each BRACKETED_INT p.below)) own.range.data-numbers).1 in
+        first_repeat s (parts (BRACKETED_INT ∷ []) p.below) few
+  ]
+
+  items_few : (ps : List Part) → AllByRecursion IsItem ps → list_any (λ p. stands_too_often s p.below) ps ≡ false
+  items_few [] h = refl
+  items_few (p ∷ ps) h = ap (λ c. c || list_any (λ q. stands_too_often s q.below) ps) (item_few p h.0) ∙ items_few ps h.1
+
+  length_asked : (f : Forest) → AllFaultless s f → asked_length s f ≡ Some (data_length s f)
+  length_asked f all =
+      ap (λ (c : Bool). if c then None else Some (data_length s f))
+      (items_few (data_items f) (of_parts (IsFaultlessAt s) (DATA_ITEM_BYTES ∷ DATA_ITEM_DATA_NUM ∷ []) f all))
+
+found_of_each : {X : Type 0} (P : X → Type 0) (chosen test : X → Bool) (xs : List X) (x : X) → AllByRecursion P xs → find test (filter chosen xs) ≡ Some x → P x
+found_of_each P chosen test [] x h e = absurd cc
+found_of_each P chosen test (y ∷ ys) x h e = go (chosen y) (λ i. found_of_each P chosen test ys x h.1 i) e
+  where
+    within : (c : Bool) → (find test (filter chosen ys) ≡ Some x → P x) → cond c (Some y) (find test (filter chosen ys)) ≡ Some x → P x
+    within true later e = subst P (same_Some y x e) h.0
+    within false later e = later e
+
+    go : (c : Bool) → (find test (filter chosen ys) ≡ Some x → P x) → find test (cond c (y ∷ filter chosen ys) (filter chosen ys)) ≡ Some x → P x
+    go true later e = within (test y) later e
+    go false later e = later e
 
 -- ---- a faultless source
 
@@ -226,21 +309,33 @@ module _ (s : Source) (r : IsRight s) (all : AllFaultless s s.tree) where
 
   -- ---- contents
 
-  long_enough : (length size : ℕ) → size ≤ 4294967295 → nat_lt (counted length) (counted size) ≡ false → size ≤ length
-  long_enough length size low e =
-      let whole : min size 4294967296 ≡ size = min-eq_left (omega (arith, low)) in
-      go (min length 4294967296) (min size 4294967296) whole (min-le_left length 4294967296) (ltb-false (min length 4294967296) (min size 4294967296) e)
+  values_same : (at : Scope) (path : List TypeId) → asked_value_size s at path ≡ value_size s at path
+  values_same (Extern j) path = refl
+  values_same Here path = go (class_at s path) refl
     where
-      go : (l z : ℕ) → z ≡ size → l ≤ length → z ≤ l → size ≤ length
-      go l z same low h = omega (arith, same, low, h)
+      go : (o : Option Node) → class_at s path ≡ o → asked_size_at s o ≡ layout_size (class_layout s o)
+      go None is = refl
+      go (Some n) is = ap (λ (c : Bool). if c then layout_size (layout s n.below) else Some 0) (class_ranged s n.below (good_node n (class_node path n is)).1)
 
-  exact : (t : SigType) (size : Option ℕ) (d : Option Forest) (k : ℕ) → data_size s t ≡ size → label_if_none size k ≡ []
+  -- what is asked of data is what is stated
+  size_asked : (t : SigType) → asked_size s t ≡ data_size s t
+  size_asked t =
+      let same : asked_value_size s ≡ value_size s = λ i at path. values_same at path i in
+      ap (λ value. size_by value t) same
+
+  named_asked : (text : List ℕ) (g : Forest) → data_named s text ≡ Some g → data_named_length s (Some g) ≡ Some (data_length s g)
+  named_asked text g e =
+      length_asked s g
+      (found_of_each (IsOf s DATA) (has DATA_LABEL) (λ f. bytes_eq (name_text s (label_token f)) text) (each DATA s.tree) g (each_good s DATA s.tree all) e).1
+
+  exact : (t : SigType) (size : Option ℕ) (text : List ℕ) (d : Option Forest) (k : ℕ) → data_named s text ≡ d → data_size s t ≡ size → label_if_none size k ≡ []
       → label_if_short size (data_named_length s d) k ≡ [] → is_some d ≡ true → is_content (size_in_data (assembly s) t) (Some (first_bytes size (bytes_at s d))) ≡ true
-  exact t None d k is unsized short known = absurd cc
-  exact t (Some z) None k is unsized short known = absurd cc
-  exact t (Some z) (Some g) k is unsized short known =
+  exact t None text d k found is unsized short known = absurd cc
+  exact t (Some z) text None k found is unsized short known = absurd cc
+  exact t (Some z) text (Some g) k found is unsized short known =
       let agrees = sizes_agree t z is in
-      let long = long_enough (data_length s g) z agrees.1 (if_no_label (nat_lt (counted (data_length s g)) (counted z)) k short) in
+      let asked : label_if_short (Some z) (Some (data_length s g)) k ≡ [] = ap (λ l. label_if_short (Some z) l k) (sym (named_asked text g found)) ∙ short in
+      let long = ltb-false (data_length s g) z (if_no_label (nat_lt (data_length s g) z) k asked) in
       ap (λ o. is_content o (Some (take z (data_bytes s g)))) agrees.0
       ∙ (Decides-eqb (length (take z (data_bytes s g))) z).1
       (length-take-le z (data_bytes s g) (subst (λ l. z ≤ l) (sym (data_long s g)) long))
@@ -261,11 +356,13 @@ module _ (s : Source) (r : IsRight s) (all : AllFaultless s s.tree) where
         let unsized : label_if_none (field_size s n) k ≡ [] =
         sym (ap (λ (c : Bool). if c then label_if_none (field_size s n) k else []) some)
         ∙ none_at (λ (m : Node). is_among (FIELD ∷ []) m.production) (data_unsized_of s) n (nodes s) i chosen bounded.unsized in
+        let same = size_asked (its_type n) in
         let short : label_if_short (field_size s n) (data_named_length s (its_data n)) k ≡ [] =
         sym (ap (λ (c : Bool). if c then label_if_short (field_size s n) (data_named_length s (its_data n)) k else []) some)
         ∙ none_at (λ (m : Node). is_among (FIELD ∷ []) m.production) (data_too_short_of s) n (nodes s) i chosen bounded.short in
         ap (λ (c : Bool). is_content (size_in_data (assembly s) (its_type n)) (if c then Some (first_bytes (data_size s (its_type n)) (bytes_at s (its_data n))) else None)) some
-        ∙ exact (its_type n) (data_size s (its_type n)) (its_data n) k refl unsized short (label_known n i some)
+        ∙ exact (its_type n) (data_size s (its_type n)) (name_text s k) (its_data n) k refl refl
+        (ap (λ o. label_if_none o k) (sym same) ∙ unsized) (ap (λ o. label_if_short o (data_named_length s (its_data n)) k) (sym same) ∙ short) (label_known n i some)
   ]
 
 pub contents_formed : DerivationsHaveBodies → (s : Source) → IsRight s → (n : Node) → Among n (nodes s) → n.production ≡ FIELD

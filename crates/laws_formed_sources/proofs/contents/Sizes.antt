@@ -11,7 +11,7 @@ use Rattle.type_terms.proofs.Layers.{OwnerWith, TypeWith, type_values, by_layers
 use Rattle.assembly_tree.specs.declared.assembly.Assembly.{Assembly}
 use Rattle.assembly_tree.specs.DataSize.{declared, layout_size, no_size, primitive_size, size_in_data, type_size}
 use Rattle.assembly_tree.specs.DataSize as tree
-use Rattle.source_model.specs.Data.{data_size, value_layout}
+use Rattle.source_model.specs.Data.{data_size, value_layout, value_size}
 use Rattle.source_model.specs.Data as source
 use Rattle.source_model.specs.Source.{Source}
 
@@ -49,7 +49,7 @@ module _ (s : Source) (a : Assembly)
 
   abbrev in_source : layer.SigType-F Owner SigType → Option ℕ
   in_source l =
-      source.size_step s (map-SigType Owner SigType (Option ℕ) (Option ℕ) (fold-Owner (Option ℕ) (Option ℕ) no_size (source.size_step s)) (fold-SigType (Option ℕ) (Option ℕ) no_size (source.size_step s)) l)
+      source.size_step (value_size s) (map-SigType Owner SigType (Option ℕ) (Option ℕ) (fold-Owner (Option ℕ) (Option ℕ) no_size (source.size_step (value_size s))) (fold-SigType (Option ℕ) (Option ℕ) no_size (source.size_step (value_size s))) l)
 
   abbrev in_tree : layer.SigType-F Owner SigType → Option ℕ
   in_tree l =
@@ -71,7 +71,7 @@ module _ (s : Source) (a : Assembly)
 
   type_sized : (l : layer.SigType-F (OwnerWith Nothing Sized) (TypeWith Nothing Sized)) → Sized (roll-SigType (values l))
   type_sized l k e =
-      let r = layers l k (sym (fold-roll-SigType (Option ℕ) (Option ℕ) no_size (source.size_step s) (values l)) ∙ e) in
+      let r = layers l k (sym (fold-roll-SigType (Option ℕ) (Option ℕ) no_size (source.size_step (value_size s)) (values l)) ∙ e) in
       (fold-roll-SigType (Option ℕ) (Option ℕ) no_size (tree.size_step a) (values l) ∙ r.0, r.1)
 
   pub all_sized : (t : SigType) → Sized t

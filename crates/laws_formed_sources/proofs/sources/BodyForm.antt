@@ -108,29 +108,6 @@ module _ (s : Source) (a : Around) (f : Forest) where
       let p3 = and_from (nat_le t.start count && nat_le t.end count && nat_le h.start count) (nat_le h.end count) p2 (le-leb h.end count handler.end) in
       and_from (nat_le t.start count && nat_le t.end count && nat_le h.start count && nat_le h.end count) (is_filter_inside count (clause_kind s a f g.clause)) p3 (kind_inside g.clause)
 
--- ---- how many clauses there are
-
-guarded_count : (s : Source) (c : Around) (tried f : Forest) → length (guarded_in tried f) ≡ length (nodes_of clause_forms (nodes_in s c f))
-guarded_count s c tried none = refl
-guarded_count s c tried (leaf k f) = guarded_count s c tried f
-guarded_count s c tried (branch p b f) =
-    let inner = entered s c p b in
-    let below = guarded_count s inner (if p == ITEM_TRY then b else tried) b in
-    let after = guarded_count s c tried f in
-    let rest = ap length (filter-append (λ (n : Node). is_among clause_forms n.production) (nodes_in s inner b) (nodes_in s c f)) in
-    let parted = length-append (filter (λ (n : Node). is_among clause_forms n.production) (nodes_in s inner b)) (filter (λ (n : Node). is_among clause_forms n.production) (nodes_in s c f)) in
-    let front = length-append (guarded_in (if p == ITEM_TRY then b else tried) b ++ own (is_among clause_forms p)) (guarded_in tried f) in
-    let middle = length-append (guarded_in (if p == ITEM_TRY then b else tried) b) (own (is_among clause_forms p)) in
-    omega (arith, below, after, rest, parted, front, middle, either (is_among clause_forms p) inner)
-  where
-    own : Bool → List Guarded
-    own x = if x then record { tried = tried; clause = part p b } ∷ [] else []
-
-    either : (x : Bool) (inner : Around) → length (cond x (record { production = p; below = b; around = inner } ∷ nodes_of clause_forms (nodes_in s inner b ++ nodes_in s c f)) (nodes_of clause_forms (nodes_in s inner b ++ nodes_in s c f)))
-        ≡ length (own x) + length (nodes_of clause_forms (nodes_in s inner b ++ nodes_in s c f))
-    either true inner = omega arith
-    either false inner = omega arith
-
 -- ---- a method by its node
 
 unless : (c : Bool) (k : ℕ) → (if c then [] else k ∷ []) ≡ [] → c ≡ true
@@ -138,7 +115,7 @@ unless true k e = refl
 unless false k e = absurd cc
 
 module _ (s : Source) (bounded : AllBounded s) (n : Node) (here : Among n (all_methods s)) where
-  counts : (past_count (locals n.below) ≡ []) × (past_count (clause_forests s n.around n.below) ≡ [])
+  counts : (past_count (locals n.below) ≡ []) × (past_count (clause_forests n.below) ≡ [])
   counts =
       let all = nothing_at (body_numbers_out_of_range_in s) n (all_methods s) here bounded.body-numbers in
       let b = bounds_out_of_range s n.below in
@@ -146,7 +123,7 @@ module _ (s : Source) (bounded : AllBounded s) (n : Node) (here : Among n (all_m
       let x = flat_map (real_out_of_range s) (instructions_with INSTRUCTION_OP_REAL n.below) in
       let v = flat_map (variable_out_of_range s n.below) (instructions_with INSTRUCTION_OP_VAR n.below) in
       let l = flat_map (local_misnumbered s) (enumerate_from 0 (locals n.below)) in
-      let both = empty_in (b ++ i ++ x ++ v ++ l ++ past_count (locals n.below)) (past_count (clause_forests s n.around n.below)) all in
+      let both = empty_in (b ++ i ++ x ++ v ++ l ++ past_count (locals n.below)) (past_count (clause_forests n.below)) all in
       ((empty_in (b ++ i ++ x ++ v ++ l) (past_count (locals n.below)) both.0).1, both.1)
 
   clauses_formed : (m : ℕ) → m ≡ length (instructions_of n.below) → list_all (is_clause m) (clauses s n.around n.below) ≡ true
@@ -174,7 +151,7 @@ module _ (s : Source) (bounded : AllBounded s) (n : Node) (here : Among n (all_m
           let b : List Ins = i ∷ is in
           let parted = and_parts (list_all (is_instruction (length b)) b) (short_branches_reach b) fit in
           let few = at_most (locals n.below) counts.0 in
-          let few_clauses = at_most (clause_forests s n.around n.below) counts.1 in
+          let few_clauses = at_most (clause_forests n.below) counts.1 in
           let c1 = and_from (nat_lt 0 (length b)) (is_count (length (local_types s n.around n.below))) (lt-ltb 0 (length b) (omega arith))
           (count_is (length (local_types s n.around n.below)) (omega (arith, few, length-map (locals n.below) (the_type s n.around)))) in
           let c2 = and_from (nat_lt 0 (length b) && is_count (length (local_types s n.around n.below))) (is_count (length (clauses s n.around n.below))) c1
@@ -183,8 +160,7 @@ module _ (s : Source) (bounded : AllBounded s) (n : Node) (here : Among n (all_m
             arith,
             few_clauses,
             length-map (guarded n.below) (clause s n.around n.below),
-            guarded_count s n.around none n.below,
-            length-map (nodes_of clause_forms (nodes_in s n.around n.below)) (λ (x : Node). x.below),
+            length-map (guarded n.below) (λ (g : Guarded). g.clause.below),
           ))) in
           let c3 = and_from (nat_lt 0 (length b) && is_count (length (local_types s n.around n.below)) && is_count (length (clauses s n.around n.below))) (list_all (is_instruction (length b)) b) c2 parted.0 in
           let c4 = and_from (nat_lt 0 (length b) && is_count (length (local_types s n.around n.below)) && is_count (length (clauses s n.around n.below)) && list_all (is_instruction (length b)) b)

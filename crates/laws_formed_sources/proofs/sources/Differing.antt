@@ -14,6 +14,7 @@ use Rattle.std.specs.declared.cmp.Ordering.TheVariants.{Less, Equal, Greater}
 use Rattle.std.proofs.lemmas.Bool.{and_from, and_parts, cases_Bool}
 use Rattle.type_terms.specs.Order.{term_order}
 use Rattle.type_terms.specs.declared.term.SigType.{SigType}
+use Rattle.type_terms.specs.Same as terms
 use Rattle.assembly_tree.specs.WellFormedMembers as formed
 use Rattle.assembly_tree.specs.WellFormedMembers.{is_same_signature, is_same_text, is_same_type}
 use Rattle.assembly_tree.specs.WellFormedNames.{all_differ}
@@ -27,7 +28,7 @@ use Rattle.source_model.specs.OutOfRange.{barred_arguments, barred_in_property, 
 use Rattle.source_model.specs.References.{method_name, property_signature}
 use Rattle.source_model.specs.Signatures.{is_field_unbroken, is_method_unbroken, is_property_unbroken, not_in_property}
 use Rattle.source_model.specs.Source.{Source}
-use Rattle.source_model.specs.TypeRules.{are_unbroken, breaks_signature, first_of, is_nothing, number_in_type_out_of_range, past_count, path_too_long, scope_undeclared, typar_undeclared, typars_out_of_range, type_too_deep, type_undeclared}
+use Rattle.source_model.specs.TypeRules.{are_unbroken, breaks_signature, first_of, is_nothing, number_in_signature_out_of_range, number_in_type_out_of_range, parameter_flags_out_of_range, past_count, path_too_long, scope_undeclared, typar_undeclared, typars_out_of_range, type_too_deep, type_undeclared}
 use Rattle.source_model.specs.Types.{type_of}
 use Rattle.source_model.specs.Undeclared.{param_type_undeclared}
 use Rattle.source_model.specs.Values.{name_text}
@@ -135,10 +136,10 @@ module _ (s : Source) (declared : AllDeclared s) (bounded : AllBounded s) where
       let t = type_undeclared s n in
       let c = scope_undeclared s n in
       let v = typar_undeclared s n in
-      let k = number_in_type_out_of_range s n in
+      let k = number_in_signature_out_of_range s n in
       let d = type_too_deep s n in
       both_empty (t ++ c ++ v ++ k ++ d) (path_too_long n)
-      (both_empty (t ++ c ++ v ++ k) d (both_empty (t ++ c ++ v) k (both_empty (t ++ c) v (both_empty t c types scopes) typars) numbers) deep) paths
+      (both_empty (t ++ c ++ v ++ k) d (both_empty (t ++ c ++ v) k (both_empty (t ++ c) v (both_empty t c types scopes) typars) (empty_in k (parameter_flags_out_of_range s n) numbers).0) deep) paths
 
   pub unbroken : (c : Around) (f : Forest) → Occurs s c f → are_unbroken s (nodes_in s c f) ≡ true
   unbroken c f occurs = ap is_nothing (nothing_all (breaks_signature s) (nodes_in s c f) (λ n i. breaks_nothing n (occurs n i)))
@@ -263,7 +264,7 @@ module _ (total : IsTotalOrder term_order) (s : Source) (a : Around) where
   types_turned (x ∷ xs) (y ∷ ys) = and_same (is_same_type x y) (is_same_type y x) (pointwise is_same_type xs ys) (pointwise is_same_type ys xs) (type_turned x y) (types_turned xs ys)
 
   signature_turned : (x y : MethodSig) → is_same_signature x y ≡ is_same_signature y x
-  unfolding formed.is_same_signature
+  unfolding terms.is_same_signature
   signature_turned x y =
       and_same _ _ (pointwise is_same_type x.params y.params) (pointwise is_same_type y.params x.params)
       (and_same _ _ (is_same_type x.ret y.ret) (is_same_type y.ret x.ret)

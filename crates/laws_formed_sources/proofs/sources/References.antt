@@ -44,7 +44,7 @@ use Rattle.source_syntax.proofs.FieldLemmas as field
 use Rattle.source_syntax.proofs.MethodNames.{is_cctor, is_ctor, is_named}
 use Rattle.source_syntax.proofs.ReferenceLemmas as method
 use Rattle.source_syntax.proofs.ReferenceLemmas.{of_child, of_the, sound_part}
-use Rattle.source_syntax.proofs.SoundLemmas.{generic_number_fits}
+use Rattle.source_syntax.proofs.SoundLemmas.{generic_number_fits, signature_fits}
 use Rattle.source_syntax.proofs.TypeLemmas.{types_at, types_leaf, types_none, types_own}
 use Rattle.source_syntax.proofs.TypeWalks.{one_type_production}
 use Rattle.source_syntax.proofs.WrittenNames.{both_true, fits_rule}
@@ -191,7 +191,7 @@ module _ (s : Source) (a : Around) where
       by_types : IsFaultlessAt s GEN_ARGS_TYPE b → SomeTypes (leaf k (branch GEN_ARGS_TYPE b (leaf l none)))
       by_types own e =
           let body = fits_rule s GEN_ARGS_TYPE n.GEN_ARGS types_body b rule_types own.range.fits in
-          let few = at_most (each TYPE b) (generic_number_fits s GEN_ARGS_TYPE b own.range.types) in
+          let few = at_most (each TYPE b) (generic_number_fits s GEN_ARGS_TYPE b (signature_fits s GEN_ARGS_TYPE b own.range.types)) in
           let same : types_in s a (leaf k (branch GEN_ARGS_TYPE b (leaf l none))) ≡ types_in s a b =
           types_leaf s a k (branch GEN_ARGS_TYPE b (leaf l none)) ∙ types_at s a GEN_ARGS_TYPE b (leaf l none)
           ∙ ap (λ ts. types_in s a b ++ ts) (types_leaf s a l none ∙ types_none s a) ∙ append-nil (types_in s a b) in
@@ -216,7 +216,7 @@ module _ (s : Source) (a : Around) (A : Assembly)
     | inl numbered ↦
         let own = (sound_part (IsFaultlessAt s) GEN_ARGS_BRACKET generics (of_the (IsFaultlessAt s) METHOD_GENERICS f all) numbered).0 in
         let k = leaf_at 1 (the GEN_ARGS_BRACKET generics) in
-        let within = unless (is_within (pos 1) (pos 65535) (int_at s k)) k (generic_number_fits s GEN_ARGS_BRACKET (the GEN_ARGS_BRACKET generics) own.range.types) in
+        let within = unless (is_within (pos 1) (pos 65535) (int_at s k)) k (generic_number_fits s GEN_ARGS_BRACKET (the GEN_ARGS_BRACKET generics) (signature_fits s GEN_ARGS_BRACKET (the GEN_ARGS_BRACKET generics) own.range.types)) in
         let is = method.numbered_generics s a f numbered in
         record {
           count = ap is_count is.0 ∙ count_of_number (int_at s k) within;

@@ -32,7 +32,7 @@ use Rattle.source_model.specs.Types.{array, base_type, first_owner, int_type, na
 use Rattle.source_model.specs.Values.{int_at, name_text}
 use Rattle.source_syntax.specs.Derived.{FitsBody, HasBodies, head_of}
 use Rattle.source_syntax.specs.Places.{IsSound, node_of}
-use Rattle.source_syntax.proofs.SoundLemmas.{index_fits}
+use Rattle.source_syntax.proofs.SoundLemmas.{index_fits, signature_fits}
 use Rattle.source_syntax.proofs.TypeLemmas.{owners_leaf, owners_none, suffixed_leaf, suffixed_none, type_branch, type_leaf, type_none, types_at, types_leaf, types_none}
 use Rattle.source_syntax.proofs.WrittenNames.{both_true, fits_rule}
 use Rattle.laws_formed_sources.specs.sources.Productions.{AllFaultless, HasFewTypars, IsFaultlessAt}
@@ -47,7 +47,7 @@ bodies_of s (leaf k a) h = bodies_of s a h
 bodies_of s (branch p b a) h = (h.0.range.fits, bodies_of s b h.1, bodies_of s a h.2)
 
 pub sound_of : (s : Source) (p : ℕ) (f : Forest) → IsFaultlessAt s p f → IsSound s p f
-sound_of s p f h = (h.range.fits, h.range.types)
+sound_of s p f h = (h.range.fits, signature_fits s p f h.range.types)
 
 -- ---- numbers of generic parameters
 
@@ -147,9 +147,9 @@ module _ (s : Source) (a : Around) (few : HasFewTypars a) (A : Assembly)
                             (
                               (λ h. named_made true (type_name s f) args (name_known f each) all),
                               (
-                                (λ h. made-Var A _ ∙ number_known s TYPE_BASE_BANG f (typar_names s a.class) refl (index_fits s TYPE_BASE_BANG f h.range.types) (few_names a.class few.class)),
+                                (λ h. made-Var A _ ∙ number_known s TYPE_BASE_BANG f (typar_names s a.class) refl (index_fits s TYPE_BASE_BANG f (signature_fits s TYPE_BASE_BANG f h.range.types)) (few_names a.class few.class)),
                                 (
-                                  (λ h. made-MVar A _ ∙ number_known s TYPE_BASE_DOUBLE_BANG f (typar_names s a.method) refl (index_fits s TYPE_BASE_DOUBLE_BANG f h.range.types) (few_names a.method few.method)),
+                                  (λ h. made-MVar A _ ∙ number_known s TYPE_BASE_DOUBLE_BANG f (typar_names s a.method) refl (index_fits s TYPE_BASE_DOUBLE_BANG f (signature_fits s TYPE_BASE_DOUBLE_BANG f h.range.types)) (few_names a.method few.method)),
                                   tt,
                                 ),
                               ),

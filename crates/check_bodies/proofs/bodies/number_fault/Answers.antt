@@ -26,12 +26,12 @@ returns-then-plain c s n r m e is-operand plain =
     let local : None ≡ least (flat_map (local_misnumbered s) (enumerate_from 0 (locals f))) =
     sym (ap (λ fs. least (flat_map (local_misnumbered s) (enumerate_from 0 fs))) (no_locals f is)) in
     let many : None ≡ least (past_count (locals f)) = sym (ap (λ fs. least (past_count fs)) (no_locals f is)) in
-    let clause : None ≡ least (past_count (clause_forests s n.around f)) =
-    sym (ap (λ fs. least (past_count fs)) (clauses_are s f n.around ∙ no_clauses f is)) in
+    let clause : None ≡ least (past_count (clause_forests f)) =
+    sym (ap (λ fs. least (past_count fs)) (clauses_are f ∙ no_clauses f is)) in
     nothing_more c.args.operand
     ∙ body_least (bounds_out_of_range s f) (flat_map (number_out_of_range s) (instructions_with INSTRUCTION_OP_NUM f))
     (flat_map (real_out_of_range s) (instructions_with INSTRUCTION_OP_REAL f)) (flat_map (variable_out_of_range s f) (instructions_with INSTRUCTION_OP_VAR f))
-    (flat_map (local_misnumbered s) (enumerate_from 0 (locals f))) (past_count (locals f)) (past_count (clause_forests s n.around f))
+    (flat_map (local_misnumbered s) (enumerate_from 0 (locals f))) (past_count (locals f)) (past_count (clause_forests f))
     None c.args.operand None None None
     stack operands local many clause
 
@@ -42,13 +42,13 @@ returns c s n r m e is-operand plain =
     let operands = is-operand ∙ by_forms s f in
     let local = c.in_ok-misnumbered.ensures s f r e in
     let many = c.local_past_most-local.ensures f e in
-    let clause = c.clause_past_most-clause.ensures f e ∙ ap (λ fs. least (past_count fs)) (sym (clauses_are s f n.around)) in
+    let clause = c.clause_past_most-clause.ensures f e ∙ ap (λ fs. least (past_count fs)) (sym (clauses_are f)) in
     c.sooner.ensures
     ∙ ap (sooner c.beyond_in_each-stack.result)
     (c.sooner-in_code.ensures
     ∙ ap (sooner c.args.operand) (c.sooner-counts.ensures ∙ ap (sooner c.in_ok-misnumbered.misnumbered) c.sooner-past.ensures))
     ∙ body_least (bounds_out_of_range s f) (flat_map (number_out_of_range s) (instructions_with INSTRUCTION_OP_NUM f))
     (flat_map (real_out_of_range s) (instructions_with INSTRUCTION_OP_REAL f)) (flat_map (variable_out_of_range s f) (instructions_with INSTRUCTION_OP_VAR f))
-    (flat_map (local_misnumbered s) (enumerate_from 0 (locals f))) (past_count (locals f)) (past_count (clause_forests s n.around f))
+    (flat_map (local_misnumbered s) (enumerate_from 0 (locals f))) (past_count (locals f)) (past_count (clause_forests f))
     c.beyond_in_each-stack.result c.args.operand c.in_ok-misnumbered.misnumbered c.local_past_most-local.result c.clause_past_most-clause.result
     stack operands local many clause

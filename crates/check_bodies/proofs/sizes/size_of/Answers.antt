@@ -1,5 +1,6 @@
 use Rattle.std.proofs.Common.{◌≡◌, ◌+◌, ◌≤◌, length, ap, sym, ◌∙◌, arith}
-use Rattle.assembly_tree.specs.WellFormedBodies.{opcode_size, operand_kind}
+use Rattle.assembly_tree.specs.WellFormedBodies.{operand_kind}
+use Rattle.opcode_table.specs.Sizes.{opcode_size}
 use Rattle.source_model.specs.Instructions.{op_of}
 use Rattle.check_bodies.specs.Sizes.{size_by, targets_bytes}
 use Rattle.check_bodies.proofs.OffsetLemmas.{kind_is, size_fits}
@@ -9,7 +10,7 @@ use Rattle.check_bodies.proofs.sizes.size_of.Goals as goal
 pub returns : goal.returns
 returns c s a f p r is e =
     let op = c.op_of-op.ensures s p r e in
-    let opcode : c.opcode_size.result ≡ opcode_size (op_of s p) = c.opcode_size.ensures ∙ ap opcode_size op in
+    let opcode : c.opcode_size.result ≡ opcode_size (op_of s p) = c.opcode_size.ensures.size ∙ ap opcode_size op in
     let kind = kind_is c.kind_of.result c.op_of-op.result (op_of s p) c.kind_of.ensures op in
     let operand : c.size_by.result ≡ size_by (operand_kind (op_of s p)) (targets_bytes p) =
     c.size_by.ensures ∙ ap (λ k. size_by k c.in_ok-targets.targets) kind ∙ ap (size_by (operand_kind (op_of s p))) (c.in_ok-targets.ensures p is e) in

@@ -1,8 +1,8 @@
-use Rattle.std.proofs.Common.{◌≡◌, ◌≤◌, ◌∷◌, ap, sym, ◌∙◌, refl, subst, min, arith}
+use Rattle.std.proofs.Common.{◌≡◌, ◌+◌, ◌≤◌, ◌∷◌, ap, sym, ◌∙◌, refl, subst, min, arith}
 use Rattle.std.specs.Prelude.{true, false}
 use Rattle.check_names.specs.DataItems.{is_item}
 use Rattle.check_visitor.proofs.AskingLemmas.{Bodied, bodied_after, bodied_behind, bodied_below, bodied_by, bodied_past_leaf}
-use Rattle.check_names.proofs.MappedData.{counted, counted_item, counted_other}
+use Rattle.check_names.proofs.MappedData.{counted, counted_all, counted_item, counted_other}
 use Rattle.source_syntax.proofs.Stepping.{Steps, below_fits, below_is_forest, first_step, step_at_end, step_into_branch, step_past_branch, step_past_leaf}
 use Rattle.check_names.proofs.mapped_data.data_length.Goals as goal
 
@@ -20,8 +20,8 @@ split_at-requires c =
     c.in-Branch.production c.in-Branch.count c.loop-node.left.now c.in-Some.rest.now
     (c.in-Some.ensures ∙ ap (λ n. n ∷ c.in-Some.rest.now) c.in-Branch.is) c.loop-node.invariant.steps
 
-pub item_length-requires : goal.item_length-requires
-item_length-requires c =
+pub known_length-requires : goal.known_length-requires
+known_length-requires c =
     let now = counted c.loop-node.total c.args.reader.now c.args.below.now in
     let f =
     below_is_forest c.forests_open.ensures now now (counted 0 c.args.reader.now c.args.below.now) c.args.below.now
@@ -45,7 +45,8 @@ loop-node-preserved-then-is_item c =
     let fits = bodied_below c.forests_open.ensures c.forests_join.ensures c.derivations_are_forests.ensures i.source p c.in-Branch.count c.loop-node.left.now c.in-Some.rest.now is
     (c.loop-node.invariant.steps.forest, c.loop-node.invariant.steps.is) (c.loop-node.invariant.bodied i.source i.bodied) b e in
     counted_item i.source c.loop-node.total c.in_ok-length-in-Branch.length c.up_to_most-total.result p b a own
-    (c.in_ok-length-in-Branch.ensures.length i.source b i.reads (e ∙ sym c.split_at.ensures.front) fits.0) c.up_to_most-total.ensures)
+    (c.in_ok-length-in-Branch.ensures i.source b i.reads (e ∙ sym c.split_at.ensures.front) fits.0)
+    (c.up_to_most-total.ensures ∙ ap (λ k. min (c.loop-node.total + k) 0x100000000) c.counted.ensures.number))
     is c.loop-node.invariant.steps) in
     record {
       steps = on;
@@ -99,3 +100,4 @@ returns c s f r e h =
       reads = r;
       bodied = bodied_by c.forests_open.ensures c.forests_join.ensures c.derivations_are_forests.ensures s f c.args.below.now e h;
     }) f e
+    ∙ counted_all s f

@@ -7,8 +7,8 @@ use Rattle.check_members.proofs.OwnerLemmas.{no_owner}
 use Rattle.check_source.proofs.not_declared.accessor_absent.Goals as goal
 
 pub returns-then-not-has_owners : goal.returns-then-not-has_owners
-returns-then-not-has_owners c s r names census breaks =
+returns-then-not-has_owners c s r names owns census breaks =
     sym (ap least (sym (all_undeclared s) ∙ no_owner s nothing_around s.tree (c.has_owners.ensures (preorder s.tree) census c.if-not-has_owners.true)))
 
 pub returns : goal.returns
-returns c s r names census breaks = c.in_ok-absent.ensures s r names breaks
+returns c s r names owns census breaks = c.in_ok-absent.ensures s r names owns breaks

@@ -17,4 +17,4 @@ returns c s r d =
     c.sooner.ensures
     ∙ passes_are order bodies c.args.reader.now s c.args.declared.now r d c.in_ok-inner.inner c.in_ok-outer.outer
     (c.in_ok-inner.ensures s r d stands)
-    (c.in_ok-outer.ensures s r d.externs d.census (c.signatures_of-rule.ensures s d.externs d.own d.classes))
+    (c.in_ok-outer.ensures s r d.externs d.own d.census (c.signatures_of-rule.ensures s d.externs d.own d.classes))

@@ -16,4 +16,4 @@ returns c s f r d is stands =
     (then_rule c.sooner-to_parts.result c.in_ok-bodies.bodies c.in_ok-parts.parts bodies parts c.sooner-to_parts.ensures
     (c.in_ok-bodies.ensures s f r is stands)
     (c.in_ok-parts.ensures s f r is stands.bodies))
-    (c.in_ok-members.ensures s f r d.externs (c.signatures_of-rule.ensures s d.externs d.own d.classes) is stands.bodies)
+    (c.in_ok-members.ensures s f r d.externs d.own (c.signatures_of-rule.ensures s d.externs d.own d.classes) is stands.bodies)

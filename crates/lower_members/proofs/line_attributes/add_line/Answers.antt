@@ -5,9 +5,9 @@ use Rattle.ilasm_grammar.specs.declared.tree.TreeNode.{TreeNode}
 use Rattle.source_model.specs.Forest.{preorder}
 use Rattle.source_model.specs.Items.{is_custom}
 use Rattle.source_model.specs.Manifests.{attributes}
-use Rattle.source_model.specs.Parameters.{typar_number}
+use Rattle.source_model.specs.Parameters.{is_typar_line, typar_number}
 use Rattle.source_syntax.specs.Pieces.{ArePieces}
-use Rattle.lower_members.specs.ParamLines.{appended, speaks_of_typar}
+use Rattle.lower_members.specs.ParamLines.{appended}
 use Rattle.lower_members.proofs.FieldLemmas.{run_pieces}
 use Rattle.lower_members.proofs.GivenLemmas.{capped_same}
 use Rattle.lower_members.proofs.ItemEnds.{line_ranged, run_items}
@@ -22,7 +22,7 @@ pub returns-in_ok-customs : goal.returns-in_ok-customs
 returns-in_ok-customs c s a x p ps is are h each few small =
     let made = ap (λ (w : ℕ × List TreeNode). w.0) is in
     let below : preorder p.below ≡ c.nodes_of-below.result.now = ap (λ (w : ℕ × List TreeNode). w.1) (sym is) ∙ sym c.nodes_of-below.ensures in
-    let some : speaks_of_typar p ≡ true = sym (c.speaks_of_typar.ensures p made below) ∙ c.if-speaks_of_typar.true in
+    let some : is_typar_line p ≡ true = sym (c.is_typar_line.ensures p made below) ∙ c.if-is_typar_line.true in
     let number = c.in_ok-number.ensures s p x.reads below some (line_ranged s p some h) few in
     let run : ArePieces c.args.nodes.now c.run_of.result.now (take_while is_custom ps) =
     subst (λ xs. ArePieces c.args.nodes.now xs (take_while is_custom ps)) (sym c.run_of.ensures) (run_pieces c.args.nodes.now c.args.more.now ps are) in
@@ -32,9 +32,9 @@ returns-in_ok-customs c s a x p ps is are h each few small =
     ∙ capped_same c.args.given.now.items (typar_number s c.args.names.now p.below) c.in_ok-number.number (attributes s a (take_while is_custom ps)) small number
     ∙ ap (λ (b : Bool). if b then appended c.args.given.now.items (typar_number s c.args.names.now p.below) (attributes s a (take_while is_custom ps)) else c.args.given.now.items) (sym some))
 
-pub returns-else-speaks_of_typar : goal.returns-else-speaks_of_typar
-returns-else-speaks_of_typar c s a x p ps is are h each few small =
+pub returns-else-is_typar_line : goal.returns-else-is_typar_line
+returns-else-is_typar_line c s a x p ps is are h each few small =
     let made = ap (λ (w : ℕ × List TreeNode). w.0) is in
     let below : preorder p.below ≡ c.nodes_of-below.result.now = ap (λ (w : ℕ × List TreeNode). w.1) (sym is) ∙ sym c.nodes_of-below.ensures in
-    let none : speaks_of_typar p ≡ false = sym (c.speaks_of_typar.ensures p made below) ∙ c.if-speaks_of_typar.false in
+    let none : is_typar_line p ≡ false = sym (c.is_typar_line.ensures p made below) ∙ c.if-is_typar_line.false in
     sym (ap (λ (b : Bool). if b then appended c.args.given.now.items (typar_number s c.args.names.now p.below) (attributes s a (take_while is_custom ps)) else c.args.given.now.items) none)

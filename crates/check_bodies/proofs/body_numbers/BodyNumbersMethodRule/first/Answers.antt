@@ -18,13 +18,13 @@ returns c s n r m e =
     let operands = c.in_ok-operands.ensures s n r m e ∙ by_forms s f in
     let local = c.in_ok-misnumbered.ensures s f r e in
     let many = c.local_past_most-local.ensures f e in
-    let clause = c.clause_past_most-clause.ensures f e ∙ ap (λ fs. least (past_count fs)) (sym (clauses_are s f n.around)) in
+    let clause = c.clause_past_most-clause.ensures f e ∙ ap (λ fs. least (past_count fs)) (sym (clauses_are f)) in
     c.sooner.ensures
     ∙ ap (sooner c.beyond_in_each-stack.result)
     (c.sooner-code.ensures
     ∙ ap (sooner c.in_ok-operands.operands) (c.sooner-counts.ensures ∙ ap (sooner c.in_ok-misnumbered.misnumbered) c.sooner-past.ensures))
     ∙ body_least (bounds_out_of_range s f) (flat_map (number_out_of_range s) (instructions_with INSTRUCTION_OP_NUM f))
     (flat_map (real_out_of_range s) (instructions_with INSTRUCTION_OP_REAL f)) (flat_map (variable_out_of_range s f) (instructions_with INSTRUCTION_OP_VAR f))
-    (flat_map (local_misnumbered s) (enumerate_from 0 (locals f))) (past_count (locals f)) (past_count (clause_forests s n.around f))
+    (flat_map (local_misnumbered s) (enumerate_from 0 (locals f))) (past_count (locals f)) (past_count (clause_forests f))
     c.beyond_in_each-stack.result c.in_ok-operands.operands c.in_ok-misnumbered.misnumbered c.local_past_most-local.result c.clause_past_most-clause.result
     stack operands local many clause

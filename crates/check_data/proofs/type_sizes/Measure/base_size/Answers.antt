@@ -1,11 +1,10 @@
 use Rattle.std.proofs.Common.{◌≡◌, sym, subst}
 use Rattle.std.specs.Prelude.{IfOk}
-use Rattle.source_model.specs.Data.{data_size}
+use Rattle.source_model.specs.OutOfRange.{asked_size}
 use Rattle.source_model.specs.Types.{base_type, types_in}
-use Rattle.check_data.specs.DeclaredSizes.{counted_size}
 use Rattle.check_data.proofs.type_sizes.Measure.base_size.Goals as goal
 
 pub returns-then-production-eq-TYPE_BASE_VALUETYPE : goal.returns-then-production-eq-TYPE_BASE_VALUETYPE
 returns-then-production-eq-TYPE_BASE_VALUETYPE c s a f m e h =
-    subst (λ p. IfOk c.value_size.result (λ n. n ≡ counted_size (data_size s (base_type s a p f (types_in s a f))))) (sym c.if-production-eq-TYPE_BASE_VALUETYPE.true)
+    subst (λ p. IfOk c.value_size.result (λ n. n ≡ asked_size s (base_type s a p f (types_in s a f)))) (sym c.if-production-eq-TYPE_BASE_VALUETYPE.true)
     (c.value_size.ensures s a f m e h)

@@ -1,7 +1,7 @@
 use Rattle.std.proofs.Common.{◌++◌}
 use Rattle.source_model.specs.Names.{written_name}
 use Rattle.source_model.specs.TypeRules.{path_too_long, type_too_deep, typar_undeclared}
-use Rattle.check_names.specs.ArrayNumbers.{number_in_type}
+use Rattle.check_names.specs.ArrayNumbers.{number_in_signature}
 use Rattle.check_names.specs.NamedTypes.{scope_missing_in, type_missing_in}
 use Rattle.check_names.proofs.ArrayLemmas.{next_rule}
 use Rattle.check_members.proofs.broken_signatures.BrokenSignaturesRule.first.Goals as goal
@@ -15,7 +15,7 @@ returns c s n r node derived =
     let name = type_missing_in types.scopes.keys.now types.scopes.own.now types.classes.now s w in
     let scope = scope_missing_in types.scopes.keys.now types.scopes.own.now s w in
     let typar = typar_undeclared s n in
-    let number = number_in_type s n in
+    let number = number_in_signature s n in
     let deep = type_too_deep s n in
     next_rule c.sooner.result c.sooner-to_depth.result c.in_ok-path.path (name ++ scope ++ typar ++ number ++ deep) (path_too_long n) c.sooner.ensures
     (next_rule c.sooner-to_depth.result c.sooner-to_number.result c.deep_type.result (name ++ scope ++ typar ++ number) deep c.sooner-to_depth.ensures

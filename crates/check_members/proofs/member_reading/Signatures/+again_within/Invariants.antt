@@ -14,7 +14,7 @@ abbrev pub invariant-loop-node : goal.invariant-loop-node
 invariant-loop-node g l = record {
   forest : IsForest l.left;
   shorter : length l.left ≤ length l.nodes;
-  so_far : (s : Source) (path : List TypeId) (f : Forest) → Serves (g.R.Rule.broken l.self.rule.now) l.self.keys.now s → Reads l.reader s →
+  so_far : (s : Source) (path : List TypeId) (f : Forest) → Serves (g.R.Rule.broken l.self.rule.now) l.self.scopes s → Reads l.reader s →
       l.depth ≡ min (length path) 101 → preorder f ≡ l.nodes → HasBodies s f → Walked s path f l.left l.found;
 }
 

@@ -22,7 +22,7 @@ invariant-undeclared_in-loop-node g l = record {
   forest : IsForest l.left;
   shorter : length l.left ≤ length l.nodes;
   kept : l.path ≡ l.initial.path;
-  so_far : (s : Source) (a : Around) (f : Forest) → Serves (g.R.Rule.broken l.self.rule.now) l.self.keys.now s → Reads l.reader s → IsSurrounding l.place a
+  so_far : (s : Source) (a : Around) (f : Forest) → Serves (g.R.Rule.broken l.self.rule.now) l.self.scopes s → Reads l.reader s → IsSurrounding l.place a
       → HasParameters s l.place a → a.path ≡ l.initial.path → l.methods ≡ own_methods s a → preorder f ≡ l.nodes → HasBodies s f → Walked s a f l.left l.found;
 }
 

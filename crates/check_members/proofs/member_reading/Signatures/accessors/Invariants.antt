@@ -14,7 +14,7 @@ use Rattle.check_members.proofs.member_reading.Signatures.accessors.Given as goa
 abbrev pub invariant-loop-x : goal.invariant-loop-x
 invariant-loop-x g l = record {
   forest : IsForest l.left;
-  so_far : (s : Source) (a : Around) (f : Forest) → Serves (g.R.Rule.broken l.self.rule.now) l.self.keys.now s → Reads l.reader s → IsSurrounding l.place a
+  so_far : (s : Source) (a : Around) (f : Forest) → Serves (g.R.Rule.broken l.self.rule.now) l.self.scopes s → Reads l.reader s → IsSurrounding l.place a
       → HasParameters s l.place a → a.path ≡ l.path → l.methods ≡ own_methods s a → preorder f ≡ l.nodes → HasBodies s f → AccessorsLeft s a f l.left l.found;
 }
 

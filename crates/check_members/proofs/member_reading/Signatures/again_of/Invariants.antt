@@ -13,7 +13,7 @@ use Rattle.check_members.proofs.member_reading.Signatures.again_of.Given as goal
 abbrev pub invariant-loop-x : goal.invariant-loop-x
 invariant-loop-x g l = record {
   forest : IsForest l.left;
-  so_far : (s : Source) (a : Around) (f : Forest) → Serves (g.R.Rule.broken l.self.rule.now) l.self.keys.now s → Reads l.reader s → IsSurrounding l.place a → HasParameters s l.place a
+  so_far : (s : Source) (a : Around) (f : Forest) → Serves (g.R.Rule.broken l.self.rule.now) l.self.scopes s → Reads l.reader s → IsSurrounding l.place a → HasParameters s l.place a
       → preorder f ≡ l.nodes → HasBodies s f → LeftOf s a l.kind l.level f l.left l.found l.before;
 }
 

@@ -15,13 +15,13 @@ use Rattle.check_members.proofs.member_reading.Signatures.field.Goals as goal
 pub returns-then-not-branch : goal.returns-then-not-branch
 returns-then-not-branch g c s a f v r p h e fits bodies =
     none_is s a Field f (sym (c.in_ok-keeps.ensures s a f r p h e bodies
-    ∙ kept_is (g.R.Rule.broken c.args.self.now.rule.now) c.args.self.now.keys.now s v a (chosen (TYPE ∷ []) f)) ∙ c.if-not-branch.true)
+    ∙ kept_is (g.R.Rule.broken c.args.self.now.rule.now) c.args.self.now.scopes s v a (chosen (TYPE ∷ []) f)) ∙ c.if-not-branch.true)
 
 pub returns : goal.returns
 returns g c s a f v r p h e fits bodies =
     let unbroken : is_field_unbroken s a f ≡ true =
     sym (c.in_ok-keeps.ensures s a f r p h e bodies
-    ∙ kept_is (g.R.Rule.broken c.args.self.now.rule.now) c.args.self.now.keys.now s v a (chosen (TYPE ∷ []) f)) ∙ c.if-not-branch.false in
+    ∙ kept_is (g.R.Rule.broken c.args.self.now.rule.now) c.args.self.now.scopes s v a (chosen (TYPE ∷ []) f)) ∙ c.if-not-branch.false in
     let sound = c.unbroken_signatures_are_sound.ensures.field s a f bodies unbroken in
     let of = c.in_ok-of.ensures s a (c.at.ensures s a v r h) f e sound in
     let token = c.leaf_at.ensures f e in

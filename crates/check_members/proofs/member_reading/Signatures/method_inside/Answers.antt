@@ -12,14 +12,14 @@ pub returns-then-not-branch : goal.returns-then-not-branch
 returns-then-not-branch g c s a f v r p h e bodies few =
     let parts = chosen (TYPE ∷ DEF_ARGS_OPT_SOME ∷ []) f in
     let kept = sym (c.in_ok-keeps.ensures s (in_method a f) f r p h e bodies
-    ∙ kept_is (g.R.Rule.broken c.args.self.now.rule.now) c.args.self.now.keys.now s v (in_method a f) parts) in
+    ∙ kept_is (g.R.Rule.broken c.args.self.now.rule.now) c.args.self.now.scopes s v (in_method a f) parts) in
     none_is s a Method f (both_are _ _ _ (kept ∙ c.if-not-branch.true) few)
 
 pub returns : goal.returns
 returns g c s a f v r p h e bodies few =
     let parts = chosen (TYPE ∷ DEF_ARGS_OPT_SOME ∷ []) f in
     let kept = sym (c.in_ok-keeps.ensures s (in_method a f) f r p h e bodies
-    ∙ kept_is (g.R.Rule.broken c.args.self.now.rule.now) c.args.self.now.keys.now s v (in_method a f) parts) in
+    ∙ kept_is (g.R.Rule.broken c.args.self.now.rule.now) c.args.self.now.scopes s v (in_method a f) parts) in
     let unbroken : is_method_unbroken s a f ≡ true = both_are _ _ _ (kept ∙ c.if-not-branch.false) few in
     let sound = c.unbroken_signatures_are_sound.ensures.method s a f bodies unbroken in
     some_is s a Method f _ unbroken

@@ -21,14 +21,14 @@ pub returns-then-not-branch : goal.returns-then-not-branch
 returns-then-not-branch g c s a f v r p h e fits bodies =
     let found = sym (c.is_some.ensures ∙ ap is_some (c.not_in_property.ensures f e) ∙ some_found (not_in_property f)) in
     let kept = sym (c.in_ok-keeps.ensures s a f r p h e bodies
-    ∙ kept_is (g.R.Rule.broken c.args.self.now.rule.now) c.args.self.now.keys.now s v a (chosen (TYPE ∷ SIGNATURE ∷ []) f)) in
+    ∙ kept_is (g.R.Rule.broken c.args.self.now.rule.now) c.args.self.now.scopes s v a (chosen (TYPE ∷ SIGNATURE ∷ []) f)) in
     none_is s a Property f (both_are _ _ _ (kept ∙ c.if-not-branch.true) (not_false _ (found ∙ c.if-is_some.false)))
 
 pub returns : goal.returns
 returns g c s a f v r p h e fits bodies =
     let found = sym (c.is_some.ensures ∙ ap is_some (c.not_in_property.ensures f e) ∙ some_found (not_in_property f)) in
     let kept = sym (c.in_ok-keeps.ensures s a f r p h e bodies
-    ∙ kept_is (g.R.Rule.broken c.args.self.now.rule.now) c.args.self.now.keys.now s v a (chosen (TYPE ∷ SIGNATURE ∷ []) f)) in
+    ∙ kept_is (g.R.Rule.broken c.args.self.now.rule.now) c.args.self.now.scopes s v a (chosen (TYPE ∷ SIGNATURE ∷ []) f)) in
     let unbroken : is_property_unbroken s a f ≡ true = both_are _ _ _ (kept ∙ c.if-not-branch.false) (not_false _ (found ∙ c.if-is_some.false)) in
     let sound = c.unbroken_signatures_are_sound.ensures.property s a f bodies unbroken in
     let token = c.leaf_at.ensures f e in

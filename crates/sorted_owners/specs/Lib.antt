@@ -1,0 +1,4 @@
+pub mod OwnerLaws
+pub mod OwnerOrder
+pub mod Ranks
+pub mod Rising
