@@ -15,7 +15,7 @@ some_is : {A : Type 0} (x y : A) → ◌≡◌ {A = Option A} (Some x) (Some y) 
 some_is x y e = cc
 
 -- the bytes are a packed length and a blob, and more
-Stands : List ℕ → List ℕ → Type 0
+abbrev Stands : List ℕ → List ℕ → Type 0
 Stands bytes blob = (spelling : List ℕ) × (rest : List ℕ) × (bytes ≡ spelling ++ (blob ++ rest)) × Packed spelling (length blob)
 
 -- a blob in front of more

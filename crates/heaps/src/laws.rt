@@ -28,6 +28,6 @@ pub fn written_is_read()
 {}
 
 /// The blob at an index can be computed from the heap's bytes: it is `blob_in`.
-pub fn blob_in()
+pub fn blob_is_computed()
     ensures { BlobIsComputed }
 {}
