@@ -4,4 +4,5 @@ pub mod Filled
 pub mod Finds
 pub mod Hash
 pub mod Heap
+pub mod LookUp
 pub mod Written

@@ -1,5 +1,6 @@
 ghost use Rattle.std.specs.Prelude.{◌≡◌, ◌++◌, ℕ, List};
 ghost use Rattle.heaps.specs.Content.{HasText, HasBlob, HasUnits, HasGuid};
+ghost use Rattle.heaps.specs.LookUp.{BlobIsComputed};
 ghost use Rattle.heaps.specs.Written.{HasShortBlob, HasWrittenUnits};
 
 /// What stands at an index stays where bytes are added behind a heap's bytes.
@@ -24,4 +25,9 @@ pub fn one_content_at_an_index()
 pub fn written_is_read()
     ensures blob { (heap : List ℕ) (index : ℕ) (blob : List ℕ) → HasShortBlob heap index blob → HasBlob heap index blob }
     ensures units { (heap : List ℕ) (index : ℕ) (units : List ℕ) → HasWrittenUnits heap index units → HasUnits heap index units }
+{}
+
+/// The blob at an index can be computed from the heap's bytes: it is `blob_in`.
+pub fn blob_is_computed()
+    ensures { BlobIsComputed }
 {}

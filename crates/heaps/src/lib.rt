@@ -13,7 +13,7 @@ mod user_heap;
 
 pub use blob_heap::BlobHeap;
 pub use guid_heap::GuidHeap;
-pub use laws::{contents_stay, one_content_at_an_index, written_is_read};
+pub use laws::{blob_is_computed, contents_stay, one_content_at_an_index, written_is_read};
 pub use look_ups::{blob_at, guid_at, string_at, user_at};
 pub use string_heap::StringHeap;
 pub use user_heap::UserHeap;

@@ -83,8 +83,9 @@ impl<'a> TableView<'a> {
         true
     }
 
-    /// Whether a row doesn't come before the row above it.
-    fn in_order(&self, table: u8, row: u32) -> bool
+    /// Whether a row keeps the order that the standard asks of its table (ECMA-335 II.22): by its keys it
+    /// doesn't come before the row above it. True for a table of which it asks none.
+    pub fn in_order(&self, table: u8, row: u32) -> bool
         requires above { 1 < row }
         requires row { row ≤ row_count self.now table }
         ensures { IsTrue result ↔ IsInOrder self.now table row }

@@ -73,7 +73,7 @@ impl<'a> PeView<'a> {
     /// holds it, and the bytes run to the end of that section's raw bytes or of the file.
     ///
     /// None exactly where not one byte can be read.
-    pub fn at_rva(&self, rva: u32) -> Option<&[u8]>
+    pub fn at_rva(&self, rva: u32) -> Option<&'a [u8]>
         ensures none { IsNone result ↔ (readable self.now rva ≡ []) }
         ensures bytes { IfSome result (λ bytes. bytes.now ≡ readable self.now rva) }
     {
@@ -82,7 +82,7 @@ impl<'a> PeView<'a> {
 
     /// The CLI header, to which directory 14 leads: 72 bytes (ECMA-335 II.25.3.3). Every image that
     /// was opened has it.
-    pub fn cli_header(&self) -> &[u8]
+    pub fn cli_header(&self) -> &'a [u8]
         ensures value { result.now ≡ cli_header_of self.now }
         ensures len { length result.now ≡ 72 }
         ensures faultless { pe_fault self.now ≡ None }
