@@ -1,0 +1,163 @@
+//! A shelf and a console in memory, and a shelf of real files.
+
+use crate::fault::Fault;
+use crate::files::push_line;
+use crate::values::{number32, two};
+use il_base::{Console, Failed, MemConsole, MemShelf, Shelf};
+use std::alloc::Global;
+
+/// A shelf and a console.
+#[derive(Drop)]
+pub struct Stores {
+    shelf: MemShelf,
+    console: MemConsole,
+}
+
+fn push_count(out: &mut String, answer: Result<usize, Failed>) -> Result<(), Fault> {
+    match answer {
+        Ok(count) => write!(out, "{count}")?,
+        Err(_) => out.push_str("failed")?,
+    }
+    Ok(())
+}
+
+fn push_bytes(out: &mut String, bytes: &[u8]) -> Result<(), Fault> {
+    out.push('"')?;
+    for byte in bytes {
+        out.push(char::from(*byte))?;
+    }
+    out.push('"')?;
+    Ok(())
+}
+
+impl Stores {
+    /// A shelf without files, and a console that has taken nothing.
+    pub fn new(alloc: Global) -> Stores {
+        Stores {
+            shelf: MemShelf::new(alloc),
+            console: MemConsole::new(alloc),
+        }
+    }
+
+    /// The answers to lines, each a call.
+    pub fn push_answers(
+        &mut self,
+        alloc: Global,
+        out: &mut String,
+        text: &str,
+    ) -> Result<(), Fault> {
+        for line in text.lines() {
+            if push_line(out, line)? {
+                self.push_answer(alloc, out, line)?;
+                out.push('\n')?;
+            }
+        }
+        Ok(())
+    }
+
+    fn push_answer(&mut self, alloc: Global, out: &mut String, line: &str) -> Result<(), Fault> {
+        match line.split_once(' ') {
+            Some(("console", rest)) => self.push_told(out, rest),
+            Some((call, rest)) => self.push_called(out, call, rest),
+            None => self.push_counts(alloc, out, line),
+        }
+    }
+
+    /// `new` for new ones, or `counts` for the counts of failed calls.
+    fn push_counts(&mut self, alloc: Global, out: &mut String, word: &str) -> Result<(), Fault> {
+        if word == "new" {
+            *self = Stores::new(alloc);
+            out.push_str("ok")?;
+            return Ok(());
+        }
+        if word != "counts" {
+            return Err(Fault::Meaningless);
+        }
+        let (reads, writes) = (self.shelf.failed_reads(), self.shelf.failed_writes());
+        let failed = self.console.failed();
+        write!(
+            out,
+            "{reads} reads, {writes} writes, {failed} of the console"
+        )?;
+        Ok(())
+    }
+
+    /// A call of the shelf.
+    fn push_called(&mut self, out: &mut String, call: &str, rest: &str) -> Result<(), Fault> {
+        match call {
+            "put" | "append" | "room" | "read" => self.push_named(out, call, rest),
+            "start" => push_count(out, self.shelf.start(rest).map(|_| 0)),
+            "file" => match self.shelf.file(rest) {
+                Some(bytes) => push_bytes(out, bytes),
+                None => {
+                    out.push_str("none")?;
+                    Ok(())
+                }
+            },
+            "fail_at" => {
+                self.shelf.fail_at(u64::from(number32(rest)?))?;
+                push_count(out, Ok(0))
+            }
+            "at_most" => {
+                self.shelf.at_most(number32(rest)? as usize);
+                push_count(out, Ok(0))
+            }
+            _ => Err(Fault::Meaningless),
+        }
+    }
+
+    /// A call of the shelf with a name and something else.
+    fn push_named(&mut self, out: &mut String, call: &str, rest: &str) -> Result<(), Fault> {
+        let (name, rest) = two(rest)?;
+        match call {
+            "put" => {
+                self.shelf.put(name, rest.as_bytes())?;
+                push_count(out, Ok(0))
+            }
+            "append" => push_count(out, self.shelf.append(name, rest.as_bytes())),
+            "room" => {
+                self.shelf.room(name, number32(rest)? as usize)?;
+                push_count(out, Ok(0))
+            }
+            _ => self.push_read(out, name, number32(rest)?),
+        }
+    }
+
+    /// What a read of four bytes gives.
+    fn push_read(&mut self, out: &mut String, name: &str, at: u32) -> Result<(), Fault> {
+        let mut into = [0u8; 4];
+        match self.shelf.read(name, u64::from(at), &mut into) {
+            Ok(count) => {
+                write!(out, "{count}, ")?;
+                push_bytes(out, into.get(..count).unwrap_or(&into))
+            }
+            Err(failed) => push_count(out, Err(failed)),
+        }
+    }
+
+    /// A call of the console.
+    fn push_told(&mut self, out: &mut String, rest: &str) -> Result<(), Fault> {
+        match rest.split_once(' ') {
+            Some(("out", piece)) => push_count(out, self.console.out(piece.as_bytes())),
+            Some(("err", piece)) => push_count(out, self.console.err(piece.as_bytes())),
+            Some(("room", count)) => {
+                self.console.room(number32(count)? as usize)?;
+                push_count(out, Ok(0))
+            }
+            Some(("fail_at", call)) => {
+                self.console.fail_at(u64::from(number32(call)?))?;
+                push_count(out, Ok(0))
+            }
+            Some(("at_most", count)) => {
+                self.console.at_most(number32(count)? as usize);
+                push_count(out, Ok(0))
+            }
+            None if rest == "taken" => {
+                push_bytes(out, self.console.out_bytes())?;
+                out.push(' ')?;
+                push_bytes(out, self.console.err_bytes())
+            }
+            _ => Err(Fault::Meaningless),
+        }
+    }
+}
