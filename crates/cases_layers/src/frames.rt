@@ -3,7 +3,7 @@
 use crate::fault::Fault;
 use crate::values::{bytes_of, number32, push_hex, two};
 use il_lists::{Bytes, NoMemory};
-use pe_layout::{Kind, ManifestNumbers, Parts, PeFault, PeView, open, write};
+use pe_layout::{Kind, ManifestNumbers, Parts, PeFault, PeView, code_rva, open, write};
 use std::alloc::Global;
 
 const NUMBERS: ManifestNumbers = ManifestNumbers {
@@ -21,7 +21,7 @@ fn program(alloc: Global) -> Result<Bytes, NoMemory> {
 }
 
 /// The answer for that program as it is (`written`), cut to a length (`cut LENGTH`), or with other bytes from a place on: how it opens
-/// (`open PLACE BYTES`), or how much can be read from an RVA on, and what the first eight bytes are (`read RVA PLACE BYTES`).
+/// (`open PLACE BYTES`), or how much can be read from an RVA on (`read RVA PLACE BYTES`).
 pub fn push_answer(alloc: Global, out: &mut String, line: &str) -> Result<(), Fault> {
     let image = program(alloc)?;
     if line == "written" {
@@ -84,6 +84,7 @@ fn push_written(out: &mut String, image: &[u8]) -> Result<(), Fault> {
     }
 }
 
+/// The numbers of an image, and the first eight bytes of its code.
 fn push_numbers(out: &mut String, length: usize, view: &PeView<'_>) -> Result<(), Fault> {
     let numbers = view.numbers();
     let header = view.cli_header().len();
@@ -96,6 +97,9 @@ fn push_numbers(out: &mut String, length: usize, view: &PeView<'_>) -> Result<()
         numbers.subsystem,
         numbers.cor_flags
     )?;
+    let code = view.at_rva(code_rva()).unwrap_or(&[]);
+    out.push_str(", code ")?;
+    push_hex(out, code.get(..8).unwrap_or(code))?;
     Ok(())
 }
 
@@ -104,11 +108,9 @@ fn push_read(out: &mut String, image: &[u8], rva: u32) -> Result<(), Fault> {
         Ok(view) => view,
         Err(fault) => return push_fault(out, fault),
     };
-    let Some(bytes) = view.at_rva(rva) else {
-        out.push_str("nothing")?;
-        return Ok(());
-    };
-    write!(out, "{} bytes, ", bytes.len())?;
-    push_hex(out, bytes.get(..8).unwrap_or(bytes))?;
+    match view.at_rva(rva) {
+        Some(bytes) => write!(out, "{} bytes", bytes.len())?,
+        None => out.push_str("nothing")?,
+    }
     Ok(())
 }

@@ -3,11 +3,10 @@
 use crate::fault::Fault;
 use crate::files::push_line;
 use crate::values::{bytes_of, number8, number32, two};
-use assembly_tree::well_formed;
 use il_base::Bytes;
 use image_writer::{WriteFault, write};
 use metadata_tables::{TableView, columns};
-use pe_layout::Kind;
+use pe_layout::{Kind, open};
 use source_assembly::{ReadFault, assembly_of};
 use std::alloc::{AllocError, Global};
 
@@ -16,6 +15,9 @@ const LONGEST: usize = 0x800_0000;
 
 /// The identifier of each image's module.
 const ID: [u8; 16] = [0x5A; 16];
+
+/// By how much the RVAs of the first section are above its places in the file, where file alignment is 0x200 (II.25.3).
+const BEFORE: usize = 0x1E00;
 
 /// A source, and the image that was made of it last.
 #[derive(Drop)]
@@ -26,9 +28,17 @@ pub struct Made {
 
 /// Where these bytes first stand.
 fn place_of(bytes: &[u8], wanted: &[u8]) -> Option<usize> {
-    bytes
-        .windows(wanted.len().max(1))
-        .position(|window| window == wanted)
+    let first = wanted.first()?;
+    for (k, byte) in bytes.iter().enumerate() {
+        if byte == first && starts_at(bytes, k, wanted) {
+            return Some(k);
+        }
+    }
+    None
+}
+
+fn starts_at(bytes: &[u8], k: usize, wanted: &[u8]) -> bool {
+    bytes.get(k..).is_some_and(|rest| rest.starts_with(wanted))
 }
 
 /// Four bytes as a number, the least first.
@@ -39,9 +49,23 @@ fn number_at(bytes: &[u8], at: usize) -> Option<usize> {
     }
 }
 
-/// The stream with this name, which ends in zero bytes, by the header of the metadata at the signature `BSJB` (II.24.2.2).
+/// The metadata, which the CLI header leads to (II.25.3.3).
+fn metadata(image: &[u8]) -> Result<&[u8], Fault> {
+    let Ok(view) = open(image) else {
+        return Err(Fault::Meaningless);
+    };
+    let Some(rva) = number_at(view.cli_header(), 8) else {
+        return Err(Fault::Meaningless);
+    };
+    match image.get(rva.saturating_sub(BEFORE)..) {
+        Some(root) if root.starts_with(b"BSJB") => Ok(root),
+        _ => Err(Fault::Meaningless),
+    }
+}
+
+/// The stream with this name, which ends in zero bytes, by the headers of the metadata's streams (II.24.2.2).
 fn stream<'a>(image: &'a [u8], name: &[u8]) -> Option<&'a [u8]> {
-    let root = image.get(place_of(image, b"BSJB")?..)?;
+    let root = metadata(image).ok()?;
     let name = place_of(root, name)?;
     let at = number_at(root, name.checked_sub(8)?)?;
     let size = number_at(root, name.checked_sub(4)?)?;
@@ -195,9 +219,6 @@ fn made(alloc: Global, source: &[u8], kind: Kind) -> Result<Option<Bytes>, Fault
         Err(ReadFault::NoMemory) => return Err(Fault::NoMemory),
         Err(ReadFault::Faulty(_)) => return Err(Fault::Meaningless),
     };
-    if !well_formed(&assembly) {
-        return Err(Fault::Meaningless);
-    }
     match write(alloc, &assembly, ID, kind) {
         Ok(image) => Ok(Some(image)),
         Err(WriteFault::NoMemory) => Err(Fault::NoMemory),

@@ -70,8 +70,6 @@ fn push_first(alloc: Global, out: &mut String, source: &[u8]) -> Result<(), Faul
         }
         kind => write!(out, "{kind:?}, {start} to {end}")?,
     }
-    let count = tokens.len();
-    write!(out, ", of {count}")?;
     Ok(())
 }
 
