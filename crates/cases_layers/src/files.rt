@@ -3,7 +3,7 @@
 use crate::fault::Fault;
 use crate::heaps::Heaps;
 use crate::images::Made;
-use crate::shelves::Stores;
+use crate::shelves::{Stores, push_disk};
 use crate::signatures::Pooled;
 use crate::trees::Trees;
 use crate::{bodies, frames, opcodes, packed, tables, tokens};
@@ -27,6 +27,7 @@ pub fn answers_of(rt: &HostRuntime, name: &str) -> Result<String, Fault> {
         "opcodes" | "packed" | "tokens" | "tables" | "frames" | "bodies" => {
             push_single(rt.alloc(), &mut out, end, text.as_str())?;
         }
+        "disk" => push_disk(rt, &mut out, text.as_str())?,
         _ => push_told(rt.alloc(), &mut out, end, text.as_str())?,
     }
     Ok(out)

@@ -11,7 +11,8 @@
 //! | `.heaps` | what the heaps give for contents, and what stands at their indexes |
 //! | `.bodies` | bodies of methods as they are read |
 //! | `.types` | signatures as they are read, and types in a pool |
-//! | `.shelves` | calls of shelves and consoles |
+//! | `.shelves` | calls of a shelf and a console in memory |
+//! | `.disk` | calls of the shelf of real files |
 //! | `.trees` | whether changed trees are well formed, what trees weigh, and the order of types |
 //! | `.images` | what stands in the images of sources |
 //!

@@ -3,7 +3,7 @@
 use crate::fault::Fault;
 use crate::files::push_line;
 use crate::values::{number32, two};
-use il_base::{Console, Failed, MemConsole, MemShelf, Shelf};
+use il_base::{Console, DiskShelf, Failed, MemConsole, MemShelf, Shelf};
 use std::alloc::Global;
 
 /// A shelf and a console.
@@ -27,6 +27,49 @@ fn push_bytes(out: &mut String, bytes: &[u8]) -> Result<(), Fault> {
         out.push(char::from(*byte))?;
     }
     out.push('"')?;
+    Ok(())
+}
+
+/// A call of any shelf: `start NAME`, `append NAME TEXT`, or `read NAME PLACE` for four bytes.
+fn push_call<S: Shelf>(
+    shelf: &mut S,
+    out: &mut String,
+    call: &str,
+    rest: &str,
+) -> Result<(), Fault> {
+    if call == "start" {
+        return push_count(out, shelf.start(rest).map(|_| 0));
+    }
+    let (name, rest) = two(rest)?;
+    match call {
+        "append" => push_count(out, shelf.append(name, rest.as_bytes())),
+        "read" => push_read(shelf, out, name, number32(rest)?),
+        _ => Err(Fault::Meaningless),
+    }
+}
+
+/// What a read of four bytes gives.
+fn push_read<S: Shelf>(shelf: &mut S, out: &mut String, name: &str, at: u32) -> Result<(), Fault> {
+    let mut into = [0u8; 4];
+    match shelf.read(name, u64::from(at), &mut into) {
+        Ok(count) => {
+            write!(out, "{count}, ")?;
+            push_bytes(out, into.get(..count).unwrap_or(&into))
+        }
+        Err(failed) => push_count(out, Err(failed)),
+    }
+}
+
+/// The answers to lines, each a call of the shelf of real files.
+pub fn push_disk(rt: &HostRuntime, out: &mut String, text: &str) -> Result<(), Fault> {
+    let mut shelf = DiskShelf::new(rt, rt.alloc());
+    for line in text.lines() {
+        if push_line(out, line)? {
+            let (call, rest) = two(line)?;
+            push_call(&mut shelf, out, call, rest)?;
+            out.push('\n')?;
+        }
+    }
     Ok(())
 }
 
@@ -85,8 +128,8 @@ impl Stores {
     /// A call of the shelf.
     fn push_called(&mut self, out: &mut String, call: &str, rest: &str) -> Result<(), Fault> {
         match call {
-            "put" | "append" | "room" | "read" => self.push_named(out, call, rest),
-            "start" => push_count(out, self.shelf.start(rest).map(|_| 0)),
+            "put" | "room" => self.push_named(out, call, rest),
+            "start" | "append" | "read" => push_call(&mut self.shelf, out, call, rest),
             "file" => match self.shelf.file(rest) {
                 Some(bytes) => push_bytes(out, bytes),
                 None => {
@@ -106,33 +149,15 @@ impl Stores {
         }
     }
 
-    /// A call of the shelf with a name and something else.
+    /// A call with which a file in memory is made.
     fn push_named(&mut self, out: &mut String, call: &str, rest: &str) -> Result<(), Fault> {
         let (name, rest) = two(rest)?;
-        match call {
-            "put" => {
-                self.shelf.put(name, rest.as_bytes())?;
-                push_count(out, Ok(0))
-            }
-            "append" => push_count(out, self.shelf.append(name, rest.as_bytes())),
-            "room" => {
-                self.shelf.room(name, number32(rest)? as usize)?;
-                push_count(out, Ok(0))
-            }
-            _ => self.push_read(out, name, number32(rest)?),
+        if call == "put" {
+            self.shelf.put(name, rest.as_bytes())?;
+        } else {
+            self.shelf.room(name, number32(rest)? as usize)?;
         }
-    }
-
-    /// What a read of four bytes gives.
-    fn push_read(&mut self, out: &mut String, name: &str, at: u32) -> Result<(), Fault> {
-        let mut into = [0u8; 4];
-        match self.shelf.read(name, u64::from(at), &mut into) {
-            Ok(count) => {
-                write!(out, "{count}, ")?;
-                push_bytes(out, into.get(..count).unwrap_or(&into))
-            }
-            Err(failed) => push_count(out, Err(failed)),
-        }
+        push_count(out, Ok(0))
     }
 
     /// A call of the console.
