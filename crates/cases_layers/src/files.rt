@@ -1,12 +1,9 @@
 //! Files of lines, and their answers.
 
 use crate::fault::Fault;
-use crate::heaps::Heaps;
-use crate::images::Made;
-use crate::shelves::{Stores, push_disk};
-use crate::signatures::Pooled;
-use crate::trees::Trees;
-use crate::{bodies, frames, opcodes, packed, tables, tokens};
+use crate::{
+    bodies, contents, frames, images, opcodes, packed, shelves, signatures, tables, tokens, trees,
+};
 use std::alloc::Global;
 use std::fs;
 
@@ -27,7 +24,7 @@ pub fn answers_of(rt: &HostRuntime, name: &str) -> Result<String, Fault> {
         "opcodes" | "packed" | "tokens" | "tables" | "frames" | "bodies" => {
             push_single(rt.alloc(), &mut out, end, text.as_str())?;
         }
-        "disk" => push_disk(rt, &mut out, text.as_str())?,
+        "disk" => shelves::push_disk(rt, &mut out, text.as_str())?,
         _ => push_told(rt.alloc(), &mut out, end, text.as_str())?,
     }
     Ok(out)
@@ -72,11 +69,11 @@ fn push_answer(alloc: Global, out: &mut String, end: &str, line: &str) -> Result
 /// The answers to lines of which each goes on from those before it.
 fn push_told(alloc: Global, out: &mut String, end: &str, text: &str) -> Result<(), Fault> {
     match end {
-        "heaps" => Heaps::new(alloc)?.push_answers(alloc, out, text),
-        "types" => Pooled::new(alloc).push_answers(alloc, out, text),
-        "shelves" => Stores::new(alloc).push_answers(alloc, out, text),
-        "trees" => Trees::new(alloc).push_answers(alloc, out, text),
-        "images" => Made::new(alloc).push_answers(alloc, out, text),
+        "heaps" => contents::push_answers(alloc, out, text),
+        "types" => signatures::push_answers(alloc, out, text),
+        "shelves" => shelves::push_answers(alloc, out, text),
+        "trees" => trees::push_answers(alloc, out, text),
+        "images" => images::push_answers(alloc, out, text),
         _ => Err(Fault::Meaningless),
     }
 }

@@ -24,19 +24,24 @@ fn program(alloc: Global) -> Result<Bytes, NoMemory> {
 /// (`open PLACE BYTES`), or how much can be read from an RVA on (`read RVA PLACE BYTES`).
 pub fn push_answer(alloc: Global, out: &mut String, line: &str) -> Result<(), Fault> {
     let image = program(alloc)?;
+    push_asked(alloc, out, image.as_slice(), line)
+}
+
+fn push_asked(alloc: Global, out: &mut String, image: &[u8], line: &str) -> Result<(), Fault> {
     if line == "written" {
-        return push_written(out, image.as_slice());
+        return push_written(out, image);
     }
     match two(line)? {
-        ("cut", length) => push_cut(out, image.as_slice(), number32(length)?),
+        ("cut", length) => push_cut(out, image, number32(length)?),
         ("open", rest) => {
-            let image = changed(alloc, image.as_slice(), rest)?;
+            let image = changed(alloc, image, rest)?;
             push_opened(out, image.as_slice())
         }
         ("read", rest) => {
             let (rva, rest) = two(rest)?;
-            let image = changed(alloc, image.as_slice(), rest)?;
-            push_read(out, image.as_slice(), number32(rva)?)
+            let rva = number32(rva)?;
+            let image = changed(alloc, image, rest)?;
+            push_read(out, image.as_slice(), rva)
         }
         _ => Err(Fault::Meaningless),
     }

@@ -21,7 +21,7 @@ const BEFORE: usize = 0x1E00;
 
 /// A source, and the image that was made of it last.
 #[derive(Drop)]
-pub struct Made {
+struct Made {
     source: String,
     image: Bytes,
 }
@@ -141,25 +141,25 @@ fn push_seen(out: &mut String, image: &[u8], asked: &str, rest: &str) -> Result<
     }
 }
 
+/// The answers to lines. `COUNT PIECE` adds a piece to the source, so many times, each time with a line end, or without one where a
+/// backslash ends the line; for the first `#` in the piece stands the number of its copy, from 0. `make exe` and `make dll` assemble
+/// the source, and end it. Of the image that was made last, `rows TABLE` asks for the number of rows, `cell TABLE ROW COLUMN` for a
+/// cell, `text TABLE ROW COLUMN` for the text whose index stands in a cell, and `has BYTES` whether these bytes stand in it.
+pub fn push_answers(alloc: Global, out: &mut String, text: &str) -> Result<(), Fault> {
+    let mut told = Made::new(alloc);
+    told.push_lines(alloc, out, text)
+}
+
 impl Made {
     /// No source.
-    pub fn new(alloc: Global) -> Made {
+    fn new(alloc: Global) -> Made {
         Made {
             source: String::new(alloc),
             image: Bytes::new(alloc),
         }
     }
 
-    /// The answers to lines. `COUNT PIECE` adds a piece to the source, so many times, each time with a line end, or without one where a
-    /// backslash ends the line; for the first `#` in the piece stands the number of its copy, from 0. `make exe` and `make dll` assemble
-    /// the source, and end it. Of the image that was made last, `rows TABLE` asks for the number of rows, `cell TABLE ROW COLUMN` for a
-    /// cell, `text TABLE ROW COLUMN` for the text whose index stands in a cell, and `has BYTES` whether these bytes stand in it.
-    pub fn push_answers(
-        &mut self,
-        alloc: Global,
-        out: &mut String,
-        text: &str,
-    ) -> Result<(), Fault> {
+    fn push_lines(&mut self, alloc: Global, out: &mut String, text: &str) -> Result<(), Fault> {
         for line in text.lines() {
             match line.split_once(' ') {
                 Some((count, piece)) if is_number(count) => {

@@ -21,14 +21,15 @@
 #![tactic(auto)]
 
 mod bodies;
+mod contents;
 mod fault;
 mod files;
 mod frames;
-mod heaps;
 mod images;
 mod nameless;
 mod opcodes;
 mod packed;
+mod parts;
 mod patches;
 mod shelves;
 mod signatures;

@@ -34,12 +34,8 @@ pub fn patch(alloc: Global, a: &mut Assembly, change: &str) -> Result<(), Fault>
 /// Attributes that are one, whose constructor is spelled so.
 pub fn attributes_of(alloc: Global, value: &str) -> Result<Attributes, Fault> {
     let constructor = method_of(alloc, value)?;
-    let mut all = Items::new(alloc);
-    all.push(Attribute {
-        constructor,
-        value: Items::new(alloc),
-    })?;
-    Ok(all)
+    let value = Items::new(alloc);
+    Ok(Items::one(alloc, Attribute { constructor, value })?)
 }
 
 fn patch_manifest(alloc: Global, of: &mut Manifest, field: &str, value: &str) -> Result<(), Fault> {
@@ -61,9 +57,9 @@ fn patch_extern(alloc: Global, a: &mut Assembly, field: &str, value: &str) -> Re
     let Some(mut of) = a.externs.pop() else {
         return Err(Fault::Meaningless);
     };
-    patch_external(alloc, &mut of, field, value)?;
+    let patched = patch_external(alloc, &mut of, field, value);
     a.externs.push(of)?;
-    Ok(())
+    patched
 }
 
 fn patch_external(

@@ -8,7 +8,7 @@ use std::alloc::Global;
 
 /// A shelf and a console.
 #[derive(Drop)]
-pub struct Stores {
+struct Stores {
     shelf: MemShelf,
     console: MemConsole,
 }
@@ -73,22 +73,22 @@ pub fn push_disk(rt: &HostRuntime, out: &mut String, text: &str) -> Result<(), F
     Ok(())
 }
 
+/// The answers to lines, each a call.
+pub fn push_answers(alloc: Global, out: &mut String, text: &str) -> Result<(), Fault> {
+    let mut told = Stores::new(alloc);
+    told.push_lines(alloc, out, text)
+}
+
 impl Stores {
     /// A shelf without files, and a console that has taken nothing.
-    pub fn new(alloc: Global) -> Stores {
+    fn new(alloc: Global) -> Stores {
         Stores {
             shelf: MemShelf::new(alloc),
             console: MemConsole::new(alloc),
         }
     }
 
-    /// The answers to lines, each a call.
-    pub fn push_answers(
-        &mut self,
-        alloc: Global,
-        out: &mut String,
-        text: &str,
-    ) -> Result<(), Fault> {
+    fn push_lines(&mut self, alloc: Global, out: &mut String, text: &str) -> Result<(), Fault> {
         for line in text.lines() {
             if push_line(out, line)? {
                 self.push_answer(alloc, out, line)?;

@@ -11,26 +11,26 @@ use type_terms::{MethodSig, SigType};
 
 /// A pool of types.
 #[derive(Drop)]
-pub struct Pooled {
+struct Pooled {
     pool: SigPool,
+}
+
+/// The answers to lines: whether bytes spell a type (`type BYTES`), what method they spell (`method BYTES`), or how many types the
+/// pool has and whether two types have one id there (`intern BYTES, BYTES`).
+pub fn push_answers(alloc: Global, out: &mut String, text: &str) -> Result<(), Fault> {
+    let mut told = Pooled::new(alloc);
+    told.push_lines(alloc, out, text)
 }
 
 impl Pooled {
     /// A pool without types.
-    pub fn new(alloc: Global) -> Pooled {
+    fn new(alloc: Global) -> Pooled {
         Pooled {
             pool: SigPool::new(alloc),
         }
     }
 
-    /// The answers to lines: whether bytes spell a type (`type BYTES`), what method they spell (`method BYTES`), or how many types the
-    /// pool has and whether two types have one id there (`intern BYTES, BYTES`).
-    pub fn push_answers(
-        &mut self,
-        alloc: Global,
-        out: &mut String,
-        text: &str,
-    ) -> Result<(), Fault> {
+    fn push_lines(&mut self, alloc: Global, out: &mut String, text: &str) -> Result<(), Fault> {
         for line in text.lines() {
             if push_line(out, line)? {
                 self.push_answer(alloc, out, line)?;

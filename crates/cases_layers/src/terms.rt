@@ -1,6 +1,7 @@
 //! Types and references to methods, as patches of trees spell them.
 
 use crate::fault::Fault;
+use crate::parts::{both, four};
 use crate::values::{number32, two};
 use il_lists::{Boxed, Items, NoMemory, Numbers, Signed, Text};
 use std::alloc::Global;
@@ -18,8 +19,7 @@ pub fn text_of(alloc: Global, word: &str) -> Result<Text, NoMemory> {
 }
 
 fn id(alloc: Global, space: &str, name: &str) -> Result<TypeId, NoMemory> {
-    let space = text_of(alloc, space)?;
-    let name = text_of(alloc, name)?;
+    let (space, name) = both(text_of(alloc, space), text_of(alloc, name))?;
     Ok(TypeId { space, name })
 }
 
@@ -103,9 +103,10 @@ fn array_of(alloc: Global, rest: &str) -> Result<SigType, Fault> {
     let Ok(lower) = lower.parse::<i32>() else {
         return Err(Fault::Meaningless);
     };
-    let sizes = alike(alloc, number32(sizes)?, number32(size)?)?;
-    let lower = alike_lower(alloc, number32(lowers)?, lower)?;
-    Ok(shaped(alloc, rank, sizes, lower)?)
+    let (count, size) = (number32(sizes)?, number32(size)?);
+    let lowers = number32(lowers)?;
+    let shape = both(alike(alloc, count, size), alike_lower(alloc, lowers, lower))?;
+    Ok(shaped(alloc, rank, shape.0, shape.1)?)
 }
 
 fn alike(alloc: Global, count: u32, number: u32) -> Result<Numbers, NoMemory> {
@@ -125,9 +126,8 @@ fn alike_lower(alloc: Global, count: u32, number: i32) -> Result<Signed, NoMemor
 }
 
 fn shaped(alloc: Global, rank: u32, sizes: Numbers, lower: Signed) -> Result<SigType, NoMemory> {
-    let sizes = Boxed::new(alloc, sizes)?;
-    let lower = Boxed::new(alloc, lower)?;
-    let of = Boxed::new(alloc, SigType::Prim(Prim::I4))?;
+    let shape = both(Boxed::new(alloc, sizes), Boxed::new(alloc, lower));
+    let ((sizes, lower), of) = both(shape, Boxed::new(alloc, SigType::Prim(Prim::I4)))?;
     Ok(SigType::Array {
         of,
         rank,
@@ -137,14 +137,15 @@ fn shaped(alloc: Global, rank: u32, sizes: Numbers, lower: Signed) -> Result<Sig
 }
 
 fn instance_of(alloc: Global, count: u32) -> Result<SigType, Fault> {
-    let name = named(alloc, Scope::Extern(0), "empty", "G")?;
-    let args = numbers(alloc, count)?;
+    let (name, args) = both(
+        named(alloc, Scope::Extern(0), "empty", "G"),
+        numbers(alloc, count),
+    )?;
     Ok(instantiated(alloc, name, args)?)
 }
 
 fn instantiated(alloc: Global, name: TypeName, args: Types) -> Result<SigType, NoMemory> {
-    let name = Boxed::new(alloc, name)?;
-    let args = Boxed::new(alloc, args)?;
+    let (name, args) = both(Boxed::new(alloc, name), Boxed::new(alloc, args))?;
     Ok(SigType::Inst {
         value: false,
         name,
@@ -167,18 +168,31 @@ pub fn method_of(alloc: Global, words: &str) -> Result<MethodRef, Fault> {
     let (generic, rest) = two(rest)?;
     let (params, rest) = two(rest)?;
     let (sentinel, args) = two(rest)?;
-    let params = numbers(alloc, number32(params)?)?;
+    let generic = number32(generic)?;
+    let params = number32(params)?;
+    let sentinel = option32(sentinel)?;
+    let args = option32(args)?;
+    let (owner, name, params, args) = four(
+        outside(alloc, "X"),
+        Text::new(alloc, "m"),
+        numbers(alloc, params),
+        arguments(alloc, args),
+    )?;
     let sig = MethodSig {
         has_this: kind == "instance" || kind == "explicit",
         explicit_this: kind == "explicit" || kind == "static_explicit",
         vararg: false,
-        generic: number32(generic)?,
+        generic,
         ret: SigType::Prim(Prim::Void),
         params,
-        sentinel: option32(sentinel)?,
+        sentinel,
     };
-    let args = option32(args)?;
-    Ok(reference(alloc, sig, args)?)
+    Ok(MethodRef {
+        owner,
+        name,
+        sig,
+        args,
+    })
 }
 
 /// A number, or none.
@@ -187,18 +201,6 @@ pub fn option32(word: &str) -> Result<Option<u32>, Fault> {
         return Ok(None);
     }
     Ok(Some(number32(word)?))
-}
-
-fn reference(alloc: Global, sig: MethodSig, args: Option<u32>) -> Result<MethodRef, NoMemory> {
-    let name = Text::new(alloc, "m")?;
-    let owner = outside(alloc, "X")?;
-    let args = arguments(alloc, args)?;
-    Ok(MethodRef {
-        owner,
-        name,
-        sig,
-        args,
-    })
 }
 
 fn arguments(alloc: Global, count: Option<u32>) -> Result<Option<Types>, NoMemory> {

@@ -3,7 +3,7 @@
 use crate::fault::Fault;
 use crate::terms::{method_of, numbers, outside};
 use crate::values::{number, number16, number32, two};
-use assembly_tree::{Assembly, Body, Clause, ClauseKind, Code, Ins, Method, Operand};
+use assembly_tree::{Assembly, Body, Clause, ClauseKind, Clauses, Code, Ins, Method, Operand};
 use il_lists::{Boxed, Items, NoMemory};
 use opcode_table::{Op, op_of_word};
 use std::alloc::Global;
@@ -19,9 +19,9 @@ pub fn patch_body(
     let Some(mut of) = a.methods.pop() else {
         return Err(Fault::Meaningless);
     };
-    patch_of_method(alloc, &mut of, part, field, value)?;
+    let patched = patch_of_method(alloc, &mut of, part, field, value);
     a.methods.push(of)?;
-    Ok(())
+    patched
 }
 
 fn patch_of_method(
@@ -34,13 +34,23 @@ fn patch_of_method(
     let Some(mut body) = method.body.take() else {
         return Err(Fault::Meaningless);
     };
-    match part {
-        "body" => patch_whole(alloc, &mut body, field, value)?,
-        "ins" => patch_instruction(alloc, &mut body.code, field, value)?,
-        _ => patch_clause(&mut body, field, value)?,
-    }
+    let patched = patch_part(alloc, &mut body, part, field, value);
     method.body = Some(body);
-    Ok(())
+    patched
+}
+
+fn patch_part(
+    alloc: Global,
+    body: &mut Body,
+    part: &str,
+    field: &str,
+    value: &str,
+) -> Result<(), Fault> {
+    match part {
+        "body" => patch_whole(alloc, body, field, value),
+        "ins" => patch_instruction(alloc, &mut body.code, field, value),
+        _ => patch_clause(&mut body.clauses, field, value),
+    }
 }
 
 /// `locals COUNT`, `code COUNT` for so many `nop`, or `catches COUNT NAME`.
@@ -92,10 +102,10 @@ fn patch_instruction(
     let Some(op) = op_of_word(field) else {
         return Err(Fault::Meaningless);
     };
-    let operand = operand_of(alloc, value)?;
     if code.pop().is_none() {
         return Err(Fault::Meaningless);
     }
+    let operand = operand_of(alloc, value)?;
     code.push(Ins { op, operand })?;
     Ok(())
 }
@@ -111,20 +121,38 @@ fn operand_of(alloc: Global, value: &str) -> Result<Operand, Fault> {
         ("var", word) => Ok(Operand::Var(number16(word)?)),
         ("real", word) => Ok(Operand::Real(number(word)?)),
         ("to", word) => Ok(Operand::Target(number32(word)?)),
-        ("to_each", word) => {
-            let targets = Items::pair(alloc, 0, number32(word)?)?;
-            Ok(Operand::Targets(Boxed::new(alloc, targets)?))
-        }
-        ("type", name) => Ok(Operand::Of(Boxed::new(alloc, outside(alloc, name)?)?)),
-        ("method", words) => Ok(Operand::Method(Boxed::new(alloc, method_of(alloc, words)?)?)),
+        ("to_each", word) => to_each(alloc, number32(word)?),
+        ("type", name) => of_type(alloc, name),
+        ("method", words) => of_method(alloc, words),
         _ => Err(Fault::Meaningless),
     }
 }
 
-fn patch_clause(body: &mut Body, field: &str, value: &str) -> Result<(), Fault> {
-    let Some(mut of) = body.clauses.pop() else {
+fn to_each(alloc: Global, number: u32) -> Result<Operand, Fault> {
+    let targets = Items::pair(alloc, 0, number)?;
+    Ok(Operand::Targets(Boxed::new(alloc, targets)?))
+}
+
+fn of_type(alloc: Global, name: &str) -> Result<Operand, Fault> {
+    let owner = outside(alloc, name)?;
+    Ok(Operand::Of(Boxed::new(alloc, owner)?))
+}
+
+fn of_method(alloc: Global, words: &str) -> Result<Operand, Fault> {
+    let method = method_of(alloc, words)?;
+    Ok(Operand::Method(Boxed::new(alloc, method)?))
+}
+
+fn patch_clause(clauses: &mut Clauses, field: &str, value: &str) -> Result<(), Fault> {
+    let Some(mut of) = clauses.pop() else {
         return Err(Fault::Meaningless);
     };
+    let patched = patch_the_clause(&mut of, field, value);
+    clauses.push(of)?;
+    patched
+}
+
+fn patch_the_clause(of: &mut Clause, field: &str, value: &str) -> Result<(), Fault> {
     let number = number32(value)?;
     match field {
         "try_start" => of.try_start = number,
@@ -134,6 +162,5 @@ fn patch_clause(body: &mut Body, field: &str, value: &str) -> Result<(), Fault> 
         "filter" => of.kind = ClauseKind::Filter(number),
         _ => return Err(Fault::Meaningless),
     }
-    body.clauses.push(of)?;
     Ok(())
 }

@@ -13,9 +13,9 @@ pub fn patch_class(alloc: Global, a: &mut Assembly, field: &str, value: &str) ->
     let Some(mut of) = a.types.pop() else {
         return Err(Fault::Meaningless);
     };
-    patch_type(alloc, &mut of, field, value)?;
+    let patched = patch_type(alloc, &mut of, field, value);
     a.types.push(of)?;
-    Ok(())
+    patched
 }
 
 fn patch_type(alloc: Global, of: &mut TypeDef, field: &str, value: &str) -> Result<(), Fault> {
@@ -52,12 +52,17 @@ fn patch_nested(alloc: Global, of: &mut TypeDef, value: &str) -> Result<(), Faul
     let Some(mut inner) = of.nested.pop() else {
         return Err(Fault::Meaningless);
     };
+    let patched = patch_inner(alloc, &mut inner, field, value);
+    of.nested.push(inner)?;
+    patched
+}
+
+fn patch_inner(alloc: Global, of: &mut TypeDef, field: &str, value: &str) -> Result<(), Fault> {
     match field {
-        "name" => inner.id.name = text_of(alloc, value)?,
-        "base" => patch_base(alloc, &mut inner, value)?,
+        "name" => of.id.name = text_of(alloc, value)?,
+        "base" => patch_base(alloc, of, value)?,
         _ => return Err(Fault::Meaningless),
     }
-    of.nested.push(inner)?;
     Ok(())
 }
 
@@ -72,13 +77,23 @@ pub fn patch_accessible(
     let Some(mut of) = a.types.pop() else {
         return Err(Fault::Meaningless);
     };
-    if part == "property" {
-        patch_last_property(alloc, &mut of, field, value)?;
-    } else {
-        patch_last_event(alloc, &mut of, field, value)?;
-    }
+    let patched = patch_last(alloc, &mut of, part, field, value);
     a.types.push(of)?;
-    Ok(())
+    patched
+}
+
+fn patch_last(
+    alloc: Global,
+    class: &mut TypeDef,
+    part: &str,
+    field: &str,
+    value: &str,
+) -> Result<(), Fault> {
+    if part == "property" {
+        patch_last_property(alloc, class, field, value)
+    } else {
+        patch_last_event(alloc, class, field, value)
+    }
 }
 
 fn patch_last_property(
@@ -90,9 +105,9 @@ fn patch_last_property(
     let Some(mut of) = class.properties.pop() else {
         return Err(Fault::Meaningless);
     };
-    patch_property(alloc, &mut of, field, value)?;
+    let patched = patch_property(alloc, &mut of, field, value);
     class.properties.push(of)?;
-    Ok(())
+    patched
 }
 
 fn patch_property(alloc: Global, of: &mut Property, field: &str, value: &str) -> Result<(), Fault> {
@@ -127,9 +142,9 @@ fn patch_last_event(
     let Some(mut of) = class.events.pop() else {
         return Err(Fault::Meaningless);
     };
-    patch_event(alloc, &mut of, field, value)?;
+    let patched = patch_event(alloc, &mut of, field, value);
     class.events.push(of)?;
-    Ok(())
+    patched
 }
 
 fn patch_event(alloc: Global, of: &mut Event, field: &str, value: &str) -> Result<(), Fault> {

@@ -14,9 +14,9 @@ pub fn patch_field(alloc: Global, a: &mut Assembly, field: &str, value: &str) ->
     let Some(mut of) = a.fields.pop() else {
         return Err(Fault::Meaningless);
     };
-    patch_the_field(alloc, &mut of, field, value)?;
+    let patched = patch_the_field(alloc, &mut of, field, value);
     a.fields.push(of)?;
-    Ok(())
+    patched
 }
 
 fn patch_the_field(alloc: Global, of: &mut Field, field: &str, value: &str) -> Result<(), Fault> {
@@ -80,13 +80,23 @@ pub fn patch_method(
     let Some(mut of) = a.methods.pop() else {
         return Err(Fault::Meaningless);
     };
-    match part {
-        "method" => patch_the_method(alloc, &mut of, field, value)?,
-        "generic" => patch_generic(alloc, &mut of, field, value)?,
-        _ => patch_param(alloc, &mut of, field, value)?,
-    }
+    let patched = patch_within(alloc, &mut of, part, field, value);
     a.methods.push(of)?;
-    Ok(())
+    patched
+}
+
+fn patch_within(
+    alloc: Global,
+    of: &mut Method,
+    part: &str,
+    field: &str,
+    value: &str,
+) -> Result<(), Fault> {
+    match part {
+        "method" => patch_the_method(alloc, of, field, value),
+        "generic" => patch_generic(alloc, of, field, value),
+        _ => patch_param(alloc, of, field, value),
+    }
 }
 
 fn patch_the_method(alloc: Global, of: &mut Method, field: &str, value: &str) -> Result<(), Fault> {
@@ -112,9 +122,9 @@ fn patch_generic(
     let Some(mut of) = method.generics.pop() else {
         return Err(Fault::Meaningless);
     };
-    patch_the_generic(alloc, &mut of, field, value)?;
+    let patched = patch_the_generic(alloc, &mut of, field, value);
     method.generics.push(of)?;
-    Ok(())
+    patched
 }
 
 fn patch_the_generic(
@@ -136,9 +146,9 @@ fn patch_param(alloc: Global, method: &mut Method, field: &str, value: &str) -> 
     let Some(mut of) = method.params.pop() else {
         return Err(Fault::Meaningless);
     };
-    patch_the_param(alloc, &mut of, field, value)?;
+    let patched = patch_the_param(alloc, &mut of, field, value);
     method.params.push(of)?;
-    Ok(())
+    patched
 }
 
 fn patch_the_param(alloc: Global, of: &mut Param, field: &str, value: &str) -> Result<(), Fault> {

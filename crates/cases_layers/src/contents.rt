@@ -4,6 +4,7 @@ ghost use Rattle.std.specs.Prelude.{◌+◌, ◌<◌, length, IsTrue};
 
 use crate::fault::Fault;
 use crate::files::push_line;
+use crate::parts::four;
 use crate::values::{bytes_of, number32, push_hex, two};
 use heaps::{BlobHeap, GuidHeap, StringHeap, UserHeap, blob_at, guid_at, string_at, user_at};
 use il_lists::NoMemory;
@@ -12,7 +13,7 @@ use std::str;
 
 /// One heap of each kind.
 #[derive(Drop)]
-pub struct Heaps {
+struct Heaps {
     blobs: BlobHeap,
     users: UserHeap,
     texts: StringHeap,
@@ -62,11 +63,22 @@ fn push_read(alloc: Global, out: &mut String, heap: &str, rest: &str) -> Result<
     }
 }
 
+/// The answers to lines that add contents (`blob BYTES`, `user BYTES`, `text BYTES`, `id BYTES`) or read bytes (`blob_at INDEX BYTES`, and
+/// so on).
+pub fn push_answers(alloc: Global, out: &mut String, text: &str) -> Result<(), Fault> {
+    let mut heaps = Heaps::new(alloc)?;
+    heaps.push_lines(alloc, out, text)
+}
+
 impl Heaps {
     /// Heaps without contents.
-    pub fn new(alloc: Global) -> Result<Heaps, NoMemory> {
-        let (blobs, users) = (BlobHeap::new(alloc)?, UserHeap::new(alloc)?);
-        let (texts, ids) = (StringHeap::new(alloc)?, GuidHeap::new(alloc)?);
+    fn new(alloc: Global) -> Result<Heaps, NoMemory> {
+        let (blobs, users, texts, ids) = four(
+            BlobHeap::new(alloc),
+            UserHeap::new(alloc),
+            StringHeap::new(alloc),
+            GuidHeap::new(alloc),
+        )?;
         Ok(Heaps {
             blobs,
             users,
@@ -75,13 +87,7 @@ impl Heaps {
         })
     }
 
-    /// The answers to lines that add contents (`blob BYTES`, `user BYTES`, `text BYTES`, `id BYTES`) or read bytes.
-    pub fn push_answers(
-        &mut self,
-        alloc: Global,
-        out: &mut String,
-        text: &str,
-    ) -> Result<(), Fault> {
+    fn push_lines(&mut self, alloc: Global, out: &mut String, text: &str) -> Result<(), Fault> {
         for line in text.lines() {
             if push_line(out, line)? {
                 self.push_answer(alloc, out, line)?;
