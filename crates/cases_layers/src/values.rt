@@ -7,9 +7,9 @@ use std::alloc::{AllocError, Global};
 /// The value of a hexadecimal digit.
 fn digit(byte: u8) -> Option<u8> {
     match byte {
-        b'0'..=b'9' => Some(byte - b'0'),
-        b'A'..=b'F' => Some(byte - b'A' + 10),
-        b'a'..=b'f' => Some(byte - b'a' + 10),
+        b'0'..=b'9' => Some(byte.wrapping_sub(b'0')),
+        b'A'..=b'F' => Some(byte.wrapping_sub(b'A').wrapping_add(10)),
+        b'a'..=b'f' => Some(byte.wrapping_sub(b'a').wrapping_add(10)),
         _ => None,
     }
 }
@@ -89,7 +89,7 @@ fn push_pairs(bytes: &mut Bytes, pairs: &str) -> Result<(), Fault> {
         let (Some(high), Some(low)) = (digit(*high), digit(*low)) else {
             return Err(Fault::Meaningless);
         };
-        bytes.push(high * 16 + low)?;
+        bytes.push(high.wrapping_mul(16).wrapping_add(low))?;
         left = more;
     }
     if left.is_empty() {
