@@ -90,6 +90,8 @@ def methods(cases):
 
 def images(cases):
     """The shortest line of crates/cases_layers for each rule on images."""
+    if not os.path.exists(os.path.join(TOP, "crates/cases_layers/stdout")):
+        return
     for line, rule in re.findall(r"^(\S.*): (I\d+) at .*$", text_of("crates/cases_layers/stdout"), re.M):
         where = "frames" if line.startswith(("cut ", "read ", "written")) or re.match(r"open 0x", line) else "tables"
         shorter(cases, rule, f"{line} ({where})")
