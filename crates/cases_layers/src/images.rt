@@ -193,7 +193,7 @@ impl Made {
     }
 
     fn push_made(&mut self, alloc: Global, out: &mut String, kind: Kind) -> Result<(), Fault> {
-        match made(alloc, self.source.as_bytes(), kind)? {
+        match image_of(alloc, self.source.as_bytes(), kind)? {
             Some(image) => {
                 self.image = image;
                 out.push_str("made")?;
@@ -210,7 +210,7 @@ fn is_number(word: &str) -> bool {
 }
 
 /// The image of a source, or None where its assembly is too large.
-fn made(alloc: Global, source: &[u8], kind: Kind) -> Result<Option<Bytes>, Fault> {
+fn image_of(alloc: Global, source: &[u8], kind: Kind) -> Result<Option<Bytes>, Fault> {
     if source.len() > LONGEST {
         return Err(Fault::Meaningless);
     }
