@@ -1,4 +1,0 @@
-pub mod Borders
-pub mod Plain
-pub mod Pools
-pub mod Spelled
