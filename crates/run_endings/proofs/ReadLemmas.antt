@@ -15,6 +15,13 @@ read_more tells files [] (b ∷ given) input bytes are is = absurd are
 read_more tells files (i ∷ inputs) [] input bytes are is = absurd are
 read_more tells files (i ∷ inputs) (b ∷ given) input bytes are is = (are.0, read_more tells files inputs given input bytes are.1 is)
 
+-- for each input something is read
+pub read_length : (tells : Bool) (files : Files) (inputs : List Input) (given : List (List ℕ)) → AreRead tells files inputs given → length given ≡ length inputs
+read_length tells files [] [] are = refl
+read_length tells files [] (b ∷ given) are = absurd are
+read_length tells files (i ∷ inputs) [] are = absurd are
+read_length tells files (i ∷ inputs) (b ∷ given) are = ap suc (read_length tells files inputs given are.1)
+
 -- the input at this place, where those before it were read
 module _ (tells : Bool) (files : Files) (all : List Input) (k : ℕ) (input : Input) (given : List (List ℕ)) (there : k < length all) (is : input ≡ get_or all k input)
     (read : AreRead tells files (take k all) given) where

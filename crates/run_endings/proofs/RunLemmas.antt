@@ -1,9 +1,9 @@
 -- How a run ends, from what was read, made in memory and performed.
-use Rattle.std.proofs.Common.{◌≡◌, ℕ, ◌≤◌, ◌⊎◌, inl, inr, IsTrue, List, Option, None, Some, refl, sym, ap, subst, ◌∙◌, arith}
+use Rattle.std.proofs.Common.{◌≡◌, ℕ, ◌≤◌, ◌⊎◌, inl, inr, Bool, IsTrue, List, Option, None, Some, refl, sym, ap, subst, ◌∙◌, arith}
 use Rattle.il_base.specs.Outside.{Files, Rose, ChangesOnly}
 use Rattle.run_endings.specs.Ends.{Shelved, Spoken, IsBegun, IsCut, IsMade, IsPerformed, IsUntouched, in_file, in_console, in_out, in_err, whole, part, says_only}
 use Rattle.run_endings.specs.Reads.{AreRead, StopsAt, IsLonger}
-use Rattle.run_endings.specs.Runs.{IsEnding, misfit, unread, too_long, reached, Merits, by_words, by_absence, by_length, by_inputs, Runs}
+use Rattle.run_endings.specs.Runs.{IsPlanned, misfit, unread, too_long, reached, Merits, by_words, by_absence, by_length, by_inputs, Runs}
 use Rattle.run_endings.specs.Texts.{usage_text, unread_text, long_text}
 use Rattle.run_endings.specs.declared.ending.Ending.{Ending}
 use Rattle.run_endings.specs.declared.ending.Made.{Made}
@@ -53,14 +53,10 @@ module _ (s t : Shelved) (ends : Ends s t) where
 
 -- ---- what each ending shows
 
-module _ (usage : Option ℕ) (inputs : List Input) (Gives : List (List ℕ) → Ending → Type 0) (Due : List (List ℕ) → ℕ → Type 0) (s : Shelved) (c : Spoken) where
-  -- a status that is due, or a failed read that is told by its count
-  abbrev pub Deserved : Ending → ℕ → Type 0
-  Deserved e n = (n ≡ e.number) ⊎ ((e.number ≡ 3) × (usage ≡ None) × Rose s.reads s.reads_now)
-
+module _ (usage : Option ℕ) (inputs : List Input) (Gives : List (List ℕ) → Ending → Type 0) (Due : List (List ℕ) → ℕ → Type 0) where
   -- there was no memory
-  pub runs_lacking : IsUntouched s c → Runs usage inputs Gives Due 6 s c
-  runs_lacking untouched = record {
+  pub runs_lacking : (s : Shelved) (c : Spoken) → IsUntouched s c → Runs usage inputs Gives Due 6 s c
+  runs_lacking s c untouched = record {
     range = omega arith;
     done = λ n4 n6. absurd (n6 refl);
     cut = λ four. absurd (omega arith);
@@ -68,102 +64,113 @@ module _ (usage : Option ℕ) (inputs : List Input) (Gives : List (List ℕ) →
     exactly = λ n due. inr (inl refl);
   }
 
-  module _ (e : Ending) (is : IsEnding usage inputs Gives s e) (low : (e.number ≤ 3) ⊎ (e.number ≡ 5)) (files : (made : Made) → e.file ≡ Some made → e.number ≡ 0)
-      (deserved : (n : ℕ) → Merits usage inputs Due s n → Deserved e n) where
-    cut_exactly : (number : ℕ) → number ≡ 4 → IsCut e s c → (n : ℕ) → Merits usage inputs Due s n
+  -- what was planned is performed
+  module _ (s : Shelved) (c : Spoken) (e : Ending) (planned : IsPlanned usage inputs Gives Due s.tells s.before s.reads s.reads_now e) where
+    cut_exactly : (number : ℕ) → number ≡ 4 → IsCut e s c → (n : ℕ) → Merits usage inputs Due s.tells s.before n
         → (number ≡ 4) × (((n ≡ 0) × Rose s.writes s.writes_now) ⊎ Rose c.failed c.failed_now)
     cut_exactly number four (in_file made made-is rose begun quiet) n due =
-        let zero : e.number ≡ 0 = files made made-is in
-        elim (deserved n due) [ inl d ↦ (four, inl (d ∙ zero, rose)) | inr d ↦ absurd (omega (arith, d.0)) ]
+        let none : e.number ≡ 0 = planned.makes made made-is in
+        elim (planned.due n due) [ inl d ↦ (four, inl (d ∙ none, rose)) | inr d ↦ absurd (omega (arith, d.0)) ]
     cut_exactly number four (in_console made (in_out some rose takes)) n due = (four, inr rose)
     cut_exactly number four (in_console made (in_err some rose takes)) n due = (four, inr rose)
 
-    pub runs_by : (number : ℕ) → IsPerformed e s c number → Runs usage inputs Gives Due number s c
-    runs_by number (whole m same done) = record {
-      range = elim low [ inl l ↦ omega arith | inr l ↦ omega arith ];
-      done = λ n4 n6. (e, is, same, done);
-      cut = λ four. absurd (elim low [ inl l ↦ omega arith | inr l ↦ omega arith ]);
-      lacking = λ six. absurd (elim low [ inl l ↦ omega arith | inr l ↦ omega arith ]);
-      exactly = λ n due. elim (deserved n due) [ inl d ↦ inl (same ∙ sym d) | inr d ↦ inr (inr (inl (same ∙ d.0, d.1, d.2))) ];
+    pub runs_planned : (number : ℕ) → IsPerformed e s c number → Runs usage inputs Gives Due number s c
+    runs_planned number (whole m same done) = record {
+      range = elim planned.number [ inl l ↦ omega arith | inr l ↦ omega arith ];
+      done = λ n4 n6. (e, planned.is, same, done);
+      cut = λ four. absurd (elim planned.number [ inl l ↦ omega arith | inr l ↦ omega arith ]);
+      lacking = λ six. absurd (elim planned.number [ inl l ↦ omega arith | inr l ↦ omega arith ]);
+      exactly = λ n due. elim (planned.due n due) [ inl d ↦ inl (same ∙ sym d) | inr d ↦ inr (inr (inl (same ∙ d.0, d.1, d.2))) ];
     }
-    runs_by number (part m four cut) = record {
+    runs_planned number (part m four cut) = record {
       range = omega arith;
       done = λ n4 n6. absurd (n4 four);
-      cut = λ f. (e, is, cut);
+      cut = λ f. (e, planned.is, cut);
       lacking = λ six. absurd (omega arith);
       exactly = λ n due. inr (inr (inr (cut_exactly number four cut n due)));
     }
 
-  -- ---- an ending that only says something makes no file
+  -- ---- plans
 
-  no_file : (k : ℕ) (text : List ℕ) (e : Ending) → e ≡ says_only k text → (made : Made) → e.file ≡ Some made → ⊥
-  no_file k text e is made made-is = let none : e.file ≡ None = ap (λ (x : Ending). x.file) is in absurd cc
+  module _ (tells : Bool) (files : Files) (reads reads_now : ℕ) where
+    -- an ending that only says something makes no file
+    no_file : (k : ℕ) (text : List ℕ) (e : Ending) → e ≡ says_only k text → (made : Made) → e.file ≡ Some made → ⊥
+    no_file k text e is made made-is = let none : e.file ≡ None = ap (λ (x : Ending). x.file) is in absurd cc
 
-  some_none : (word : ℕ) → usage ≡ Some word → usage ≡ None → ⊥
-  some_none word some none = absurd cc
+    some_none : (word : ℕ) → usage ≡ Some word → usage ≡ None → ⊥
+    some_none word some none = absurd cc
 
-  -- a word doesn't fit
-  misfit_due : (word : ℕ) → usage ≡ Some word → (n : ℕ) → Merits usage inputs Due s n → n ≡ 2
-  misfit_due word fault n (by_words other is due) = due
-  misfit_due word fault n (by_absence at fits tells stops none due) = absurd (some_none word fault fits)
-  misfit_due word fault n (by_length at fits tells stops longer due) = absurd (some_none word fault fits)
-  misfit_due word fault n (by_inputs given fits tells are due) = absurd (some_none word fault fits)
+    -- a word doesn't fit
+    misfit_due : (word : ℕ) → usage ≡ Some word → (n : ℕ) → Merits usage inputs Due tells files n → n ≡ 2
+    misfit_due word fault n (by_words other is due) = due
+    misfit_due word fault n (by_absence at fits told stops none due) = absurd (some_none word fault fits)
+    misfit_due word fault n (by_length at fits told stops longer due) = absurd (some_none word fault fits)
+    misfit_due word fault n (by_inputs given fits told are due) = absurd (some_none word fault fits)
 
-  pub runs_misfit : (word : ℕ) (e : Ending) (number : ℕ) → usage ≡ Some word → e ≡ says_only 2 (usage_text word) → IsPerformed e s c number
-      → Runs usage inputs Gives Due number s c
-  runs_misfit word e number fault is performed =
-      let two : e.number ≡ 2 = ap (λ (x : Ending). x.number) is in
-      runs_by e (misfit word fault is) (inl (omega arith)) (λ made made-is. absurd (no_file 2 (usage_text word) e is made made-is))
-      (λ n due. inl (misfit_due word fault n due ∙ sym two)) number performed
+    pub planned_misfit : (word : ℕ) (e : Ending) → usage ≡ Some word → e ≡ says_only 2 (usage_text word)
+        → IsPlanned usage inputs Gives Due tells files reads reads_now e
+    planned_misfit word e fault is = let two : e.number ≡ 2 = ap (λ (x : Ending). x.number) is in record {
+      is = misfit word fault is;
+      number = inl (omega arith);
+      makes = λ made made-is. absurd (no_file 2 (usage_text word) e is made made-is);
+      due = λ n due. inl (misfit_due word fault n due ∙ sym two);
+    }
 
-  module _ (fits : usage ≡ None) where
-    -- an input can't be read
-    unread_due : (at : Input) → StopsAt s.tells s.before inputs at → Rose s.reads s.reads_now ⊎ (IsTrue s.tells × (s.before at.name ≡ None))
-        → (e : Ending) → e.number ≡ 3 → (n : ℕ) → Merits usage inputs Due s n → Deserved e n
-    unread_due at stops (inl rose) e three n due = inr (three, fits, rose)
-    unread_due at stops (inr gone) e three n (by_words word is due) = absurd (some_none word is fits)
-    unread_due at stops (inr gone) e three n (by_absence at' fits' tells stops' none due) = inl (due ∙ sym three)
-    unread_due at stops (inr gone) e three n (by_length at' fits' tells stops' longer due) =
-        let same : at ≡ at' = one_stop s.tells s.before tells inputs at at' stops stops' (inl gone.1) (inr longer) in
-        absurd (not_both s.before at gone.1 (subst (λ (x : Input). IsLonger s.before x) (sym same) longer))
-    unread_due at stops (inr gone) e three n (by_inputs given fits' tells are due) = absurd (no_stop s.tells s.before tells inputs given at are stops (inl gone.1))
+    module _ (fits : usage ≡ None) where
+      -- an input can't be read
+      unread_due : (at : Input) → StopsAt tells files inputs at → Rose reads reads_now ⊎ (IsTrue tells × (files at.name ≡ None))
+          → (e : Ending) → e.number ≡ 3 → (n : ℕ) → Merits usage inputs Due tells files n → (n ≡ e.number) ⊎ ((e.number ≡ 3) × (usage ≡ None) × Rose reads reads_now)
+      unread_due at stops (inl rose) e three n due = inr (three, fits, rose)
+      unread_due at stops (inr gone) e three n (by_words word is due) = absurd (some_none word is fits)
+      unread_due at stops (inr gone) e three n (by_absence at' fits' told stops' none due) = inl (due ∙ sym three)
+      unread_due at stops (inr gone) e three n (by_length at' fits' told stops' longer due) =
+          let same : at ≡ at' = one_stop tells files told inputs at at' stops stops' (inl gone.1) (inr longer) in
+          absurd (not_both files at gone.1 (subst (λ (x : Input). IsLonger files x) (sym same) longer))
+      unread_due at stops (inr gone) e three n (by_inputs given fits' told are due) = absurd (no_stop tells files told inputs given at are stops (inl gone.1))
 
-    pub runs_unread : (at : Input) (e : Ending) (number : ℕ) → StopsAt s.tells s.before inputs at
-        → Rose s.reads s.reads_now ⊎ (IsTrue s.tells × (s.before at.name ≡ None)) → e ≡ says_only 3 (unread_text at.name) → IsPerformed e s c number
-        → Runs usage inputs Gives Due number s c
-    runs_unread at e number stops why is performed =
-        let three : e.number ≡ 3 = ap (λ (x : Ending). x.number) is in
-        runs_by e (unread at fits stops why is) (inl (omega arith)) (λ made made-is. absurd (no_file 3 (unread_text at.name) e is made made-is))
-        (unread_due at stops why e three) number performed
+      pub planned_unread : (at : Input) (e : Ending) → StopsAt tells files inputs at → Rose reads reads_now ⊎ (IsTrue tells × (files at.name ≡ None))
+          → e ≡ says_only 3 (unread_text at.name) → IsPlanned usage inputs Gives Due tells files reads reads_now e
+      planned_unread at e stops why is = let three : e.number ≡ 3 = ap (λ (x : Ending). x.number) is in record {
+        is = unread at fits stops why is;
+        number = inl (omega arith);
+        makes = λ made made-is. absurd (no_file 3 (unread_text at.name) e is made made-is);
+        due = unread_due at stops why e three;
+      }
 
-    -- an input is too long
-    too_long_due : (at : Input) → StopsAt s.tells s.before inputs at → (IsTrue s.tells → IsLonger s.before at) → (n : ℕ) → Merits usage inputs Due s n → n ≡ 5
-    too_long_due at stops why n (by_words word is due) = absurd (some_none word is fits)
-    too_long_due at stops why n (by_absence at' fits' tells stops' none due) =
-        let same : at ≡ at' = one_stop s.tells s.before tells inputs at at' stops stops' (inr (why tells)) (inl none) in
-        absurd (not_both s.before at' none (subst (λ (x : Input). IsLonger s.before x) same (why tells)))
-    too_long_due at stops why n (by_length at' fits' tells stops' longer due) = due
-    too_long_due at stops why n (by_inputs given fits' tells are due) = absurd (no_stop s.tells s.before tells inputs given at are stops (inr (why tells)))
+      -- an input is too long
+      too_long_due : (at : Input) → StopsAt tells files inputs at → (IsTrue tells → IsLonger files at) → (n : ℕ) → Merits usage inputs Due tells files n → n ≡ 5
+      too_long_due at stops why n (by_words word is due) = absurd (some_none word is fits)
+      too_long_due at stops why n (by_absence at' fits' told stops' none due) =
+          let same : at ≡ at' = one_stop tells files told inputs at at' stops stops' (inr (why told)) (inl none) in
+          absurd (not_both files at' none (subst (λ (x : Input). IsLonger files x) same (why told)))
+      too_long_due at stops why n (by_length at' fits' told stops' longer due) = due
+      too_long_due at stops why n (by_inputs given fits' told are due) = absurd (no_stop tells files told inputs given at are stops (inr (why told)))
 
-    pub runs_too_long : (at : Input) (e : Ending) (number : ℕ) → StopsAt s.tells s.before inputs at → (IsTrue s.tells → IsLonger s.before at)
-        → e ≡ says_only 5 (long_text at.name at.limit) → IsPerformed e s c number → Runs usage inputs Gives Due number s c
-    runs_too_long at e number stops why is performed =
-        let five : e.number ≡ 5 = ap (λ (x : Ending). x.number) is in
-        runs_by e (too_long at fits stops why is) (inr five) (λ made made-is. absurd (no_file 5 (long_text at.name at.limit) e is made made-is))
-        (λ n due. inl (too_long_due at stops why n due ∙ sym five)) number performed
+      pub planned_too_long : (at : Input) (e : Ending) → StopsAt tells files inputs at → (IsTrue tells → IsLonger files at)
+          → e ≡ says_only 5 (long_text at.name at.limit) → IsPlanned usage inputs Gives Due tells files reads reads_now e
+      planned_too_long at e stops why is = let five : e.number ≡ 5 = ap (λ (x : Ending). x.number) is in record {
+        is = too_long at fits stops why is;
+        number = inr five;
+        makes = λ made made-is. absurd (no_file 5 (long_text at.name at.limit) e is made made-is);
+        due = λ n due. inl (too_long_due at stops why n due ∙ sym five);
+      }
 
-    -- all is read
-    reached_due : (given : List (List ℕ)) → AreRead s.tells s.before inputs given → (k : ℕ) → ((n : ℕ) → Due given n → k ≡ n) → (n : ℕ) → Merits usage inputs Due s n → n ≡ k
-    reached_due given are k only n (by_words word is due) = absurd (some_none word is fits)
-    reached_due given are k only n (by_absence at fits' tells stops none due) = absurd (no_stop s.tells s.before tells inputs given at are stops (inl none))
-    reached_due given are k only n (by_length at fits' tells stops longer due) = absurd (no_stop s.tells s.before tells inputs given at are stops (inr longer))
-    reached_due given are k only n (by_inputs given' fits' tells are' due) =
-        let same : given' ≡ given = one_given s.tells s.before tells inputs given' given are' are in
-        sym (only n (subst (λ (g : List (List ℕ)). Due g n) same due))
+      -- all is read
+      reached_due : (given : List (List ℕ)) → AreRead tells files inputs given → (k : ℕ) → ((n : ℕ) → Due given n → k ≡ n) → (n : ℕ)
+          → Merits usage inputs Due tells files n → n ≡ k
+      reached_due given are k only n (by_words word is due) = absurd (some_none word is fits)
+      reached_due given are k only n (by_absence at fits' told stops none due) = absurd (no_stop tells files told inputs given at are stops (inl none))
+      reached_due given are k only n (by_length at fits' told stops longer due) = absurd (no_stop tells files told inputs given at are stops (inr longer))
+      reached_due given are k only n (by_inputs given' fits' told are' due) =
+          let same : given' ≡ given = one_given tells files told inputs given' given are' are in
+          sym (only n (subst (λ (g : List (List ℕ)). Due g n) same due))
 
-    pub runs_reached : (given : List (List ℕ)) (e : Ending) (number : ℕ) → AreRead s.tells s.before inputs given → Gives given e → e.number ≤ 1
-        → ((made : Made) → e.file ≡ Some made → e.number ≡ 0) → ((n : ℕ) → Due given n → e.number ≡ n) → IsPerformed e s c number
-        → Runs usage inputs Gives Due number s c
-    runs_reached given e number are gives low files only performed =
-        runs_by e (reached given fits are gives low) (inl (omega arith)) files
-        (λ n due. inl (reached_due given are e.number only n due)) number performed
+      pub planned_reached : (given : List (List ℕ)) (e : Ending) → AreRead tells files inputs given → Gives given e → e.number ≤ 1
+          → ((made : Made) → e.file ≡ Some made → e.number ≡ 0) → ((n : ℕ) → Due given n → e.number ≡ n)
+          → IsPlanned usage inputs Gives Due tells files reads reads_now e
+      planned_reached given e are gives low makes only = record {
+        is = reached given fits are gives low;
+        number = inl (omega arith);
+        makes = makes;
+        due = λ n due. inl (reached_due given are e.number only n due);
+      }
