@@ -1,63 +1,123 @@
-//! What the words so far ask for.
-ghost use Rattle.std.specs.Prelude.{◌≡◌, ◌++◌, ◌∷◌, [], List, ℕ, true, false, length, drop, ◌+◌, IsTrue, IfSome, IfNone};
-ghost use Rattle.command_words.specs.Words.{fits_behind};
-ghost use Rattle.command_words.specs.Asked.{IsAsked};
+//! What words that fit say.
+ghost use Rattle.std.specs.Prelude.{◌≡◌, ◌++◌, true, take, drop, codes, IfOk};
+ghost use Rattle.std.specs.Str.{bytes_eq};
+ghost use Rattle.std.specs.Option.{option_copied};
+ghost use Rattle.command_words.specs.Words.{first_of, command_by, file_among, kind_among, output_among, extension_of, stem_of};
 
-use crate::sorts::{Sort, sort_of};
+use crate::command::Command;
+use crate::shape::Shape;
+use crate::slot::{Slot, is_slot};
+use il_base::{NoMemory, Text};
 use pe_layout::Kind;
+use std::alloc::Global;
 
-/// FILE, the kind and NAME of the output, as far as they were said.
-#[derive(Clone, Copy)]
-pub(crate) struct Asked<'a> {
-    pub(crate) file: Option<&'a str>,
-    pub(crate) kind: Option<Kind>,
-    pub(crate) output: Option<&'a str>,
-}
-
-impl<'a> Asked<'a> {
-    /// Nothing was said.
-    pub(crate) fn new() -> Asked<'a>
-        ensures { IsAsked [] result }
-    {
-        Asked {
-            file: None,
-            kind: None,
-            output: None,
-        }
-    }
-
-    /// The number of the word that comes next, where the command is word 1.
-    pub(crate) fn next_word(&self) -> u32
-        ensures { (before : List (List ℕ)) → IsAsked before self.now → result ≡ 2 + length before }
-    {
-        2 + u32::from(self.file.is_some())
-            + u32::from(self.kind.is_some())
-            + u32::from(self.output.is_some())
-    }
-
-    #[tactic(none)]
-    /// Takes in a word, where it fits behind those before it, and answers whether it does.
-    pub(crate) fn take_in(&mut self, word: &'a str) -> bool
-        ensures fits { (before : List (List ℕ)) → IsAsked before self.old → result ≡ fits_behind before word.now }
-        ensures asked { (before : List (List ℕ)) → IsAsked before self.old → IsTrue result → IsAsked (before ++ word.now ∷ []) self.new }
-    {
-        match sort_of(word) {
-            Sort::File => put(&mut self.file, word),
-            Sort::Kind(kind) => put(&mut self.kind, kind),
-            Sort::Output(name) => put(&mut self.output, name),
-            Sort::Unknown => false,
-        }
-    }
-}
-
-/// Puts a value where there is none, and answers whether there was none.
-fn put<T: Copy>(place: &mut Option<T>, value: T) -> bool
-    ensures put { IfNone place.old ((result ≡ true) × (place.new ≡ Some value)) }
-    ensures full { IfSome place.old (λ _. result ≡ false) }
+/// The command that the words behind its own ask for.
+pub(crate) fn command_by(alloc: Global, shape: Shape, words: &[Text]) -> Result<Command, NoMemory>
+    ensures { IfOk result (λ command. command ≡ command_by shape words.now) }
 {
-    if place.is_some() {
-        return false;
+    match shape {
+        Shape::Ilasm => ilasm(alloc, words),
     }
-    *place = Some(value);
-    true
+}
+
+/// What `ilasm` is asked for.
+fn ilasm(alloc: Global, words: &[Text]) -> Result<Command, NoMemory>
+    ensures { IfOk result (λ command. command ≡ command_by Shape.Ilasm words.now) }
+{
+    let output = output_among(alloc, words)?;
+    let file = Text::new(alloc, file_among(words))?;
+    Ok(Command::Ilasm {
+        file,
+        kind: kind_among(words),
+        output,
+    })
+}
+
+/// The first word of a kind, where there is one.
+fn first_of(slot: Slot, words: &[Text]) -> Option<&Text>
+    ensures { option_copied result ≡ first_of slot words.now }
+{
+    words.iter().find(|word| is_slot(slot, word.as_str()))
+}
+
+/// FILE.
+fn file_among(words: &[Text]) -> &str
+    ensures { result.now ≡ file_among words.now }
+{
+    match first_of(Slot::File, words) {
+        Some(word) => word.as_str(),
+        None => "",
+    }
+}
+
+/// The kind of the image: that of a program unless another is said.
+fn kind_among(words: &[Text]) -> Kind
+    ensures { result ≡ kind_among words.now }
+{
+    match first_of(Slot::Kind, words) {
+        Some(word) => {
+            if word.as_str() == "-dll" {
+                Kind::Dll
+            } else {
+                Kind::Exe
+            }
+        }
+        None => Kind::Exe,
+    }
+}
+
+/// The name of the output: NAME of `-output=NAME`, else FILE with another extension.
+fn output_among(alloc: Global, words: &[Text]) -> Result<Text, NoMemory>
+    ensures { IfOk result (λ name. name ≡ output_among words.now) }
+{
+    match first_of(Slot::Output, words) {
+        Some(word) => {
+            let name = Text::new(alloc, named(word.as_str()))?;
+            Ok(name)
+        }
+        None => {
+            let name = default_output(alloc, file_among(words), kind_among(words))?;
+            Ok(name)
+        }
+    }
+}
+
+/// NAME of a word `-output=NAME`.
+fn named(word: &str) -> &str
+    requires { bytes_eq (take 8 word.now) (codes "-output=") ≡ true }
+    ensures { result.now ≡ drop 8 word.now }
+{
+    match word.strip_prefix("-output=") {
+        Some(name) => name,
+        None => "",
+    }
+}
+
+/// The name of the output where none is asked for.
+fn default_output(alloc: Global, file: &str, kind: Kind) -> Result<Text, NoMemory>
+    ensures { IfOk result (λ name. name ≡ stem_of file.now ++ extension_of kind) }
+{
+    let mut name = Text::new(alloc, stem(file))?;
+    name.push_str(extension(kind))?;
+    Ok(name)
+}
+
+/// A name without its last `.il`.
+fn stem(name: &str) -> &str
+    ensures { result.now ≡ stem_of name.now }
+{
+    match name.strip_suffix(".il") {
+        Some(stem) => stem,
+        None => name,
+    }
+}
+
+/// The extension of an image of a kind.
+fn extension(kind: Kind) -> &'static str
+    ensures { result.now ≡ extension_of kind }
+{
+    match kind {
+        Kind::Exe => ".exe",
+        Kind::Dll => ".dll",
+    }
 }

@@ -6,7 +6,7 @@ use Rattle.assembly_tree.specs.Weight.{weight_of}
 use Rattle.assembly_tree.specs.declared.assembly.Assembly.{Assembly}
 use Rattle.image_writer.specs.declared.fault.WriteFault.{WriteFault}
 use Rattle.image_writer.specs.declared.fault.WriteFault.TheVariants.{TooLarge, StringsFull, NoMemory}
-use Rattle.il_tools.specs.Assembled.{Fits}
+use Rattle.assembly_tree.specs.Fits.{Fits}
 
 at_most : (limit n : ℕ) → (limit < n → ⊥) → n ≤ limit
 at_most limit n never = elim (cases_lt limit n) [ inl more ↦ absurd (never more) | inr fits ↦ fits ]

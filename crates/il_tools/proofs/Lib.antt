@@ -1,4 +1,2 @@
-pub mod AssembleLemmas
 pub mod FitsLemmas
-pub mod FrontLemmas
-pub mod OutcomeLemmas
+pub mod CommandLemmas

@@ -1,5 +1,6 @@
 -- What a source gives: an image, or a fault.
-use Rattle.std.specs.Prelude.{ℕ, ◌^◌, ◌<◌, ◌≤◌, ◌⊎◌, List, take}
+use Rattle.std.specs.Prelude.{ℕ, ◌^◌, ◌<◌, ◌≤◌, ◌⊎◌, List, length, take}
+use Rattle.assembly_tree.specs.Fits.{Fits}
 use Rattle.assembly_tree.specs.Room.{room as room_in}
 use Rattle.assembly_tree.specs.Weight.{weight_of}
 use Rattle.assembly_tree.specs.declared.assembly.Assembly.{Assembly}
@@ -10,25 +11,21 @@ use Rattle.sha2.specs.Sha256.{sha256}
 use Rattle.source_assembly.specs.Reading.{IsAssemblyOf, IsFaultOf}
 use Rattle.il_tools.specs.declared.fault.ContentFault.{ContentFault}
 use Rattle.il_tools.specs.declared.fault.ContentFault.TheVariants as content
-use Rattle.il_tools.specs.declared.fault.Fault.{Fault}
-use Rattle.il_tools.specs.declared.fault.Fault.TheVariants as fault
+use Rattle.il_tools.specs.declared.fault.ImageFault.{ImageFault}
+use Rattle.il_tools.specs.declared.fault.ImageFault.TheVariants as fault
 
 -- the identifier of a module: the front of the SHA-256 of its source
 abbrev pub identifier_of : List ℕ → List ℕ
 identifier_of source = take 16 (sha256 source)
 
--- an assembly fits into an image, and its texts have room for the tokens that load them (III.1.9)
-pub record Fits (a : Assembly) : Type 0 where
-  pub weight : weight_of a ≤ 2 ^ 26
-  pub room : room_in a ≤ 2 ^ 24
-
--- the image reads as the assembly that the source denotes, and is tidy
+-- the image reads as the assembly that the source denotes, is tidy, and has at most as many bytes as the assembly weighs
 pub record IsImageOf (source : List ℕ) (kind : Kind) (image : List ℕ) : Type 0 where
   pub meant : Assembly
   pub denoted : IsAssemblyOf source meant
   pub fits : Fits meant
   pub reads : Reads image meant
   pub tidy : IsTidy image kind (identifier_of source)
+  pub short : length image ≤ weight_of meant
 
 -- the source has this fault, or denotes an assembly that doesn't fit
 abbrev pub IsContentFault : List ℕ → ContentFault → Type 0
@@ -36,7 +33,6 @@ IsContentFault source (content.Source found) = IsFaultOf source found
 IsContentFault source content.TooLarge = (a : Assembly) × IsAssemblyOf source a × ((2 ^ 26 < weight_of a) ⊎ (2 ^ 24 < room_in a))
 
 -- the cause of a refusal of a source; want of memory has none
-abbrev pub IsRefused : List ℕ → Fault → Type 0
+abbrev pub IsRefused : List ℕ → ImageFault → Type 0
 IsRefused source (fault.Content found) = IsContentFault source found
 IsRefused source fault.NoMemory = Unit {0}
-IsRefused source _ = ⊥

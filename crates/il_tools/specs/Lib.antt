@@ -1,4 +1,3 @@
 pub mod Assembled
-pub mod Outcome
-pub mod Output
+pub mod Commands
 pub mod Texts

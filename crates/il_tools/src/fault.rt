@@ -12,25 +12,13 @@ pub(crate) enum ContentFault {
     TooLarge,
 }
 
-/// Why the program isn't done.
+/// Why there is no image.
 #[derive(Debug, Clone, Copy, PartialEq, Eq, Drop, Error)]
-pub(crate) enum Fault {
-    /// The words don't fit, from this word on.
-    #[error("usage fault")]
-    Usage(u32),
-    /// The source gives no image.
+pub(crate) enum ImageFault {
+    /// The source gives none.
     #[error("the source gives no image")]
     Content(ContentFault),
-    /// The input can't be read.
-    #[error("cannot be read")]
-    Unread,
-    /// The input is longer than the limit.
-    #[error("longer than the limit")]
-    TooLong,
-    /// The output can't be written.
-    #[error("cannot be written")]
-    Unwritten,
-    /// There is no memory.
+    /// There was no memory.
     #[error("no memory")]
     NoMemory,
 }

@@ -1,5 +1,6 @@
 //! `iltool`: tools for .NET's intermediate language. The words after the program's name, the real files and the
-//! real streams go to `il_tools::run_and_keep`; `--help` and `--version`, alone, are answered here.
+//! real streams go to `il_tools::run_and_keep`; `--help` and `--version`, alone, and `--help` alone behind a command are
+//! answered here.
 #![tactic(auto)]
 
 use il_base::{DiskShelf, NoMemory, StdConsole, Text, Words};
@@ -13,13 +14,38 @@ const HELP: &str = "\
 iltool: tools for .NET's intermediate language
 
   iltool ilasm FILE [-dll or -exe] [-output=NAME]
-                            assembles FILE to a program, or with -dll to a library, named NAME, or
-                            else as FILE with .exe or .dll in place of .il
+                            assembles FILE to a program, or with -dll to a library
+  iltool COMMAND --help     prints what a command does
   iltool --help             prints this text
   iltool --version          prints the version
 
-Status: 0 done, 1 fault in the source or too large an assembly, 2 usage fault, 3 FILE cannot be
-read, 4 output cannot be written, 5 FILE is too long, 6 no memory.
+Status: 0 done, 1 fault in the input, 2 usage fault, 3 a file cannot be read, 4 the output cannot be
+written, 5 a file is too long, 6 no memory.
+";
+
+const ILASM_HELP: &str = "\
+iltool ilasm FILE [-dll or -exe] [-output=NAME]
+
+Assembles the source FILE, in the language of ECMA-335, to a PE32 image. Options stand before or
+behind FILE, each at most once.
+
+  -exe            the image is a program (so it is where nothing is said)
+  -dll            the image is a library
+  -output=NAME    the image is named NAME, or else as FILE with .exe or .dll in place of .il
+
+Status, and what is said on standard error:
+  0   the image is written; nothing is said
+  1   FILE(LINE): error RULE: TEXT                  the first fault of the source
+      FILE: error Z1: the assembly is too large
+  2   usage fault at word K                         the first word that doesn't fit
+  3   FILE: cannot be read
+  4   the image or a message cannot be written; the image holds a front of its bytes, or wasn't begun
+  5   FILE: longer than 134217728 bytes
+  6   there is no memory
+After 1, 2, 3, 5 and 6 no file has changed.
+
+  iltool ilasm examples/hello.il
+  iltool ilasm -dll src/lib.il -output=build/Lib.dll
 ";
 
 const VERSION: &str = "iltool 0.1.0\n";
@@ -76,6 +102,9 @@ fn answer(rt: &HostRuntime, words: &Words) -> u8 {
     match words.as_slice() {
         [word] if word.as_str() == "--help" => printed(rt, HELP),
         [word] if word.as_str() == "--version" => printed(rt, VERSION),
+        [command, word] if command.as_str() == "ilasm" && word.as_str() == "--help" => {
+            printed(rt, ILASM_HELP)
+        }
         _ => {
             let mut shelf = DiskShelf::new(rt, rt.alloc());
             let mut console = StdConsole::new(rt.stdout(), rt.stderr());

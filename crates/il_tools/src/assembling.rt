@@ -1,0 +1,109 @@
+//! From a source to its image.
+ghost use Rattle.std.specs.Prelude.{◌≡◌, ℕ, ◌≤◌, ◌^◌, length, IsTrue, IfOk, IfErr};
+ghost use Rattle.assembly_tree.specs.WellFormed.{is_well_formed};
+ghost use Rattle.source_assembly.specs.Reading.{IsAssemblyOf};
+ghost use Rattle.il_tools.specs.Assembled.{identifier_of, IsImageOf, IsRefused};
+ghost use Rattle.il_tools.specs.Commands.{GivesImage, MeritsImage};
+ghost use Rattle.il_tools.specs.Texts.{content_text};
+ghost use Rattle.run_endings.specs.Ends.{says_only};
+
+use crate::fault::{ContentFault, ImageFault};
+use crate::kept::KeptTree;
+use crate::texts::content_message;
+use assembly_tree::Assembly;
+use il_base::{Bytes, NoMemory, Text};
+use image_writer::{WriteFault, write};
+use pe_layout::Kind;
+use run_endings::{Ending, Written, makes, says};
+use sha2::{Digest, Sha256};
+use source_assembly::{ReadFault, assembly_of, one_reading};
+use std::alloc::Global;
+
+/// What `ilasm` makes or says of the source `file`. Its tree goes to `kept`.
+pub(crate) fn assembled(
+    alloc: Global,
+    file: &str,
+    kind: Kind,
+    output: Text,
+    source: &[u8],
+    kept: &mut KeptTree,
+) -> Result<Ending, NoMemory>
+    requires { length source.now ≤ 2 ^ 27 }
+    ensures gives { IfOk result (GivesImage file.now kind output source.now) }
+    ensures merits { (m : ℕ) → MeritsImage source.now m → IfOk result (λ e. e.number ≡ m) }
+{
+    one_reading();
+    match image_of(alloc, source, kind, kept) {
+        Ok(image) => {
+            let ending = makes(alloc, output, Written::from_bytes(image))?;
+            Ok(ending)
+        }
+        Err(ImageFault::Content(fault)) => {
+            let ending = fault_said(alloc, file, fault)?;
+            Ok(ending)
+        }
+        Err(ImageFault::NoMemory) => Err(NoMemory),
+    }
+}
+
+/// The line for a source that gives no image.
+fn fault_said(alloc: Global, file: &str, fault: ContentFault) -> Result<Ending, NoMemory>
+    ensures { IfOk result (λ e. e ≡ says_only 1 (content_text file.now fault)) }
+{
+    let text = content_message(alloc, file, fault)?;
+    let ending = says(alloc, 1, text)?;
+    Ok(ending)
+}
+
+/// The image of a source, whose tree goes to `kept`.
+fn image_of(
+    alloc: Global,
+    source: &[u8],
+    kind: Kind,
+    kept: &mut KeptTree,
+) -> Result<Bytes, ImageFault>
+    requires { length source.now ≤ 2 ^ 27 }
+    ensures image { IfOk result (IsImageOf source.now kind) }
+    ensures fault { IfErr result (IsRefused source.now) }
+{
+    match assembly_of(alloc, source) {
+        Ok(assembly) => {
+            let image = image_of_assembly(alloc, source, &assembly, kind);
+            kept.keep(assembly);
+            image
+        }
+        Err(ReadFault::Faulty(fault)) => Err(ImageFault::Content(ContentFault::Source(fault))),
+        Err(ReadFault::NoMemory) => Err(ImageFault::NoMemory),
+    }
+}
+
+/// The image of the assembly that a source denotes. Its identifier is the front of the source's SHA-256.
+fn image_of_assembly(
+    alloc: Global,
+    source: &[u8],
+    assembly: &Assembly,
+    kind: Kind,
+) -> Result<Bytes, ImageFault>
+    requires denoted { IsAssemblyOf source.now assembly.now }
+    requires formed { IsTrue (is_well_formed assembly.now) }
+    ensures image { IfOk result (IsImageOf source.now kind) }
+    ensures fault { IfErr result (IsRefused source.now) }
+{
+    match write(alloc, assembly, identifier_of(source), kind) {
+        Ok(image) => Ok(image),
+        Err(WriteFault::TooLarge { .. } | WriteFault::StringsFull { .. }) => {
+            Err(ImageFault::Content(ContentFault::TooLarge))
+        }
+        Err(WriteFault::NoMemory) => Err(ImageFault::NoMemory),
+    }
+}
+
+/// The front of the source's SHA-256.
+fn identifier_of(source: &[u8]) -> [u8; 16]
+    ensures { result ≡ identifier_of source.now }
+{
+    let hash = Sha256::digest(source);
+    let mut id = [0u8; 16];
+    id.copy_from_slice(&hash[..16]);
+    id
+}
