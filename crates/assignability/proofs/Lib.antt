@@ -10,6 +10,7 @@ pub mod JoinIds
 pub mod JoinLemmas
 pub mod LeadLemmas
 pub mod LowHeights
+pub mod MeantLemmas
 pub mod Ordering
 pub mod PartLemmas
 pub mod Plain

@@ -4,6 +4,7 @@ pub mod Common
 pub mod Fields
 pub mod Joining
 pub mod Keys
+pub mod OwnTypes
 pub mod Parts
 pub mod Starts
 pub mod Staying

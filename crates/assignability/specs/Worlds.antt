@@ -1,5 +1,6 @@
 -- What building a world of an image and its references answers.
 use Rattle.std.specs.Prelude.{◌≡◌, ℕ, ◌+◌, ◌<◌, ◌≤◌, ◌^◌, ⊤, List, [], length, slice_get, Option, Some, IsTrue}
+use Rattle.std.specs.List.{All}
 use Rattle.type_terms.specs.declared.name.Scope.TheVariants.{Here}
 use Rattle.type_terms.specs.declared.name.TypeName.{TypeName}
 use Rattle.type_terms.specs.declared.term.SigType.{SigType}
@@ -16,7 +17,7 @@ use Rattle.type_hierarchy.specs.Names.{full_name}
 use Rattle.type_hierarchy.specs.Scopes.{Sources, Member, member_of}
 use Rattle.type_hierarchy.specs.Tables.{hierarchy_in}
 use Rattle.type_hierarchy.specs.Walks.{IsFirstBack}
-use Rattle.type_hierarchy.specs.World.{Content, hierarchy}
+use Rattle.type_hierarchy.specs.World.{Content, Stays, hierarchy}
 use Rattle.assignability.specs.declared.building.Read.{Read}
 use Rattle.assignability.specs.declared.building.WorldFault.{WorldFault}
 use Rattle.assignability.specs.declared.building.WorldFault.TheVariants.{Cyclic, NoMemory}
@@ -34,6 +35,15 @@ pub record IsWorldOf (s : Sources) (w : Content) : Type 0 where
   pub types : KnowsTypes s.image w.tables
   pub acyclic : IsAcyclic s
   pub grounded : (height : SigType → ℕ) × IsGrounded (hierarchy_of s) height × ((t : SigType) → height t ≤ length (all_declared s) + 4)
+
+-- the world of an image and its references, each of them fit, whatever it was asked since it was made
+pub record IsWorldSince (s : Sources) (w : Content) : Type 0 where
+  pub image : IsFit s.image
+  pub references : All IsFit s.references
+  pub few : length s.references ≤ 8
+  pub first : Content
+  pub made : IsWorldOf s first
+  pub stays : Stays first w
 
 -- the first type that is its own ancestor, by the number of its assembly and its name there
 pub record IsCyclicType (s : Sources) (assembly : ℕ) (at : TypeName) : Type 0 where

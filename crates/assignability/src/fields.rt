@@ -1,29 +1,115 @@
-//! The fields that the image declares, by the names of types as they are written.
-ghost use Rattle.std.specs.Prelude.{◌≡◌, ◌<◌, ◌++◌, ◌∷◌, [], List, Some, drop, length, slice_get, take};
+//! The types of the image by their names, and the fields of those that owners mean.
+ghost use Rattle.std.specs.Prelude.{◌≡◌, ◌<◌, ◌++◌, ◌∷◌, [], IfOk, List, Some, drop, length, slice_get, take};
 ghost use Rattle.std.specs.Option.{option_copied};
 ghost use Rattle.type_terms.specs.declared.name.Scope.TheVariants.{Here};
 ghost use Rattle.type_terms.specs.declared.name.TypeId.{TypeId};
-ghost use Rattle.assembly_tree.specs.DataSize.{named, type_at};
+ghost use Rattle.assembly_tree.specs.DataSize.{declared, named, type_at};
 ghost use Rattle.assembly_tree.specs.declared.assembly.Assembly.{Assembly};
-ghost use Rattle.assignability.specs.Fields.{fields_by_scope, fields_of, the_module};
+ghost use Rattle.assignability.specs.Fields.{fields_by_scope, fields_meant, fields_of, the_module};
+ghost use Rattle.assignability.specs.Keys.{reading_of};
+ghost use Rattle.type_hierarchy.specs.Ancestors.{name_in};
+ghost use Rattle.type_hierarchy.specs.Gathered.{scope_by};
 ghost use Rattle.type_hierarchy.specs.Indexed.{KnowsTypes, types_at};
-ghost use Rattle.type_hierarchy.specs.Names.{same_path};
+ghost use Rattle.type_hierarchy.specs.Names.{class_of, same_path};
+ghost use Rattle.type_hierarchy.specs.Normal.{normal};
+ghost use Rattle.type_hierarchy.specs.Tables.{hierarchy_in};
+ghost use Rattle.type_hierarchy.specs.World.{hierarchy};
 
 use crate::types::World;
 use assembly_tree::{Assembly, Field, TypeDef};
+use il_lists::NoMemory;
+use std::alloc::Global;
+use type_hierarchy::core_types::class_name;
 use type_hierarchy::tables::Tables;
-use type_terms::{Scope, TypeId, TypeName};
+use type_terms::{Owner, Prim, Scope, SigType, TypeId, TypeName};
 
-/// The fields of the type that has that name in the image `a` of the world, as it is written: none where the image
-/// declares no such type (ECMA-335 II.10, II.16). `<Module>` has those that stand outside types (II.10.8).
+/// The type that a name of the image has, as it is written: None where the scope isn't the image itself or the image `a` of
+/// the world declares no such type (ECMA-335 II.10).
 ///
 /// It takes no memory, and the time of a look-up by hash for each name in the path.
-pub fn fields_named<'a>(w: &World, a: &'a Assembly, owner: &TypeName) -> &'a [Field]
+pub fn type_named<'a>(w: &World, a: &'a Assembly, name: &TypeName) -> Option<&'a TypeDef>
     requires { KnowsTypes a.now w.now.tables }
-    ensures { result.now ≡ fields_of a.now (Some owner.now) }
+    ensures { option_copied result ≡ declared a.now name.now }
 {
-    match owner.scope {
-        Scope::Here => fields_here(&w.tables, a, owner.path.as_slice()),
+    match name.scope {
+        Scope::Here => type_of(&w.tables, a, name.path.as_slice()),
+        Scope::Extern(_) => None,
+    }
+}
+
+/// The fields of the type that an owner means, where the image `a` of the world declares it, and none elsewhere (ECMA-335
+/// II.10, II.16). The image's own name in brackets means the image, modifiers fall away, and a primitive type is its class
+/// in the core. `<Module>` has the fields that stand outside types (II.10.8).
+///
+/// It takes the time of a look-up by hash for each name in the path. NoMemory where there is no memory, which only a
+/// primitive type takes.
+#[tactic(auto, using(crate::proofs::MeantLemmas::owner_name), unfolding(type_hierarchy::specs::Tables::hierarchy_in))]
+pub fn fields_meant<'a>(
+    w: &World,
+    a: &'a Assembly,
+    owner: &Owner,
+) -> Result<&'a [Field], NoMemory>
+    requires { KnowsTypes a.now w.now.tables }
+    ensures { IfOk result (λ fields. fields.now ≡ fields_meant a.now (hierarchy w.now) owner.now) }
+{
+    match owner {
+        Owner::Name(name) => Ok(fields_named(&w.tables, a, name)),
+        Owner::Spec(of) => fields_of_type(w.alloc, &w.tables, a, of),
+    }
+}
+
+/// The fields of the type that a type means.
+fn fields_of_type<'a>(
+    alloc: Global,
+    tables: &Tables,
+    a: &'a Assembly,
+    of: &SigType,
+) -> Result<&'a [Field], NoMemory>
+    requires { KnowsTypes a.now tables.now }
+    ensures { IfOk result (λ fields. fields.now ≡ fields_of a.now (name_in (hierarchy_in tables.now) (normal (reading_of (hierarchy_in tables.now)) of.now))) }
+{
+    match of {
+        SigType::Class(name) => Ok(fields_named(tables, a, name)),
+        SigType::Value(name) => Ok(fields_named(tables, a, name)),
+        SigType::Inst { name, .. } => Ok(fields_named(tables, a, name.get())),
+        SigType::Prim(prim) => fields_of_primitive(alloc, tables, a, *prim),
+        SigType::Mod { of, .. } => fields_of_type(alloc, tables, a, of.get()),
+        SigType::Pinned(of) => fields_of_type(alloc, tables, a, of.get()),
+        SigType::Var(_) => Ok(&[]),
+        SigType::MVar(_) => Ok(&[]),
+        SigType::SzArray(_) => Ok(&[]),
+        SigType::Array { .. } => Ok(&[]),
+        SigType::ByRef(_) => Ok(&[]),
+        SigType::Pointer(_) => Ok(&[]),
+    }
+}
+
+/// The fields of the class of a primitive type, where the image is the core.
+fn fields_of_primitive<'a>(
+    alloc: Global,
+    tables: &Tables,
+    a: &'a Assembly,
+    prim: Prim,
+) -> Result<&'a [Field], NoMemory>
+    requires { KnowsTypes a.now tables.now }
+    ensures { IfOk result (λ fields. fields.now ≡ fields_by_scope a.now tables.now.values.core (class_of prim)) }
+{
+    match tables.values.core {
+        Scope::Extern(_) => Ok(&[]),
+        Scope::Here => {
+            let name = class_name(alloc, Scope::Here, prim)?;
+            Ok(fields_here(tables, a, name.path.as_slice()))
+        }
+    }
+}
+
+/// The fields of the type that a name means.
+fn fields_named<'a>(tables: &Tables, a: &'a Assembly, name: &TypeName) -> &'a [Field]
+    requires { KnowsTypes a.now tables.now }
+    ensures { result.now ≡ fields_by_scope a.now (scope_by tables.now.means name.now.scope) name.now.path }
+{
+    match tables.means.of(name.scope) {
+        Scope::Here => fields_here(tables, a, name.path.as_slice()),
         Scope::Extern(_) => &[],
     }
 }

@@ -1,7 +1,7 @@
 //! What is asked of a type by its key.
 ghost use Rattle.std.specs.Prelude.{◌≡◌, ◌<◌, length, IfOk};
 ghost use Rattle.sig_pool.specs.Pool.{HasAll};
-ghost use Rattle.type_hierarchy.specs.Hierarchy.{interfaces};
+ghost use Rattle.type_hierarchy.specs.Hierarchy.{interfaces, parent};
 ghost use Rattle.assignability.specs.Keys.{vector_element, is_value_name};
 ghost use Rattle.type_hierarchy.specs.Meaning.{meant, IsWithin, Means};
 ghost use Rattle.type_hierarchy.specs.Pooled.{HasOption};
@@ -16,6 +16,7 @@ use crate::types::World;
 use il_lists::{Items, NoMemory};
 use sig_pool::SigId;
 use std::alloc::Global;
+use type_hierarchy::kept::kept_parent;
 use type_hierarchy::stack_type::{StackType, TypeKey, TypeKeys};
 use type_terms::{Scope, SigType, TypeName};
 
@@ -85,6 +86,18 @@ fn key_at(id: Option<SigId>) -> Option<TypeKey>
         Some(id) => Some(TypeKey::new(id)),
         None => None,
     }
+}
+
+/// The key of the parent of the key's type (ECMA-335 I.8.9.9): None exactly for Object.
+///
+/// The key is one that this world gave. NoMemory where there is no memory.
+pub fn parent_key(w: &mut World, k: &TypeKey) -> Result<Option<TypeKey>, NoMemory>
+    requires { k.now < length w.old.nodes }
+    ensures ok { IfOk result (λ r. HasOption w.new.nodes r (parent (hierarchy w.old) (type_at w.old k.now))) }
+    ensures stays { Stays w.old w.new }
+{
+    let parent = kept_parent(w.alloc, &w.tables, &mut w.pool, &mut w.parents, k.id())?;
+    Ok(key_at(parent))
 }
 
 /// The keys of the interfaces that the declaration of the key's type lists (ECMA-335 II.12.2), in its order,

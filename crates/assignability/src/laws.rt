@@ -1,7 +1,12 @@
-ghost use Rattle.std.specs.Prelude.{ℕ};
+ghost use Rattle.std.specs.Prelude.{ℕ, ◌≤◌, List, length};
+ghost use Rattle.std.specs.List.{All};
 ghost use Rattle.type_terms.specs.declared.term.SigType.{SigType};
+ghost use Rattle.assembly_tree.specs.declared.assembly.Assembly.{Assembly};
 ghost use Rattle.type_hierarchy.specs.Hierarchy.{Hierarchy};
+ghost use Rattle.type_hierarchy.specs.Members.{sources};
+ghost use Rattle.type_hierarchy.specs.Scopes.{Sources};
 ghost use Rattle.assignability.specs.Staying.{KeepsKeys};
+ghost use Rattle.assignability.specs.Worlds.{IsFit, IsWorldOf, IsWorldSince};
 ghost use Rattle.type_hierarchy.specs.World.{Content, Stays};
 ghost use Rattle.type_hierarchy.specs.Laws.{IsGrounded, IsReflexive, IsTransitive, IsOrder, JoinLaws};
 
@@ -29,4 +34,11 @@ pub fn joins_are_least_upper_bounds()
 pub fn keys_keep_their_types()
     ensures keys { (old new : Content) → Stays old new → KeepsKeys old new }
     ensures onward { (a b c : Content) → Stays a b → Stays b c → Stays a c }
+{}
+
+/// A world that was made of fit assemblies is one of them since, whatever it is asked. It does nothing when it is called.
+#[tactic(auto, using(crate::proofs::StayLemmas::since_made, crate::proofs::StayLemmas::since_on))]
+pub fn worlds_go_on()
+    ensures made { (image : Assembly) (references : List Assembly) (w : Content) → IsFit image → All IsFit references → length references ≤ 8 → IsWorldOf (sources image references) w → IsWorldSince (sources image references) w }
+    ensures onward { (s : Sources) (old new : Content) → IsWorldSince s old → Stays old new → IsWorldSince s new }
 {}

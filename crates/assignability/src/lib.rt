@@ -23,11 +23,13 @@ mod written;
 
 pub use ancestry::parent;
 pub use building::{WorldFault, world};
-pub use fields::fields_named;
+pub use fields::{fields_meant, type_named};
 pub use keys::{
-    boxed_of, core_scope, element_of, interfaces_of, is_value, pointer_to, st_of, term_of,
+    boxed_of, core_scope, element_of, interfaces_of, is_value, parent_key, pointer_to, st_of, term_of,
 };
-pub use laws::{assignable_is_a_preorder, joins_are_least_upper_bounds, keys_keep_their_types};
+pub use laws::{
+    assignable_is_a_preorder, joins_are_least_upper_bounds, keys_keep_their_types, worlds_go_on,
+};
 pub use order::{assignable, join};
 pub use owners::{
     arguments_of, core_value, is_reference_key, owner_key, primitive_key, type_key, vector_of,

@@ -53,7 +53,7 @@ pub(crate) fn verdict(
         State::Unreached => Ok(None),
         State::Clash => Ok(Some(2)),
         State::Stack(stack) => {
-            let breaks = code_breaks(w, a, frame, code, clauses, marks, k);
+            let breaks = code_breaks(w, a, frame, code, clauses, marks, k)?;
             let does = operation_of(code[k as usize].op);
             let rule = judge(alloc, w, row, does, bound, stack, &breaks)?;
             Ok(rule)

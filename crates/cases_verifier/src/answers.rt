@@ -8,7 +8,7 @@ use crate::checks::show_methods;
 use crate::fault::Fault;
 use crate::most::Most;
 use crate::reading::{Linked, read_linked};
-use assignability::{WorldFault, world};
+use assignability::{WorldFault, world, worlds_go_on};
 use type_terms::TypeName;
 
 /// Prints a word, and what the checker says of the methods of the source that it names.
@@ -27,12 +27,12 @@ pub fn answer(rt: &HostRuntime, word: &str) -> Result<(), Fault> {
 }
 
 /// Prints the answers for an image and its references.
-#[tactic(auto, using(crate::proofs::Since::since))]
 fn show_world(rt: &HostRuntime, linked: &Linked, most: Most) -> Result<(), Fault>
     requires image { IsFit linked.now.image }
     requires references { All IsFit linked.now.references }
     requires few { length linked.now.references ≤ 8 }
 {
+    worlds_go_on();
     match world(rt.alloc(), &linked.image, &linked.references) {
         Ok(mut w) => show_methods(rt, linked, &mut w, most),
         Err(WorldFault::Cyclic { assembly, at }) => show_ring(rt, assembly, &at),

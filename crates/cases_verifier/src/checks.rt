@@ -3,7 +3,7 @@
 ghost use Rattle.std.specs.Prelude.{◌≡◌};
 ghost use Rattle.type_hierarchy.specs.Members.{sources};
 ghost use Rattle.type_hierarchy.specs.Scopes.{Sources};
-ghost use Rattle.body_verifier.specs.Checking.{IsWorldSince};
+ghost use Rattle.assignability.specs.Worlds.{IsWorldSince};
 
 use crate::fault::Fault;
 use crate::most::Most;

@@ -3,7 +3,8 @@ ghost use Rattle.std.specs.Prelude.{◌≡◌, [], ◌∷◌, ◌++◌, if◌the
 ghost use Rattle.assembly_tree.specs.declared.assembly.Assembly.{Assembly};
 ghost use Rattle.sig_pool.specs.Pool.{Has, HasAll};
 ghost use Rattle.type_hierarchy.specs.World.{hierarchy, Stays};
-ghost use Rattle.code_flow.specs.Frames.{type_in, types_in, variables, own_class, as_this, this_argument, frame};
+ghost use Rattle.assignability.specs.OwnTypes.{variables, own_class};
+ghost use Rattle.code_flow.specs.Frames.{type_in, types_in, as_this, this_argument, frame};
 ghost use Rattle.code_flow.specs.Methods.{Declared};
 ghost use Rattle.stack_effects.specs.RowMeanings.{MeansFrame, IsFrameWithin};
 
