@@ -13,7 +13,7 @@ use Rattle.code_flow.specs.declared.operation.Operation.TheVariants as does
 use Rattle.code_flow.specs.Frames.{Frame}
 use Rattle.body_verifier.specs.Judging.{Misfits, PointsToReference}
 use Rattle.body_verifier.specs.MemberTests.{HasOther, is_reference_there, addresses_reference}
-use Rattle.assignability.specs.Fields.{fields_meant}
+use Rattle.type_order.specs.Fields.{fields_meant}
 use Rattle.code_flow.specs.Methods.{is_static}
 use Rattle.code_flow.specs.Operations.{operation}
 use Rattle.stack_effects.specs.RowMeanings.{type_option, MeansFrame}

@@ -28,7 +28,7 @@ use Rattle.assembly_tree.specs.WellFormedMembers.{is_method}
 use Rattle.assembly_tree.specs.WellFormedTerms.{is_count}
 use Rattle.assembly_tree.specs.WellFormedTypes.{are_members, are_types, is_head, is_own, is_same_id}
 use Rattle.body_verifier.specs.Checking.{HasBody}
-use Rattle.assignability.specs.Fields.{the_module}
+use Rattle.type_order.specs.Fields.{the_module}
 use Rattle.code_flow.specs.Methods.{Declared, Nested, declared_in, inwards, method_at, method_by, method_of, nested_in, type_by_place}
 
 -- ---- weights of parts

@@ -6,7 +6,7 @@ ghost use Rattle.assembly_tree.specs.WellFormedBodies.{is_forward};
 ghost use Rattle.type_hierarchy.specs.Indexed.{KnowsTypes};
 ghost use Rattle.type_hierarchy.specs.Scopes.{Sources};
 ghost use Rattle.type_hierarchy.specs.World.{hierarchy, Stays};
-ghost use Rattle.assignability.specs.Worlds.{IsWorldSince};
+ghost use Rattle.type_order.specs.Worlds.{IsWorldSince};
 ghost use Rattle.code_flow.specs.BlockTests.{spans_of};
 ghost use Rattle.code_flow.specs.Blocks.{ClausesNest};
 ghost use Rattle.body_verifier.specs.Checking.{AreBroken, HasBody, IsFrameOf, IsReady, IsWholeRule, LeadsToBody, broken_at};
@@ -31,8 +31,6 @@ use crate::state::State;
 use crate::stated::stated_of;
 use crate::verdicts::verdict;
 use assembly_tree::{Assembly, Body, Method, MethodPath};
-use assignability::types::World;
-use assignability::{joins_are_least_upper_bounds, keys_keep_their_types};
 use code_flow::blocks::{Spans, all_spans, nest};
 use code_flow::goings::goings_of;
 use il_base::Steps;
@@ -41,6 +39,8 @@ use stack_effects::frame::CodeFrame;
 use stack_effects::framing::frame_of;
 use stack_effects::row::Row;
 use std::alloc::Global;
+use type_order::types::World;
+use type_order::{joins_are_least_upper_bounds, keys_keep_their_types};
 use type_terms::Path;
 
 /// Whether a body has locals without init.

@@ -11,7 +11,6 @@ use crate::code_marks::CodeMarks;
 use crate::judging::CodeBreaks;
 use crate::naming_rules::{misfits, points_to_reference};
 use assembly_tree::{Assembly, Ins};
-use assignability::types::World;
 use code_flow::blocks::Spans;
 use code_flow::code_rules::{
     branches_across, falls_across, is_misplaced, is_unverified, returns_inside, runs_off,
@@ -21,6 +20,7 @@ use code_flow::variable_rules::{lacks_argument, lacks_local};
 use il_lists::NoMemory;
 use stack_effects::frame::CodeFrame;
 use stack_effects::variables::variable_number;
+use type_order::types::World;
 
 /// What instruction `k` of a body breaks whatever the stack is.
 ///

@@ -14,14 +14,14 @@ ghost use Rattle.code_flow.specs.Rows.{variable};
 ghost use Rattle.code_flow.specs.Rules.{misfits_method, wants_static, MisfitsField, MisfitsMember};
 
 use assembly_tree::{Assembly, Field, Ins, Operand};
-use assignability::types::World;
-use assignability::{TypeKeys, fields_meant, id_of};
 use code_flow::operation::{Operation, operation_of};
 use il_lists::NoMemory;
 use stack_effects::frame::CodeFrame;
 use stack_effects::type_kinds::is_by_reference;
 use stack_effects::variables::variable_key;
 use std::cmp::Ordering;
+use type_order::types::World;
+use type_order::{TypeKeys, fields_meant, id_of};
 use type_terms::{FieldRef, MethodRef, SigType, compare_terms};
 
 /// Whether an instruction wants a static field, where it wants a field (ECMA-335 III.4.10 to III.4.30).

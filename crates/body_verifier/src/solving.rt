@@ -17,13 +17,13 @@ use crate::stack::Stack;
 use crate::state::{State, meet};
 use crate::stated::Stated;
 use crate::worklist::Worklist;
-use assignability::keys_keep_their_types;
-use assignability::types::World;
 use code_flow::goings::{Going, Goings};
 use il_base::Steps;
 use il_lists::{Items, NoMemory};
 use stack_effects::row::Row;
 use std::alloc::Global;
+use type_order::keys_keep_their_types;
+use type_order::types::World;
 
 /// What is known after an instruction with that row.
 fn state_after(alloc: Global, w: &mut World, row: &Row, state: &State) -> Result<State, NoMemory>

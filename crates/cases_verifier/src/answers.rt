@@ -2,7 +2,7 @@
 
 ghost use Rattle.std.specs.Prelude.{◌≤◌, length};
 ghost use Rattle.std.specs.List.{All};
-ghost use Rattle.assignability.specs.Worlds.{IsFit};
+ghost use Rattle.type_order.specs.Worlds.{IsFit};
 
 use crate::checks::show_methods;
 use crate::fault::Fault;

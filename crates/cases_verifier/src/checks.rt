@@ -1,18 +1,17 @@
 //! The methods of the class `T`, checked one after the other.
 
 ghost use Rattle.std.specs.Prelude.{◌≡◌};
-ghost use Rattle.type_hierarchy.specs.Members.{sources};
-ghost use Rattle.type_hierarchy.specs.Scopes.{Sources};
-ghost use Rattle.assignability.specs.Worlds.{IsWorldSince};
+ghost use Rattle.type_hierarchy.specs.Scopes.{sources, Sources};
+ghost use Rattle.type_order.specs.Worlds.{IsWorldSince};
 
 use crate::fault::Fault;
 use crate::most::Most;
 use crate::reading::Linked;
 use assembly_tree::{Assembly, Method, MethodPath, TypeDef};
 use assignability::keys_keep_their_types;
-use assignability::types::World;
 use body_verifier::{Failure, check_method, has_body};
 use il_base::{Items, Steps};
+use type_order::types::World;
 
 /// Prints each method of the class `T` with its failures.
 ///

@@ -9,10 +9,10 @@ use Rattle.assembly_tree.specs.declared.body.Body.{Body}
 use Rattle.assembly_tree.specs.declared.body.Clause.{Clause}
 use Rattle.assembly_tree.specs.declared.body.Ins.{Ins}
 use Rattle.sig_pool.specs.Replaced.{replaced}
-use Rattle.assignability.specs.Keys.{reading_of}
+use Rattle.type_order.specs.Keys.{reading_of}
 use Rattle.type_hierarchy.specs.Normal.{Reading, normal, normal_owner}
-use Rattle.assignability.specs.OwnTypes.{own_class}
-use Rattle.assignability.specs.Parts.{type_arguments}
+use Rattle.type_order.specs.OwnTypes.{own_class}
+use Rattle.type_order.specs.Parts.{type_arguments}
 use Rattle.type_hierarchy.specs.Hierarchy.{Hierarchy}
 use Rattle.type_hierarchy.specs.Stack.{is_reference}
 use Rattle.code_flow.specs.Methods.{Declared}

@@ -12,7 +12,7 @@ use Rattle.assembly_tree.specs.declared.typedef.TypeDef.TheOpen.{TypeDef-F}
 use Rattle.assembly_tree.specs.declared.typedef.TypeDef.TheFolds.{fold-TypeDef}
 use Rattle.assembly_tree.specs.declared.typedef.TypeDef.TheViews.{out-TypeDef}
 use Rattle.type_hierarchy.specs.Hierarchy.{Hierarchy}
-use Rattle.assignability.specs.Fields.{the_module, fields_meant}
+use Rattle.type_order.specs.Fields.{the_module, fields_meant}
 
 -- ---- a method by its place
 

@@ -2,7 +2,7 @@ use Rattle.std.proofs.Common.{sym, ◌∙◌, ap, subst, List}
 use Rattle.std.specs.Prelude.{◌↔◌, IsTrue}
 use Rattle.assembly_tree.specs.declared.members.Field.{Field}
 use Rattle.body_verifier.specs.MemberTests.{HasOther}
-use Rattle.assignability.specs.Fields.{fields_meant}
+use Rattle.type_order.specs.Fields.{fields_meant}
 use Rattle.body_verifier.proofs.MemberLemmas.{field_exact, no_field}
 use Rattle.body_verifier.proofs.naming_rules.misfits_declared.Goals as goal
 
