@@ -5,8 +5,10 @@
 #![tactic(auto)]
 
 mod checking;
+mod counting;
 mod laws;
 mod places;
 
 pub use checking::check_all;
+pub use counting::{Counts, counts};
 pub use laws::each_body_is_listed;

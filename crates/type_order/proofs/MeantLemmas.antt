@@ -1,5 +1,5 @@
 -- The names of the types that owners mean.
-use Rattle.std.proofs.Common.{◌≡◌, ◌∙◌, sym, ap, inl, inr, Bool, true, false, cond, List, [], ◌∷◌, Option, None, Some, if◌then◌else◌}
+use Rattle.std.proofs.Common.{◌≡◌, ◌∙◌, refl, sym, ap, inl, inr, ℕ, ℤ, Bool, true, false, cond, List, [], ◌∷◌, Option, None, Some, if◌then◌else◌}
 use Rattle.std.specs.List.{find}
 use Rattle.std.proofs.lemmas.Bool.{cases_Bool}
 use Rattle.std.proofs.lemmas.Option.{same_Some}
@@ -7,18 +7,17 @@ use Rattle.type_terms.specs.declared.name.Scope.{Scope}
 use Rattle.type_terms.specs.declared.name.TypeName.{TypeName}
 use Rattle.type_terms.specs.declared.term.Primitive.{Primitive}
 use Rattle.type_terms.specs.declared.term.Owner.{Owner}
+use Rattle.type_terms.specs.declared.term.Owner.TheOpen.{Owner-F}
 use Rattle.type_terms.specs.declared.term.Owner.TheVariants as owner
 use Rattle.type_terms.specs.declared.term.SigType.{SigType}
 use Rattle.type_terms.specs.declared.term.SigType.TheVariants as type
-use Rattle.type_terms.proofs.Layers.{fold-Class, fold-Inst, fold-Mod, fold-Pinned, fold-Prim, fold-Value}
-use Rattle.assembly_tree.specs.declared.assembly.Assembly.{Assembly}
-use Rattle.type_hierarchy.specs.Ancestors.{name_in}
+use Rattle.type_terms.proofs.Layers.{fold-Array, fold-ByRef, fold-Class, fold-Inst, fold-MVar, fold-Mod, fold-Pinned, fold-Pointer, fold-Prim, fold-SzArray, fold-Value, fold-Var}
+use Rattle.type_hierarchy.specs.Ancestors.{layer_name, name_in}
 use Rattle.type_hierarchy.specs.Hierarchy.{Hierarchy, core_name}
 use Rattle.type_hierarchy.specs.Names.{class_of, primitives, same_scope}
-use Rattle.type_hierarchy.specs.Normal.{has_class, meant, name_or_primitive, named_type, normal, normal_owner_step, normal_step, primitive_of}
+use Rattle.type_hierarchy.specs.Normal.{has_class, layer_normal_owner, meant, name_or_primitive, named_type, normal, normal_owner, normal_owner_step, normal_step, primitive_of}
 use Rattle.type_hierarchy.proofs.NamedTypes.{class_named, instance_named, prim_named, value_named}
 use Rattle.type_hierarchy.proofs.TableLemmas.{path_decides, scope_decides}
-use Rattle.type_order.specs.Fields.{fields_of}
 use Rattle.type_order.specs.Keys.{reading_of}
 
 -- ---- a name's type has that name
@@ -80,3 +79,67 @@ module _ (w : Hierarchy) where
   primitive_meant p =
       let r = reading_of w in
       ap (name_in w) (fold-Prim SigType SigType (normal_owner_step r) (normal_step r) p) ∙ prim_named w p
+
+  pub modified_meant : (required : Bool) (by : Owner) (of : SigType) → name_in w (normal (reading_of w) (type.Mod required by of)) ≡ name_in w (normal (reading_of w) of)
+  unfolding normal
+  modified_meant required by of =
+      let r = reading_of w in
+      ap (name_in w) (fold-Mod SigType SigType (normal_owner_step r) (normal_step r) required by of)
+
+  pub pinned_meant : (of : SigType) → name_in w (normal (reading_of w) (type.Pinned of)) ≡ name_in w (normal (reading_of w) of)
+  unfolding normal
+  pinned_meant of =
+      let r = reading_of w in
+      ap (name_in w) (fold-Pinned SigType SigType (normal_owner_step r) (normal_step r) of)
+
+  -- ---- of types without a name
+
+  pub variable_unnamed : (n : ℕ) → name_in w (normal (reading_of w) (type.Var n)) ≡ None
+  unfolding normal name_in
+  variable_unnamed n =
+      let r = reading_of w in
+      ap (name_in w) (fold-Var SigType SigType (normal_owner_step r) (normal_step r) n) ∙ ap (layer_name w) (type.outs-Var n)
+
+  pub method_variable_unnamed : (n : ℕ) → name_in w (normal (reading_of w) (type.MVar n)) ≡ None
+  unfolding normal name_in
+  method_variable_unnamed n =
+      let r = reading_of w in
+      ap (name_in w) (fold-MVar SigType SigType (normal_owner_step r) (normal_step r) n) ∙ ap (layer_name w) (type.outs-MVar n)
+
+  pub vector_unnamed : (of : SigType) → name_in w (normal (reading_of w) (type.SzArray of)) ≡ None
+  unfolding normal name_in
+  vector_unnamed of =
+      let r = reading_of w in
+      ap (name_in w) (fold-SzArray SigType SigType (normal_owner_step r) (normal_step r) of) ∙ ap (layer_name w) (type.outs-SzArray (normal r of))
+
+  pub array_unnamed : (of : SigType) (rank : ℕ) (sizes : List ℕ) (lower : List ℤ) → name_in w (normal (reading_of w) (type.Array of rank sizes lower)) ≡ None
+  unfolding normal name_in
+  array_unnamed of rank sizes lower =
+      let r = reading_of w in
+      ap (name_in w) (fold-Array SigType SigType (normal_owner_step r) (normal_step r) of rank sizes lower) ∙ ap (layer_name w) (type.outs-Array (normal r of) rank sizes lower)
+
+  pub by_reference_unnamed : (of : SigType) → name_in w (normal (reading_of w) (type.ByRef of)) ≡ None
+  unfolding normal name_in
+  by_reference_unnamed of =
+      let r = reading_of w in
+      ap (name_in w) (fold-ByRef SigType SigType (normal_owner_step r) (normal_step r) of) ∙ ap (layer_name w) (type.outs-ByRef (normal r of))
+
+  pub pointer_unnamed : (of : SigType) → name_in w (normal (reading_of w) (type.Pointer of)) ≡ None
+  unfolding normal name_in
+  pointer_unnamed of =
+      let r = reading_of w in
+      ap (name_in w) (fold-Pointer SigType SigType (normal_owner_step r) (normal_step r) of) ∙ ap (layer_name w) (type.outs-Pointer (normal r of))
+
+  -- ---- of owners
+
+  pub name_meant : (name : TypeName) → name_in w (normal_owner (reading_of w) (owner.Name name)) ≡ Some (meant (reading_of w) name)
+  unfolding normal_owner
+  name_meant name =
+      let r = reading_of w in
+      ap (λ (l : Owner-F Owner SigType). name_in w (layer_normal_owner r l)) (owner.outs-Name name) ∙ named_name (meant r name)
+
+  pub type_meant : (of : SigType) → name_in w (normal_owner (reading_of w) (owner.Spec of)) ≡ name_in w (normal (reading_of w) of)
+  unfolding normal_owner
+  type_meant of =
+      let r = reading_of w in
+      ap (λ (l : Owner-F Owner SigType). name_in w (layer_normal_owner r l)) (owner.outs-Spec of)

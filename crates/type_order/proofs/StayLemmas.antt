@@ -33,4 +33,11 @@ since_made image references w fit others few made = record {
 }
 
 pub since_on : (s : Sources) (old new : Content) → IsWorldSince s old → Stays old new → IsWorldSince s new
-since_on s old new h stays = record h { stays = stays_on h.first old new h.stays stays }
+since_on s old new h stays = record {
+  image = h.image;
+  references = h.references;
+  few = h.few;
+  first = h.first;
+  made = h.made;
+  stays = stays_on h.first old new h.stays stays;
+}

@@ -43,14 +43,26 @@ pub fn type_named<'a>(w: &World, a: &'a Assembly, name: &TypeName) -> Option<&'a
 ///
 /// It takes the time of a look-up by hash for each name in the path. NoMemory where there is no memory, which only a
 /// primitive type takes.
-#[tactic(auto, using(crate::proofs::MeantLemmas::owner_name), unfolding(type_hierarchy::specs::Tables::hierarchy_in))]
 pub fn fields_meant<'a>(w: &World, a: &'a Assembly, owner: &Owner) -> Result<&'a [Field], NoMemory>
     requires { KnowsTypes a.now w.now.tables }
     ensures { IfOk result (λ fields. fields.now ≡ fields_meant a.now (hierarchy w.now) owner.now) }
 {
+    fields_of_owner(w.alloc, &w.tables, a, owner)
+}
+
+/// The fields of the type that an owner means.
+fn fields_of_owner<'a>(
+    alloc: Global,
+    tables: &Tables,
+    a: &'a Assembly,
+    owner: &Owner,
+) -> Result<&'a [Field], NoMemory>
+    requires { KnowsTypes a.now tables.now }
+    ensures { IfOk result (λ fields. fields.now ≡ fields_meant a.now (hierarchy_in tables.now) owner.now) }
+{
     match owner {
-        Owner::Name(name) => Ok(fields_named(&w.tables, a, name)),
-        Owner::Spec(of) => fields_of_type(w.alloc, &w.tables, a, of),
+        Owner::Name(name) => Ok(fields_named(tables, a, name)),
+        Owner::Spec(of) => fields_of_type(alloc, tables, a, of),
     }
 }
 

@@ -1,0 +1,6 @@
+use Rattle.std.proofs.Common.{◌≡◌, ◌++◌, take}
+use Rattle.all_bodies.specs.Places.{places_from}
+use Rattle.all_bodies.proofs.places.+add_types.Given as goal
+
+abbrev pub invariant-loop-k : goal.invariant-loop-k
+invariant-loop-k l = l.into ≡ l.initial.into ++ places_from l.outer 0 (take l.k l.types)
