@@ -4,7 +4,7 @@ use Rattle.std.specs.Prelude.{slice_get}
 use Rattle.std.specs.List.{flat_map, enumerate_from, sum_by}
 use Rattle.std.proofs.lemmas.Grind.{flat_map-append}
 use Rattle.std.proofs.lemmas.List.{append_assoc, append-nil, length-take-le, take_more}
-use Rattle.std.proofs.lemmas.List.Sums.{get_or-le-sum_by, sum-map}
+use Rattle.std.proofs.lemmas.List.Sums.{get_or-le-sum_by, sum-map, sum_by-append}
 use Rattle.assembly_tree.specs.declared.assembly.Assembly.{Assembly}
 use Rattle.assembly_tree.specs.declared.members.Method.{Method}
 use Rattle.assembly_tree.specs.declared.typedef.MethodPath.{MethodPath}
@@ -112,3 +112,10 @@ types_light a = omega arith
 pub methods_few : (a : Assembly) → length a.methods ≤ weight_of a
 unfolding weight_of
 methods_few a = let low = count_low method_weight a.methods method_heavy in omega arith
+
+-- ---- sums
+
+pub sum_more : {X : Type 0} (f : X → ℕ) (xs : List X) (k : ℕ) (x : X) → k < length xs → x ≡ get_or xs k x → sum_by f (take (k + 1) xs) ≡ sum_by f (take k xs) + f x
+sum_more {X} f xs k x low is =
+    let one : sum_by f (x ∷ []) ≡ f x = omega arith in
+    ap (sum_by f) (take_more xs k x low ∙ ap (λ (y : X). take k xs ++ y ∷ []) (sym is)) ∙ sum_by-append f (take k xs) (x ∷ []) ∙ ap (λ (n : ℕ). sum_by f (take k xs) + n) one
