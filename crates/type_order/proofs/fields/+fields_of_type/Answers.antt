@@ -1,9 +1,10 @@
-use Rattle.std.proofs.Common.{◌≡◌, ◌∙◌, ap, sym, subst, List}
+use Rattle.std.proofs.Common.{Some, ◌≡◌, ◌∙◌, ap, sym, subst, List}
 use Rattle.std.specs.Prelude.{IfOk}
+use Rattle.type_terms.specs.declared.name.TypeName.{TypeName}
 use Rattle.type_terms.specs.declared.term.SigType.{SigType}
 use Rattle.assembly_tree.specs.declared.members.Field.{Field}
 use Rattle.type_hierarchy.specs.Ancestors.{name_in}
-use Rattle.type_hierarchy.specs.Normal.{normal}
+use Rattle.type_hierarchy.specs.Normal.{meant, normal}
 use Rattle.type_hierarchy.specs.Tables.{hierarchy_in}
 use Rattle.type_order.specs.Fields.{fields_of}
 use Rattle.type_order.specs.Keys.{reading_of}
@@ -29,7 +30,9 @@ unfolding hierarchy_in
 returns-in-Inst t c =
     let w = hierarchy_in c.args.tables.now in
     let a = c.args.a.now in
-    c.fields_named-in-Inst.ensures ∙ sym (ap (λ (x : SigType). fields_of a (name_in w (normal (reading_of w) x))) c.in-Inst.is ∙ ap (fields_of a) (instance_meant w _ _ _))
+    let by_name = λ (n : TypeName). fields_of a (Some (meant (reading_of w) n)) in
+    c.fields_named-in-Inst.ensures ∙ ap by_name c.get.ensures
+    ∙ sym (ap (λ (x : SigType). fields_of a (name_in w (normal (reading_of w) x))) c.in-Inst.is ∙ ap (fields_of a) (instance_meant w _ c.in-Inst.name _))
 
 pub returns-in-Prim : goal.returns-in-Prim
 unfolding hierarchy_in
@@ -43,15 +46,17 @@ pub returns-in-Mod : goal.returns-in-Mod
 returns-in-Mod t c =
     let w = hierarchy_in c.args.tables.now in
     let a = c.args.a.now in
+    let F = λ (x : SigType). fields_of a (name_in w (normal (reading_of w) x)) in
     let P : List Field → Type 0 = λ (l : List Field). IfOk c.fields_of_type.result (λ fields. fields.now ≡ l) in
-    subst P (sym (ap (λ (x : SigType). fields_of a (name_in w (normal (reading_of w) x))) c.in-Mod.is ∙ ap (fields_of a) (modified_meant w _ _ c.in-Mod.of.now))) c.fields_of_type.ensures
+    subst P (ap F c.get-in-Mod.ensures ∙ sym (ap F c.in-Mod.is ∙ ap (fields_of a) (modified_meant w _ _ c.in-Mod.of))) c.fields_of_type.ensures
 
 pub returns-in-Pinned : goal.returns-in-Pinned
 returns-in-Pinned t c =
     let w = hierarchy_in c.args.tables.now in
     let a = c.args.a.now in
+    let F = λ (x : SigType). fields_of a (name_in w (normal (reading_of w) x)) in
     let P : List Field → Type 0 = λ (l : List Field). IfOk c.fields_of_type-in-Pinned.result (λ fields. fields.now ≡ l) in
-    subst P (sym (ap (λ (x : SigType). fields_of a (name_in w (normal (reading_of w) x))) c.in-Pinned.is ∙ ap (fields_of a) (pinned_meant w c.in-Pinned.of.now))) c.fields_of_type-in-Pinned.ensures
+    subst P (ap F c.get-in-Pinned.ensures ∙ sym (ap F c.in-Pinned.is ∙ ap (fields_of a) (pinned_meant w c.in-Pinned.of))) c.fields_of_type-in-Pinned.ensures
 
 pub returns-in-Var : goal.returns-in-Var
 returns-in-Var t c =
