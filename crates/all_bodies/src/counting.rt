@@ -88,10 +88,20 @@ fn bodies_of(methods: &[Method]) -> u64
 {
     let mut count = 0;
     for method in methods {
-        let own = if method.body.is_some() { 1 } else { 0 };
+        let own = body_count(&method.body);
         count += own;
     }
     count
+}
+
+/// 1 where there is a body, and else 0.
+fn body_count(body: &Option<Body>) -> u64
+    ensures { result ≡ bodies body.now }
+{
+    match body {
+        Some(_) => 1,
+        None => 0,
+    }
 }
 
 /// The number of instructions in the bodies of these methods.

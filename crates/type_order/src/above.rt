@@ -85,6 +85,61 @@ pub fn is_above(
     ensures extends { Extends pool.old pool.new }
     ensures known { KnowsParents (hierarchy_in tables.now) pool.new parents.new }
 {
+    let met = is_met(alloc, tables, pool, parents, a, b)?;
+    if met {
+        return Ok(true);
+    }
+    is_above_by_walk(alloc, tables, pool, parents, a, b)
+}
+
+/// Whether the type of `b` is met on the way up from that of `a` by parents alone, which takes no memory where they are known.
+/// One that isn't met may lie above all the same, as an interface does.
+fn is_met(
+    alloc: Global,
+    tables: &Tables,
+    pool: &mut SigPool,
+    parents: &mut Parents,
+    a: SigId,
+    b: SigId,
+) -> Result<bool, NoMemory>
+    requires tables { length tables.now.names ≡ length tables.now.entries }
+    requires a { a < length pool.old }
+    requires b { b < length pool.old }
+    requires known { KnowsParents (hierarchy_in tables.now) pool.old parents.old }
+    ensures ok { IfOk result (λ r. IsTrue r → Up (hierarchy_in tables.now) (term_of pool.old a) (term_of pool.old b)) }
+    ensures extends { Extends pool.old pool.new }
+    ensures known { KnowsParents (hierarchy_in tables.now) pool.new parents.new }
+{
+    let mut at = a;
+    'climb: for _ in 0..u64::MAX {
+        if pool.same(at, b) {
+            return Ok(true);
+        }
+        match kept_parent(alloc, tables, pool, parents, at)? {
+            Some(parent) => at = parent,
+            None => return Ok(false),
+        }
+    }
+    Ok(false)
+}
+
+/// The same by a walk to all that lies above that of `a`.
+fn is_above_by_walk(
+    alloc: Global,
+    tables: &Tables,
+    pool: &mut SigPool,
+    parents: &mut Parents,
+    a: SigId,
+    b: SigId,
+) -> Result<bool, NoMemory>
+    requires tables { length tables.now.names ≡ length tables.now.entries }
+    requires a { a < length pool.old }
+    requires b { b < length pool.old }
+    requires known { KnowsParents (hierarchy_in tables.now) pool.old parents.old }
+    ensures ok { IfOk result (λ r. IsTrue r ↔ Up (hierarchy_in tables.now) (term_of pool.old a) (term_of pool.old b)) }
+    ensures extends { Extends pool.old pool.new }
+    ensures known { KnowsParents (hierarchy_in tables.now) pool.new parents.new }
+{
     let mut queue = Queue::new(alloc);
     queue.add(a)?;
     is_above_some(alloc, tables, pool, parents, &mut queue, b)
