@@ -11,5 +11,5 @@ invariant-climb l = record {
   at : l.at < length l.pool;
   extends : Extends l.initial.pool l.pool;
   known : KnowsParents (hierarchy_in l.tables) l.pool l.parents;
-  up : Up (hierarchy_in l.tables) (term_of l.initial.pool l.a) (term_of l.pool l.at);
+  up : Up (hierarchy_in l.tables) (term_of l.initial.pool l.fn.a) (term_of l.pool l.at);
 }
