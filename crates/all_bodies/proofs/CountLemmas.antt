@@ -12,9 +12,10 @@ use Rattle.assembly_tree.specs.declared.typedef.MethodPath.{MethodPath}
 use Rattle.assembly_tree.specs.declared.typedef.TypeDef.{TypeDef}
 use Rattle.assembly_tree.specs.declared.typedef.TypeDef.TheFolds.{fold_out-TypeDef}
 use Rattle.assembly_tree.specs.declared.typedef.TypeDef.TheViews.{out-TypeDef}
+use Rattle.assembly_tree.specs.Nesting.{types_in, types_step}
 use Rattle.assembly_tree.specs.Weight.{body_weight, instruction_weight, method_weight, optional, own_weight, typedef_step, typedef_weight, weight_of}
 use Rattle.code_flow.specs.Methods.{all_methods, places_in, with_body}
-use Rattle.all_bodies.specs.Counts.{bodies, bodies_in, body_count, body_step, class_count, class_step, classes_in, instruction_count, instruction_step, instructions, instructions_in}
+use Rattle.all_bodies.specs.Counts.{bodies, bodies_in, body_count, body_step, instruction_step, instructions, instructions_in}
 use Rattle.all_bodies.specs.Places.{places_from, places_of}
 use Rattle.all_bodies.proofs.PlaceLemmas.{all_out, places_out, type_heavy}
 
@@ -26,8 +27,8 @@ with_code m = instructions m.body
 
 -- ---- a type and those that it nests
 
-pub classes_out : (t : TypeDef) → classes_in t ≡ 1 + sum_by classes_in (out-TypeDef t).nested
-classes_out t = fold_out-TypeDef ℕ class_step t ∙ ap (λ (n : ℕ). 1 + n) (sum-map classes_in (out-TypeDef t).nested)
+pub classes_out : (t : TypeDef) → types_in t ≡ 1 + sum_by types_in (out-TypeDef t).nested
+classes_out t = fold_out-TypeDef ℕ types_step t ∙ ap (λ (n : ℕ). 1 + n) (sum-map types_in (out-TypeDef t).nested)
 
 pub bodies_out : (t : TypeDef) → bodies_in t ≡ sum_by with_bodies (out-TypeDef t).methods + sum_by bodies_in (out-TypeDef t).nested
 bodies_out t = fold_out-TypeDef ℕ body_step t ∙ ap (λ (n : ℕ). sum_by with_bodies (out-TypeDef t).methods + n) (sum-map bodies_in (out-TypeDef t).nested)
@@ -75,7 +76,7 @@ bodies_low ms = sum_by-le-sum_by with_bodies method_weight ms bodies_light
 pub code_low : (ms : List Method) → sum_by with_code ms ≤ sum_by method_weight ms
 code_low ms = sum_by-le-sum_by with_code method_weight ms code_light
 
-classes_below : (n : ℕ) (ts : List TypeDef) → sum_by typedef_weight ts ≤ n → sum_by classes_in ts ≤ sum_by typedef_weight ts
+classes_below : (n : ℕ) (ts : List TypeDef) → sum_by typedef_weight ts ≤ n → sum_by types_in ts ≤ sum_by typedef_weight ts
 classes_below n [] h = omega arith
 classes_below zero (t ∷ ts) h = let heavy = type_heavy t in absurd (omega arith)
 classes_below (suc n) (t ∷ ts) h =
@@ -107,7 +108,7 @@ instructions_below (suc n) (t ∷ ts) h =
     let out = instructions_out t in
     omega arith
 
-pub classes_low : (ts : List TypeDef) → sum_by classes_in ts ≤ sum_by typedef_weight ts
+pub classes_low : (ts : List TypeDef) → sum_by types_in ts ≤ sum_by typedef_weight ts
 classes_low ts = classes_below (sum_by typedef_weight ts) ts (omega arith)
 
 pub bodies_among_low : (ts : List TypeDef) → sum_by bodies_in ts ≤ sum_by typedef_weight ts

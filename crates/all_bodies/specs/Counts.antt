@@ -6,6 +6,7 @@ use Rattle.assembly_tree.specs.declared.members.Method.{Method}
 use Rattle.assembly_tree.specs.declared.typedef.TypeDef.{TypeDef}
 use Rattle.assembly_tree.specs.declared.typedef.TypeDef.TheOpen.{TypeDef-F}
 use Rattle.assembly_tree.specs.declared.typedef.TypeDef.TheFolds.{fold-TypeDef}
+use Rattle.assembly_tree.specs.Nesting.{types_in}
 
 abbrev pub bodies : Option Body → ℕ
 bodies None = 0
@@ -15,18 +16,13 @@ abbrev pub instructions : Option Body → ℕ
 instructions None = 0
 instructions (Some b) = length b.code
 
--- a type counts, and those that it nests
-abbrev pub class_step : TypeDef-F ℕ → ℕ
-class_step t = 1 + sum t.nested
+-- ---- a type and those that it nests
 
 abbrev pub body_step : TypeDef-F ℕ → ℕ
 body_step t = sum_by (λ (m : Method). bodies m.body) t.methods + sum t.nested
 
 abbrev pub instruction_step : TypeDef-F ℕ → ℕ
 instruction_step t = sum_by (λ (m : Method). instructions m.body) t.methods + sum t.nested
-
-abbrev pub classes_in : TypeDef → ℕ
-classes_in t = fold-TypeDef ℕ class_step t
 
 abbrev pub bodies_in : TypeDef → ℕ
 bodies_in t = fold-TypeDef ℕ body_step t
@@ -36,7 +32,7 @@ instructions_in t = fold-TypeDef ℕ instruction_step t
 
 -- the types of an assembly, the methods with a body, and the instructions in their bodies
 abbrev pub class_count : Assembly → ℕ
-class_count a = sum_by classes_in a.types
+class_count a = sum_by types_in a.types
 
 abbrev pub body_count : Assembly → ℕ
 body_count a = sum_by (λ (m : Method). bodies m.body) a.methods + sum_by bodies_in a.types

@@ -1,10 +1,11 @@
 //! How much an assembly declares.
 ghost use Rattle.std.specs.Prelude.{◌≡◌, ◌≤◌, ◌^◌, length};
 ghost use Rattle.std.specs.List.{sum_by};
+ghost use Rattle.assembly_tree.specs.Nesting.{types_in};
 ghost use Rattle.assembly_tree.specs.Weight.{method_weight, typedef_weight, weight_of};
 ghost use Rattle.assembly_tree.specs.declared.members.Method.{Method as TheMethod};
 ghost use Rattle.code_flow.specs.Methods.{all_methods};
-ghost use Rattle.all_bodies.specs.Counts.{bodies, bodies_in, class_count, classes_in, instruction_count, instructions, instructions_in};
+ghost use Rattle.all_bodies.specs.Counts.{bodies, bodies_in, class_count, instruction_count, instructions, instructions_in};
 
 use assembly_tree::{Assembly, Body, Method, TypeDef};
 
@@ -43,11 +44,12 @@ pub fn counts(a: &Assembly) -> Counts
 /// The number of these types and of those that they nest.
 fn classes_among(types: &[TypeDef]) -> u64
     requires { sum_by typedef_weight types.now ≤ 2 ^ 26 }
-    ensures { result ≡ sum_by classes_in types.now }
+    ensures { result ≡ sum_by types_in types.now }
 {
     let mut count = 0;
     for of in types {
-        let inside = classes_among(of.nested.as_slice());
+        let nested = of.nested.as_slice();
+        let inside = classes_among(nested);
         count += 1 + inside;
     }
     count
@@ -60,8 +62,10 @@ fn bodies_among(types: &[TypeDef]) -> u64
 {
     let mut count = 0;
     for of in types {
-        let own = bodies_of(of.methods.as_slice());
-        let inside = bodies_among(of.nested.as_slice());
+        let methods = of.methods.as_slice();
+        let nested = of.nested.as_slice();
+        let own = bodies_of(methods);
+        let inside = bodies_among(nested);
         count += own + inside;
     }
     count
@@ -74,8 +78,10 @@ fn instructions_among(types: &[TypeDef]) -> u64
 {
     let mut count = 0;
     for of in types {
-        let own = instructions_of(of.methods.as_slice());
-        let inside = instructions_among(of.nested.as_slice());
+        let methods = of.methods.as_slice();
+        let nested = of.nested.as_slice();
+        let own = instructions_of(methods);
+        let inside = instructions_among(nested);
         count += own + inside;
     }
     count

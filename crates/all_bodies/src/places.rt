@@ -15,8 +15,10 @@ pub(crate) fn all_places(alloc: Global, a: &Assembly) -> Result<Items<MethodPath
     ensures { IfOk result (λ paths. paths ≡ all_methods a.now) }
 {
     let mut into = Items::new(alloc);
-    add_methods(alloc, &[], a.methods.as_slice(), &mut into)?;
-    add_types(alloc, &[], a.types.as_slice(), &mut into)?;
+    let methods = a.methods.as_slice();
+    let types = a.types.as_slice();
+    add_methods(alloc, &[], methods, &mut into)?;
+    add_types(alloc, &[], types, &mut into)?;
     Ok(into)
 }
 
@@ -33,8 +35,11 @@ fn add_types(
 {
     for (k, of) in types.iter().enumerate() {
         let places = place_in(alloc, outer, k as u32)?;
-        add_methods(alloc, places.as_slice(), of.methods.as_slice(), into)?;
-        add_types(alloc, places.as_slice(), of.nested.as_slice(), into)?;
+        let place = places.as_slice();
+        let methods = of.methods.as_slice();
+        let nested = of.nested.as_slice();
+        add_methods(alloc, place, methods, into)?;
+        add_types(alloc, place, nested, into)?;
     }
     Ok(())
 }

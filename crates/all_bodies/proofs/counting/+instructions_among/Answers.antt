@@ -15,7 +15,7 @@ instructions_of-own-requires t c =
     let low : c.loop-of.of-index < length ts = search rules in
     let part = type_in ts c.loop-of.of-index of low c.of-item.is in
     let heavy = methods_in_weight of in
-    let same = ap (sum_by method_weight) c.as_slice.ensures in
+    let same = ap (sum_by method_weight) c.as_slice-methods.ensures in
     omega (arith, part, heavy, same)
 
 pub instructions_among-inside-requires : goal.instructions_among-inside-requires
@@ -25,8 +25,9 @@ instructions_among-inside-requires t c =
     let low : c.loop-of.of-index < length ts = search rules in
     let part = type_in ts c.loop-of.of-index of low c.of-item.is in
     let heavy = type_heavy of in
-    let same = ap (sum_by typedef_weight) c.as_slice-2.ensures in
-    omega (arith, part, heavy, same)
+    let same = ap (sum_by typedef_weight) c.as_slice-nested.ensures in
+    let down = c.decreases in
+    (omega (arith, part, heavy, same), omega (arith, part, heavy, same))
 
 pub overflow_add-count : goal.overflow_add-count
 overflow_add-count t c =
@@ -36,8 +37,8 @@ overflow_add-count t c =
     let low : k < length ts = search rules in
     let more = sum_more instructions_in ts k of low c.of-item.is in
     let out = instructions_out of in
-    let inside = c.instructions_among-inside.ensures ∙ ap (sum_by instructions_in) c.as_slice-2.ensures in
-    let own = c.instructions_of-own.ensures ∙ ap (sum_by with_code) c.as_slice.ensures in
+    let inside = c.instructions_among-inside.ensures ∙ ap (sum_by instructions_in) c.as_slice-nested.ensures in
+    let own = c.instructions_of-own.ensures ∙ ap (sum_by with_code) c.as_slice-methods.ensures in
     let some = sum_by-take-le instructions_in ts (k + 1) in
     let all = instructions_low ts in
     omega (arith, more, out, inside, own, some, all)
@@ -50,8 +51,8 @@ loop-of-preserved t c =
     let low : k < length ts = search rules in
     let more = sum_more instructions_in ts k of low c.of-item.is in
     let out = instructions_out of in
-    let inside = c.instructions_among-inside.ensures ∙ ap (sum_by instructions_in) c.as_slice-2.ensures in
-    let own = c.instructions_of-own.ensures ∙ ap (sum_by with_code) c.as_slice.ensures in
+    let inside = c.instructions_among-inside.ensures ∙ ap (sum_by instructions_in) c.as_slice-nested.ensures in
+    let own = c.instructions_of-own.ensures ∙ ap (sum_by with_code) c.as_slice-methods.ensures in
     omega (arith, more, out, inside, own)
 
 pub returns : goal.returns
