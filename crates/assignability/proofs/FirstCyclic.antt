@@ -10,14 +10,14 @@ use Rattle.type_hierarchy.specs.Ancestors.{Declared, all_declared, declared_name
 use Rattle.type_hierarchy.specs.Declarations.{hierarchy_of}
 use Rattle.type_hierarchy.specs.Distinct.{AreOnce}
 use Rattle.type_hierarchy.specs.Hierarchy.{Declaration}
-use Rattle.type_hierarchy.specs.Landings.{AreSteps, IsListed, LeapsTo}
+use Rattle.type_tables.specs.Landings.{AreSteps, IsListed, LeapsTo}
 use Rattle.type_hierarchy.specs.Laws.{IsGrounded}
 use Rattle.type_hierarchy.specs.Names.{same_name}
 use Rattle.type_hierarchy.specs.Scopes.{Sources}
-use Rattle.type_hierarchy.specs.Walks.{IsFirstBack}
+use Rattle.type_tables.specs.Walks.{IsFirstBack}
 use Rattle.assignability.proofs.DeclaredNames.{all_length, first_of, has_each, once_all, once_none}
 use Rattle.assignability.proofs.LowHeights.{low_bound, low_grounded, low_height}
-use Rattle.type_hierarchy.proofs.LandingLemmas.{some_none, some_same}
+use Rattle.type_tables.proofs.LandingLemmas.{some_none, some_same}
 use Rattle.assignability.proofs.LeadLemmas.{names_lead, places_lead}
 use Rattle.assignability.proofs.Plain.{are_plain}
 use Rattle.type_hierarchy.proofs.TableLemmas.{name_decides}

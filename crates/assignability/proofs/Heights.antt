@@ -13,9 +13,9 @@ use Rattle.sig_pool.specs.Replaced.{replaced, owner_replaced, replace_step}
 use Rattle.type_hierarchy.specs.Names.{class_of, is_integral, the_array, the_object, same_path}
 use Rattle.type_hierarchy.specs.Ancestors.{Step, to_base, name_in, layer_name}
 use Rattle.type_hierarchy.specs.Hierarchy.{Hierarchy, Declaration, object, core_name, named, named_by, chained, chain_parent, name_parent, instance_parent, primitive_parent, layer_parent, parent, declared_interfaces, layer_interfaces, interfaces, layer_elements, elements, declared_underlying, instance_underlying, layer_underlying, underlying}
-use Rattle.type_hierarchy.specs.Landings.{IsListed, here, along, LandsAt, LeapsTo}
+use Rattle.type_tables.specs.Landings.{IsListed, here, along, LandsAt, LeapsTo}
 use Rattle.type_hierarchy.specs.Laws.{IsGrounded}
-use Rattle.type_hierarchy.proofs.LandingLemmas.{some_none, some_same, chain_ends}
+use Rattle.type_tables.proofs.LandingLemmas.{some_none, some_same, chain_ends}
 
 abbrev Layer : Type 0
 Layer = SigType-F Owner SigType

@@ -5,9 +5,9 @@ use Rattle.std.proofs.lemmas.Option.{slice_get_within}
 use Rattle.type_terms.specs.declared.name.TypeName.{TypeName}
 use Rattle.type_hierarchy.specs.Ancestors.{Step, to_base, to_interface, to_chain, Leads, one_step, step_more}
 use Rattle.type_hierarchy.specs.Hierarchy.{Hierarchy, Declaration, chained}
-use Rattle.type_hierarchy.specs.Landings.{AreSteps, IsListed, Lands, here, along, LeapsTo}
-use Rattle.type_hierarchy.specs.Walks as walks
-use Rattle.type_hierarchy.proofs.LandingLemmas.{some_same}
+use Rattle.type_tables.specs.Landings.{AreSteps, IsListed, Lands, here, along, LeapsTo}
+use Rattle.type_tables.specs.Walks as walks
+use Rattle.type_tables.proofs.LandingLemmas.{some_same}
 
 -- ---- from places to names
 

@@ -12,11 +12,11 @@ use Rattle.type_terms.specs.declared.term.SigType.{SigType, out-SigType}
 use Rattle.type_terms.specs.declared.term.SigType.TheVariants as type
 use Rattle.type_hierarchy.specs.Names.{class_of, is_among, same_name, same_path, same_scope, the_array, the_delegate, the_enum, the_exception, the_multicast_delegate, the_object, the_value_type}
 use Rattle.type_hierarchy.specs.Hierarchy.{Hierarchy, Declaration, object, core_name, named, named_by, chained, chain_above, chain_parent, name_parent, instance_parent, primitive_parent, layer_parent, parent}
-use Rattle.type_hierarchy.specs.Landings.{IsListed, LeapsTo}
+use Rattle.type_tables.specs.Landings.{IsListed, LeapsTo}
 use Rattle.type_hierarchy.specs.Laws.{IsGrounded}
 use Rattle.type_hierarchy.proofs.Among.{among_at}
 use Rattle.assignability.proofs.Heights.{IsNominal, class, value, instance, primitive, ArePlain, height, name_height, layer_height, primitive_height, nominal_name_parent, nominal_instance_parent, name_lower, instance_lower, parent_nominal, interface_nominal, values_integral, no_array}
-use Rattle.type_hierarchy.proofs.LandingLemmas.{some_same}
+use Rattle.type_tables.proofs.LandingLemmas.{some_same}
 use Rattle.type_hierarchy.proofs.TableLemmas.{name_decides}
 
 abbrev Layer : Type 0

@@ -19,7 +19,7 @@ use Rattle.type_hierarchy.specs.Names.{is_integral, the_enum, the_object}
 use Rattle.type_hierarchy.specs.Normal.{Reading, normal, normal_owner}
 use Rattle.type_hierarchy.specs.Scopes.{Sources}
 use Rattle.assignability.proofs.Heights.{IsNominal, class, value, instance, primitive, IsPlain, ArePlain}
-use Rattle.type_hierarchy.proofs.LandingLemmas.{some_same}
+use Rattle.type_tables.proofs.LandingLemmas.{some_same}
 
 abbrev Layer : Type 0
 Layer = SigType-F Owner SigType

@@ -16,29 +16,30 @@ use Rattle.assembly_tree.specs.declared.assembly.ExternAssembly.{ExternAssembly}
 use Rattle.assembly_tree.specs.Weight.{extern_weight, weight_of}
 use Rattle.assembly_tree.specs.WellFormed.{are_classes, is_well_formed}
 use Rattle.type_hierarchy.specs.Ancestors.{Declared, all_declared, declared_in, declared_names, declaring, has_number, typedef_paths, world_name}
-use Rattle.type_hierarchy.specs.Building.{AreTables}
+use Rattle.type_tables.specs.Building.{AreTables}
 use Rattle.type_hierarchy.specs.Declarations.{hierarchy_of}
 use Rattle.type_hierarchy.specs.Hierarchy.{Hierarchy}
 use Rattle.type_hierarchy.specs.Indexed.{KnowsTypes}
-use Rattle.type_hierarchy.specs.Landings.{AreSteps, IsListed}
-use Rattle.type_hierarchy.specs.Members.{IsScopes, assembly_of, member}
+use Rattle.type_tables.specs.Landings.{AreSteps, IsListed}
+use Rattle.type_tables.specs.Members.{IsScopes, assembly_of, member}
 use Rattle.type_hierarchy.specs.Names.{full_name}
-use Rattle.type_hierarchy.specs.Placed.{Row}
-use Rattle.type_hierarchy.specs.Places.{ArePlaces}
+use Rattle.type_tables.specs.Placed.{Row}
+use Rattle.type_tables.specs.Places.{ArePlaces}
 use Rattle.type_hierarchy.specs.Scopes.{Sources, Member, member_of, members}
 use Rattle.type_hierarchy.specs.Tables.{hierarchy_in}
 use Rattle.type_hierarchy.specs.World.{Content}
-use Rattle.assignability.specs.Worlds.{HasNumber, IsCyclicType, IsFaultAt, IsFaultOf, IsFirstOf, IsFit, IsNamedAt, IsRead, IsWorldOf}
+use Rattle.type_order.specs.Worlds.{IsFit, IsWorldOf}
+use Rattle.assignability.specs.Worlds.{HasNumber, IsCyclicType, IsFaultAt, IsFaultOf, IsFirstOf, IsNamedAt, IsRead}
 use Rattle.assignability.specs.declared.building.Read.{Read}
 use Rattle.assignability.specs.declared.building.WorldFault.{WorldFault}
 use Rattle.assignability.specs.declared.building.WorldFault.TheVariants.{Cyclic, NoMemory}
-use Rattle.type_hierarchy.specs.declared.scopes.Scopes.{Scopes}
+use Rattle.type_tables.specs.declared.scopes.Scopes.{Scopes}
 use Rattle.type_hierarchy.specs.declared.tables.Tables.{Tables}
-use Rattle.type_hierarchy.proofs.FillLemmas.{places_within, within_get}
+use Rattle.type_tables.proofs.FillLemmas.{places_within, within_get}
 use Rattle.assignability.proofs.FirstCyclic.{declared_once, first_is_cyclic, none_is_cyclic, none_is_grounded}
-use Rattle.type_hierarchy.proofs.PlaceLemmas.{is_declaring, parts_of}
-use Rattle.type_hierarchy.proofs.StepLists.{tables_listed}
-use Rattle.type_hierarchy.proofs.TreePlaces.{and_left, and_right, in_by_place, in_cases, none_in, later_in, first_in}
+use Rattle.type_tables.proofs.PlaceLemmas.{is_declaring, parts_of}
+use Rattle.type_tables.proofs.StepLists.{tables_listed}
+use Rattle.type_tables.proofs.TreePlaces.{and_left, and_right, in_by_place, in_cases, none_in, later_in, first_in}
 
 -- ---- the assemblies that are given
 

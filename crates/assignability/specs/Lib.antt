@@ -1,10 +1,1 @@
-pub mod Answers
-pub mod Arrays
-pub mod Common
-pub mod Fields
-pub mod Joining
-pub mod Keys
-pub mod Parts
-pub mod Starts
-pub mod Staying
 pub mod Worlds

@@ -1,21 +1,21 @@
 //! A world from an image and its references.
 ghost use Rattle.std.specs.Prelude.{◌≡◌, [], ◌<◌, ◌≤◌, ℕ, length, slice_get, IfErr, IfOk, IfSome, Some};
 ghost use Rattle.std.specs.List.{All};
-ghost use Rattle.type_hierarchy.specs.Members.{sources};
-ghost use Rattle.type_hierarchy.specs.Scopes.{Sources};
-ghost use Rattle.assignability.specs.Worlds.{IsFaultAt, IsFaultOf, IsFirstOf, IsFit, IsRead, IsWorldOf};
+ghost use Rattle.type_hierarchy.specs.Scopes.{sources, Sources};
+ghost use Rattle.type_order.specs.Worlds.{IsFit, IsWorldOf};
+ghost use Rattle.assignability.specs.Worlds.{IsFaultAt, IsFaultOf, IsFirstOf, IsRead};
 
-use crate::types::World;
 use assembly_tree::Assembly;
 use il_lists::{Copies, Items, NoMemory, Numbers};
 use std::alloc::Global;
-use type_hierarchy::cyclic::first_cyclic;
-use type_hierarchy::filling::{fill, value_types};
-use type_hierarchy::members::Assemblies;
-use type_hierarchy::places::read_places;
-use type_hierarchy::scopes::read_scopes;
-use type_hierarchy::stepping::all_steps;
 use type_hierarchy::tables::Tables;
+use type_order::types::World;
+use type_tables::cyclic::first_cyclic;
+use type_tables::filling::{fill, value_types};
+use type_tables::members::Assemblies;
+use type_tables::places::read_places;
+use type_tables::scopes::read_scopes;
+use type_tables::stepping::all_steps;
 use type_terms::{Scope, TypeName};
 
 /// Why there is no world.

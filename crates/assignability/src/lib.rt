@@ -1,37 +1,15 @@
-//! Which type may stand where another is wanted, and what two types merge to (ECMA-335 I.8.7, III.1.8).
+//! Worlds of an image and its references, and which type may stand where another is wanted in one (ECMA-335 I.8.7, III.1.8).
+//! What is asked of a world stands in `type_order`.
 #![tactic(auto)]
 
-mod above;
-mod ancestry;
-mod arrays;
 mod building;
-mod common;
-mod fields;
-mod fits;
-mod interfaces;
-mod joining;
-mod keys;
-mod laws;
-mod order;
-mod owners;
-mod queue;
-mod stack;
-mod stacks;
-mod terms;
-pub mod types;
-mod written;
 
-pub use ancestry::parent;
 pub use building::{WorldFault, world};
-pub use fields::fields_named;
-pub use keys::{
-    boxed_of, core_scope, element_of, interfaces_of, is_value, pointer_to, st_of, term_of,
+pub use type_order::{
+    StackType, TypeKey, TypeKeys, arguments_of, assignable, assignable_is_a_preorder, boxed_of,
+    core_scope, core_value, element_of, fields_meant, id_of, interfaces_of, is_reference_key,
+    is_value, join, joins_are_least_upper_bounds, key_of, keys_keep_their_types, owner_key, parent,
+    parent_key, pointer_to, primitive_key, st_of, stack_of, term_of, type_key, type_named, types,
+    vector_of, worlds_go_on,
 };
-pub use laws::{assignable_is_a_preorder, joins_are_least_upper_bounds, keys_keep_their_types};
-pub use order::{assignable, join};
-pub use owners::{
-    arguments_of, core_value, is_reference_key, owner_key, primitive_key, type_key, vector_of,
-};
-pub use type_hierarchy::members::Assemblies;
-pub use type_hierarchy::stack_type::{StackType, TypeKey, TypeKeys, id_of};
-pub use written::{key_of, stack_of};
+pub use type_tables::members::Assemblies;

@@ -24,11 +24,11 @@ use Rattle.type_hierarchy.specs.Hierarchy.{Hierarchy}
 use Rattle.type_hierarchy.specs.Indexed.{KnowsTypes}
 use Rattle.type_hierarchy.specs.Laws.{IsGrounded, IsOrder}
 use Rattle.type_hierarchy.specs.Scopes.{Sources}
-use Rattle.assignability.specs.Staying.{KeepsKeys}
+use Rattle.type_order.specs.Staying.{KeepsKeys}
 use Rattle.type_hierarchy.specs.Tables.{hierarchy_in}
 use Rattle.type_hierarchy.specs.declared.tables.Tables.{Tables}
 use Rattle.type_hierarchy.specs.World.{Content, hierarchy, Stays}
-use Rattle.assignability.specs.Worlds.{IsFit}
+use Rattle.type_order.specs.Worlds.{IsFit, IsWorldSince}
 use Rattle.code_flow.specs.declared.blocks.Spans.{Spans}
 use Rattle.body_verifier.specs.declared.code_marks.CodeMarks.{CodeMarks}
 use Rattle.stack_effects.specs.declared.frame.CodeFrame.{CodeFrame}
@@ -38,12 +38,12 @@ use Rattle.stack_effects.specs.declared.row.Row.{Row}
 use Rattle.body_verifier.specs.declared.state.State.{State}
 use Rattle.code_flow.specs.BlockTests.{spans_of}
 use Rattle.code_flow.specs.Blocks.{ClausesNest}
-use Rattle.body_verifier.specs.Checking.{AreBroken, BreaksWhole, HasBody, IsFrameOf, IsReady, IsWhole, IsWorldSince, above, broken_at, setup, unnested, uninitialised, explicit}
+use Rattle.body_verifier.specs.Checking.{AreBroken, BreaksWhole, HasBody, IsFrameOf, IsReady, IsWhole, above, broken_at, setup, unnested, uninitialised, explicit}
 use Rattle.body_verifier.specs.CodeMarks.{AreCodeMarks, IsBody}
 use Rattle.body_verifier.specs.Finding.{RisesWithin, method_in, typedef_at, typedef_in}
 use Rattle.code_flow.specs.Frames.{Frame, frame}
 use Rattle.code_flow.specs.Laws.{AreMonotone, BreaksNothing, HasOneLeast, IsFormed, PathsAreRight}
-use Rattle.assignability.specs.Fields.{the_module}
+use Rattle.type_order.specs.Fields.{the_module}
 use Rattle.code_flow.specs.Methods.{Declared, Nested, method_at, type_by_place}
 use Rattle.code_flow.specs.Paths.{NeverWrong}
 use Rattle.body_verifier.specs.Reports as reports

@@ -12,7 +12,7 @@ use Rattle.type_hierarchy.specs.Hierarchy.{Hierarchy}
 use Rattle.type_hierarchy.specs.Laws.{IsOrder}
 use Rattle.type_hierarchy.specs.Meaning.{meant}
 use Rattle.type_hierarchy.specs.Stack as stack
-use Rattle.assignability.specs.Staying.{KeepsKeys}
+use Rattle.type_order.specs.Staying.{KeepsKeys}
 use Rattle.type_hierarchy.specs.Tables.{hierarchy_in}
 use Rattle.type_hierarchy.specs.World.{Content, hierarchy, Stays}
 use Rattle.code_flow.specs.declared.goings.Carried.{Carried}

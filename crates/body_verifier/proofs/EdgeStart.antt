@@ -11,7 +11,7 @@ use Rattle.sig_pool.specs.declared.node.Node.{Node}
 use Rattle.type_hierarchy.specs.Hierarchy.{Hierarchy}
 use Rattle.type_hierarchy.specs.Laws.{IsOrder}
 use Rattle.type_hierarchy.specs.Stack as stack
-use Rattle.assignability.specs.Staying.{KeepsKeys}
+use Rattle.type_order.specs.Staying.{KeepsKeys}
 use Rattle.type_hierarchy.specs.Tables.{hierarchy_in}
 use Rattle.type_hierarchy.specs.World.{Content, hierarchy, Stays}
 use Rattle.code_flow.specs.declared.goings.Carried.{Carried}

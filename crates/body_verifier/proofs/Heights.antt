@@ -20,8 +20,9 @@ use Rattle.type_hierarchy.specs.Names.{same_text}
 use Rattle.type_hierarchy.specs.Scopes.{Sources, Member, members, members_from, member_of, name_of, own_scope}
 use Rattle.type_hierarchy.specs.Tables.{hierarchy_in}
 use Rattle.type_hierarchy.specs.World.{Content, hierarchy}
-use Rattle.assignability.specs.Worlds.{IsFit}
-use Rattle.body_verifier.specs.Checking.{IsWorldSince, one_more, above, setup}
+use Rattle.type_order.specs.Worlds.{IsFit}
+use Rattle.type_order.specs.Worlds.{IsWorldSince}
+use Rattle.body_verifier.specs.Checking.{one_more, above, setup}
 use Rattle.code_flow.specs.Frames.{Frame}
 use Rattle.code_flow.specs.Laws.{AreMonotone}
 use Rattle.body_verifier.specs.StepBound.{height}

@@ -13,8 +13,8 @@ use Rattle.code_flow.specs.declared.operation.Operation.TheVariants as does
 use Rattle.code_flow.specs.Frames.{Frame}
 use Rattle.body_verifier.specs.Judging.{Misfits, PointsToReference}
 use Rattle.body_verifier.specs.MemberTests.{HasOther, is_reference_there, addresses_reference}
-use Rattle.assignability.specs.Fields.{fields_of}
-use Rattle.code_flow.specs.Methods.{is_static, written_name}
+use Rattle.type_order.specs.Fields.{fields_meant}
+use Rattle.code_flow.specs.Methods.{is_static}
 use Rattle.code_flow.specs.Operations.{operation}
 use Rattle.stack_effects.specs.RowMeanings.{type_option, MeansFrame}
 use Rattle.code_flow.specs.Rows.{variable, argument, local}
@@ -24,7 +24,7 @@ use Rattle.code_flow.proofs.PairLemmas.{one_item}
 -- ---- fields
 
 pub field_exact : (f : Frame) (o : Operation) (r : FieldRef) (wanted : Bool) → wants_static o ≡ Some wanted
-    → HasOther (fields_of f.image (written_name r.owner)) r wanted ↔ MisfitsField f o r
+    → HasOther (fields_meant f.image f.types r.owner) r wanted ↔ MisfitsField f o r
 field_exact f o r wanted e = (
   λ h. record {
     field = h.field;

@@ -16,8 +16,8 @@ use Rattle.code_flow.specs.Stacks.{Each}
 use Rattle.code_flow.specs.Effects.{taken, results, below_operands, effect}
 use Rattle.code_flow.specs.Edges.{Carries, flowing, stated, Edge, fall, branch, leave, leave_finally, next_finally, finally_left, catches, filters, filtered, finally, fault}
 use Rattle.code_flow.specs.Typings.{State, unreached, stack, clash, Typing, AtMost, stacks, carried, stack_after, IsSolution}
-use Rattle.code_flow.specs.Rules.{Breaks, v1, v2, v4, v5, v5_stored, v6, v7}
-use Rattle.code_flow.specs.Paths.{Point, AreMet, IsWrong, past, too_few, unmet, StandsFor, for_bad, assigned as stands, Becomes, Steps, Reaches, start, step, NeverWrong}
+use Rattle.code_flow.specs.Rules.{Breaks, v1, v2, v4, v5, v5_stored, v6, v7, v11_deep, v15_deep, v19}
+use Rattle.code_flow.specs.Paths.{Point, AreMet, IsWrong, past, too_few, unmet, returns_more, filters_more, by_reference, StandsFor, for_bad, assigned as stands, Becomes, Steps, Reaches, start, step, NeverWrong}
 use Rattle.code_flow.specs.Laws.{Under, assigned, under_bad, AreMonotone, IsFormed, BreaksNothing}
 use Rattle.body_verifier.proofs.Refining.{Refines, under_refines}
 use Rattle.body_verifier.proofs.Monotone.{each_length, each_append, operands_lower, below_lower}
@@ -214,6 +214,13 @@ module _ (f : Frame) (height : SigType → ℕ) (g : IsGrounded f.types height) 
       let same_depth = each_length f.types (Under f.types) refines p.stack b.types b.under in
       no_break p.at b.types b.below b.is 1 (v1 at b.is (omega (arith, same_depth)))
   not_wrong p b (unmet {i = i} at h) = met_beside p b i at h
+  not_wrong p b (returns_more {i = i} d h) =
+      let same_depth = each_length f.types (Under f.types) refines p.stack b.types b.under in
+      no_break p.at b.types b.below b.is 11 (v11_deep d b.is (omega (arith, same_depth)))
+  not_wrong p b (filters_more {i = i} d h) =
+      let same_depth = each_length f.types (Under f.types) refines p.stack b.types b.under in
+      no_break p.at b.types b.below b.is 15 (v15_deep d b.is (omega (arith, same_depth)))
+  not_wrong p b (by_reference d here is) = no_break p.at b.types b.below b.is 19 (v19 d here is)
 
   -- ---- steps
 

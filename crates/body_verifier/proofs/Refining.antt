@@ -10,7 +10,7 @@ use Rattle.type_hierarchy.specs.Relations.{AreAlike, Assignable, same, null_ref,
 use Rattle.type_hierarchy.specs.Laws.{IsGrounded, IsTransitive, JoinLaws}
 use Rattle.code_flow.specs.declared.operation.Numeric.{Numeric}
 use Rattle.code_flow.specs.Demands.{is_object, element}
-use Rattle.assignability.specs.Keys.{vector_elements}
+use Rattle.type_order.specs.Keys.{vector_elements}
 use Rattle.code_flow.specs.Rows.{primitive_of}
 use Rattle.code_flow.specs.Laws.{Under, assigned, under_bad}
 use Rattle.body_verifier.proofs.Reduced.{no_numeric, verified_from_reduced, reduced_back}

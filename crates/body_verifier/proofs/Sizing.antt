@@ -3,6 +3,7 @@ use Rattle.std.proofs.Common.{◌≡◌, ◌∙◌, refl, sym, ap, subst, ℕ, �
 use Rattle.std.specs.List.{sum_by}
 use Rattle.std.proofs.lemmas.List.Sums.{sum_by-le-sum_by, sum_by-append}
 use Rattle.opcode_table.specs.Opcodes as opcodes
+use Rattle.opcode_table.specs.Sizes.{bytes_in, opcode_size}
 use Rattle.opcode_table.specs.declared.kind.OperandKind.{OperandKind}
 use Rattle.opcode_table.specs.declared.kind.OperandKind.TheVariants as kind
 use Rattle.opcode_table.specs.declared.op.Op.{Op}
@@ -10,7 +11,7 @@ use Rattle.assembly_tree.specs.declared.body.Body.{Body}
 use Rattle.assembly_tree.specs.declared.body.Ins.{Ins}
 use Rattle.assembly_tree.specs.declared.body.Operand as operand
 use Rattle.assembly_tree.specs.Weight.{body_weight, instruction_weight, operand_weight}
-use Rattle.assembly_tree.specs.WellFormedBodies.{bytes_in, opcode_size, operand_size, operand_kind, targets_size, size_of}
+use Rattle.assembly_tree.specs.WellFormedBodies.{operand_size, operand_kind, targets_size, size_of}
 use Rattle.body_verifier.proofs.Weighing.{IsLightBody}
 
 bytes_low : (b : ℕ × Option ℕ) → bytes_in b ≤ 2

@@ -11,7 +11,7 @@ use Rattle.type_terms.specs.declared.term.SigType.{SigType}
 use Rattle.assembly_tree.specs.declared.body.Ins.{Ins}
 use Rattle.sig_pool.specs.declared.node.Node.{Node}
 use Rattle.type_hierarchy.specs.Meaning.{IsWithin}
-use Rattle.assignability.specs.Staying.{KeepsKeys}
+use Rattle.type_order.specs.Staying.{KeepsKeys}
 use Rattle.type_hierarchy.specs.World.{Content, Stays}
 use Rattle.code_flow.specs.declared.goings.Going.{Going}
 use Rattle.body_verifier.specs.declared.state.State.{State}

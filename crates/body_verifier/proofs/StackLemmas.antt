@@ -9,11 +9,11 @@ use Rattle.sig_pool.specs.declared.node.Node.{Node}
 use Rattle.type_hierarchy.specs.declared.stack_type.StackType.{StackType}
 use Rattle.type_hierarchy.specs.declared.stack_type.StackType.TheVariants.{Bad}
 use Rattle.type_hierarchy.specs.Hierarchy.{Hierarchy}
-use Rattle.assignability.specs.Joining.{JoinsAs}
+use Rattle.type_order.specs.Joining.{JoinsAs}
 use Rattle.type_hierarchy.specs.Meaning.{meant, IsWithin}
 use Rattle.type_hierarchy.specs.Relations.{Below, IsJoin}
 use Rattle.type_hierarchy.specs.Stack.{Stack, bad}
-use Rattle.assignability.specs.Staying.{KeepsKeys}
+use Rattle.type_order.specs.Staying.{KeepsKeys}
 use Rattle.type_hierarchy.specs.Tables.{hierarchy_in}
 use Rattle.type_hierarchy.specs.World.{Content, hierarchy, Stays}
 use Rattle.body_verifier.specs.Meetings.{IsMeeting, IsNewMeeting}

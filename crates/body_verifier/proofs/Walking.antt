@@ -10,7 +10,7 @@ use Rattle.assembly_tree.specs.declared.typedef.TypeDef.{TypeDef}
 use Rattle.assembly_tree.specs.declared.typedef.TypeDef.TheViews.{out-TypeDef}
 use Rattle.body_verifier.specs.Checking.{HasBody, LeadsToBody}
 use Rattle.body_verifier.specs.Finding.{method_in, typedef_at, typedef_by, typedef_in}
-use Rattle.assignability.specs.Fields.{the_module}
+use Rattle.type_order.specs.Fields.{the_module}
 use Rattle.code_flow.specs.Methods.{Declared, Nested, declared_in, inwards, method_at, method_by, method_of, nested_in, type_by_place}
 
 -- paths play no part

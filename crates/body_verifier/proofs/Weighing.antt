@@ -23,12 +23,12 @@ use Rattle.assembly_tree.specs.declared.typedef.TypeDef.TheFolds.{fold_out-TypeD
 use Rattle.assembly_tree.specs.declared.typedef.TypeDef.TheViews.{out-TypeDef}
 use Rattle.assembly_tree.specs.Weight.{optional, body_weight, clause_weight, instruction_weight, operand_weight, method_weight, own_weight, typedef_step, typedef_weight, weight_of}
 use Rattle.assembly_tree.specs.WellFormed.{are_globals, is_well_formed, is_manifest, is_extern, are_classes, is_one_entry}
-use Rattle.assembly_tree.specs.WellFormedBodies.{has_body_form, is_body, is_clause, is_instruction, short_branches_reach, names_well, size_of, opcode_size, operand_size, operand_kind, targets_size}
+use Rattle.assembly_tree.specs.WellFormedBodies.{has_body_form, is_body, is_clause, is_instruction, short_branches_reach, names_well, size_of, operand_size, operand_kind, targets_size}
 use Rattle.assembly_tree.specs.WellFormedMembers.{is_method}
 use Rattle.assembly_tree.specs.WellFormedTerms.{is_count}
 use Rattle.assembly_tree.specs.WellFormedTypes.{are_members, are_types, is_head, is_own, is_same_id}
 use Rattle.body_verifier.specs.Checking.{HasBody}
-use Rattle.assignability.specs.Fields.{the_module}
+use Rattle.type_order.specs.Fields.{the_module}
 use Rattle.code_flow.specs.Methods.{Declared, Nested, declared_in, inwards, method_at, method_by, method_of, nested_in, type_by_place}
 
 -- ---- weights of parts

@@ -1,6 +1,5 @@
 -- What the check of a method asks for.
-use Rattle.std.specs.Prelude.{◌≡◌, ℕ, zero, suc, ◌+◌, ◌^◌, ◌<◌, ◌≤◌, false, List, [], ◌∷◌, length, map, Option, None, Some, IsTrue}
-use Rattle.std.specs.List.{All}
+use Rattle.std.specs.Prelude.{◌≡◌, ℕ, zero, suc, ◌+◌, ◌^◌, ◌≤◌, false, List, [], ◌∷◌, length, map, Option, None, Some, IsTrue}
 use Rattle.std.specs.Option.{option_map}
 use Rattle.type_terms.specs.declared.term.SigType.{SigType}
 use Rattle.assembly_tree.specs.declared.assembly.Assembly.{Assembly}
@@ -11,8 +10,6 @@ use Rattle.sig_pool.specs.declared.node.Node.{Node}
 use Rattle.type_hierarchy.specs.Ancestors.{all_declared}
 use Rattle.type_hierarchy.specs.Hierarchy.{Hierarchy, parent}
 use Rattle.type_hierarchy.specs.Scopes.{Sources}
-use Rattle.type_hierarchy.specs.World.{Content, Stays}
-use Rattle.assignability.specs.Worlds.{IsFit, IsWorldOf}
 use Rattle.code_flow.specs.declared.blocks.Spans.{Spans}
 use Rattle.stack_effects.specs.declared.frame.CodeFrame.{CodeFrame}
 use Rattle.body_verifier.specs.declared.report.Broken.{Broken}
@@ -26,15 +23,6 @@ use Rattle.stack_effects.specs.RowMeanings.{MeansFrame}
 use Rattle.body_verifier.specs.StepBound.{height}
 use Rattle.code_flow.specs.Typings.{Typing, IsLeast}
 use Rattle.body_verifier.specs.Ways.{Setup}
-
--- the world of an image and its references, each of them fit, whatever it was asked since it was made
-pub record IsWorldSince (s : Sources) (w : Content) : Type 0 where
-  pub image : IsFit s.image
-  pub references : All IsFit s.references
-  pub few : length s.references ≤ 8
-  pub first : Content
-  pub made : IsWorldOf s first
-  pub stays : Stays first w
 
 -- the method at a place is `d`, and its body is `b`
 pub record HasBody (a : Assembly) (path : MethodPath) (d : Declared) (b : Body) : Type 0 where

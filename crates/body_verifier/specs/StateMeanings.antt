@@ -5,7 +5,7 @@ use Rattle.sig_pool.specs.declared.node.Node.{Node}
 use Rattle.type_hierarchy.specs.declared.stack_type.StackType.{StackType}
 use Rattle.type_hierarchy.specs.declared.stack_type.StackType.TheVariants.{Bad}
 use Rattle.type_hierarchy.specs.Hierarchy.{Hierarchy}
-use Rattle.assignability.specs.Joining.{JoinsAs}
+use Rattle.type_order.specs.Joining.{JoinsAs}
 use Rattle.stack_effects.specs.RowMeanings.{stack_meant, IsStackWithin}
 use Rattle.code_flow.specs.Typings as typings
 use Rattle.body_verifier.specs.Meetings.{IsMeeting, IsNewMeeting}

@@ -3,8 +3,8 @@ ghost use Rattle.std.specs.Prelude.{◌≡◌, ◌<◌, ◌≤◌, ◌↔◌, le
 ghost use Rattle.type_hierarchy.specs.Meaning.{meant, IsWithin};
 ghost use Rattle.stack_effects.specs.RowMeanings.{stack_meant, IsStackWithin};
 
-use assignability::{StackType, id_of};
 use sig_pool::SigPool;
+use type_order::{StackType, id_of};
 
 /// Whether two stack types of a pool are one. Takes no memory.
 pub(crate) fn same_type(pool: &SigPool, s: &StackType, t: &StackType) -> bool

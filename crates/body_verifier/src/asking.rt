@@ -13,10 +13,10 @@ use crate::meeting::{fails_to_assign, is_unassignable, is_wrong, referent};
 use crate::operands::operand;
 use crate::pairs::clash;
 use crate::stack::Stack;
-use assignability::StackType;
-use assignability::types::World;
 use il_lists::NoMemory;
 use stack_effects::row::{Row, Together};
+use type_order::StackType;
+use type_order::types::World;
 
 /// Whether there are too few operands. Takes no memory.
 pub(crate) fn has_too_few(row: &Row, stack: &Stack) -> bool

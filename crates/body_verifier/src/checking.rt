@@ -6,9 +6,10 @@ ghost use Rattle.assembly_tree.specs.WellFormedBodies.{is_forward};
 ghost use Rattle.type_hierarchy.specs.Indexed.{KnowsTypes};
 ghost use Rattle.type_hierarchy.specs.Scopes.{Sources};
 ghost use Rattle.type_hierarchy.specs.World.{hierarchy, Stays};
+ghost use Rattle.type_order.specs.Worlds.{IsWorldSince};
 ghost use Rattle.code_flow.specs.BlockTests.{spans_of};
 ghost use Rattle.code_flow.specs.Blocks.{ClausesNest};
-ghost use Rattle.body_verifier.specs.Checking.{AreBroken, HasBody, IsFrameOf, IsReady, IsWholeRule, IsWorldSince, LeadsToBody, broken_at};
+ghost use Rattle.body_verifier.specs.Checking.{AreBroken, HasBody, IsFrameOf, IsReady, IsWholeRule, LeadsToBody, broken_at};
 ghost use Rattle.body_verifier.specs.Finding.{RisesWithin};
 ghost use Rattle.code_flow.specs.Frames.{Frame, frame};
 ghost use Rattle.code_flow.specs.Methods.{Declared};
@@ -30,8 +31,6 @@ use crate::state::State;
 use crate::stated::stated_of;
 use crate::verdicts::verdict;
 use assembly_tree::{Assembly, Body, Method, MethodPath};
-use assignability::types::World;
-use assignability::{joins_are_least_upper_bounds, keys_keep_their_types};
 use code_flow::blocks::{Spans, all_spans, nest};
 use code_flow::goings::goings_of;
 use il_base::Steps;
@@ -40,6 +39,8 @@ use stack_effects::frame::CodeFrame;
 use stack_effects::framing::frame_of;
 use stack_effects::row::Row;
 use std::alloc::Global;
+use type_order::types::World;
+use type_order::{joins_are_least_upper_bounds, keys_keep_their_types};
 use type_terms::Path;
 
 /// Whether a body has locals without init.
@@ -147,6 +148,7 @@ fn states_of(
     requires count { steps.old ≤ 2 ^ 126 }
     ensures ok { IfOk result (λ states. IsSolved at.frame w.new.nodes states) }
     ensures stays { Stays w.old w.new }
+    ensures low { steps.new ≤ steps.old + 2 ^ 126 }
     ensures bound { (pairs : List (ℕ × ℕ)) → AreEdges at.frame pairs → steps.new ≤ steps.old + step_bound (length pairs) (length at.frame.code + 1) at.top }
     ensures shallow { (d : ℕ) (pairs : List (ℕ × ℕ)) → IsDepth at.frame d → FlowsApart at.frame → AreEdges at.frame pairs → IfOk result (λ _. steps.new ≤ steps.old + step_bound (length pairs) d at.top) }
 {
@@ -177,6 +179,7 @@ fn broken_instructions(
     requires known { KnowsTypes a.now w.old.tables }
     ensures ok { IfOk result (AreBroken at.frame) }
     ensures stays { Stays w.old w.new }
+    ensures low { steps.new ≤ steps.old + 2 ^ 126 }
     ensures bound { (pairs : List (ℕ × ℕ)) → AreEdges at.frame pairs → steps.new ≤ steps.old + step_bound (length pairs) (length at.frame.code + 1) at.top }
     ensures shallow { (pairs : List (ℕ × ℕ)) → AreEdges at.frame pairs → IfOk result (λ broken. broken ≡ [] → steps.new ≤ steps.old + step_bound (length pairs) at.frame.bound at.top) }
 {
@@ -206,6 +209,7 @@ fn broken_in(
     ensures ok { (d : Declared) → HasBody a.now at.now d body.now → IfOk result (λ broken. Fails a.now (hierarchy w.old) d body.now broken) }
     ensures rising { IfOk result (RisesWithin body.now.code 0) }
     ensures stays { Stays w.old w.new }
+    ensures low { steps.new ≤ steps.old + 2 ^ 126 }
     ensures bound { (d : Declared) (pairs : List (ℕ × ℕ)) → HasBody a.now at.now d body.now → AreEdges (frame a.now (hierarchy w.old) d body.now) pairs → steps.new ≤ steps.old + step_bound (length pairs) (length body.now.code + 1) (height sources) }
     ensures shallow { (d : Declared) (pairs : List (ℕ × ℕ)) → HasBody a.now at.now d body.now → AreEdges (frame a.now (hierarchy w.old) d body.now) pairs → IfOk result (λ r. r ≡ [] → steps.new ≤ steps.old + step_bound (length pairs) body.now.bound (height sources)) }
 {
@@ -241,6 +245,7 @@ fn check_body(
     requires count { steps.old ≤ 2 ^ 126 }
     ensures ok { IfOk result (λ failures. Reports a.now (hierarchy w.old) at.now failures) }
     ensures stays { Stays w.old w.new }
+    ensures low { steps.new ≤ steps.old + 2 ^ 126 }
     ensures bound { (d : Declared) (pairs : List (ℕ × ℕ)) → HasBody a.now at.now d body.now → AreEdges (frame a.now (hierarchy w.old) d body.now) pairs → steps.new ≤ steps.old + step_bound (length pairs) (length body.now.code + 1) (height sources) }
     ensures shallow { (d : Declared) (pairs : List (ℕ × ℕ)) → HasBody a.now at.now d body.now → AreEdges (frame a.now (hierarchy w.old) d body.now) pairs → IfOk result (λ r. r ≡ [] → steps.new ≤ steps.old + step_bound (length pairs) body.now.bound (height sources)) }
 {
@@ -253,7 +258,7 @@ fn check_body(
 ///
 /// Where there are none, no path through the body goes wrong. `steps` counts the joins and the parents that are asked for:
 /// for each two instructions with an edge one for each value and for each time that what is known can change; where there
-/// are no failures, of no more values than the body's bound says.
+/// are no failures, of no more values than the body's bound says. It rises by 2^126 at most, so that it never runs out.
 pub fn check_method(
     alloc: Global,
     a: &Assembly,
@@ -270,6 +275,7 @@ pub fn check_method(
     ensures alone { (failures : List TheFailure) → Reports a.now (hierarchy w.old) at.now failures → IfOk result (λ r. r ≡ failures) }
     ensures paths { (d : Declared) (b : TheBody) → HasBody a.now at.now d b → IfOk result (λ failures. failures ≡ [] → NeverWrong (frame a.now (hierarchy w.old) d b)) }
     ensures stays { Stays w.old w.new }
+    ensures low { steps.new ≤ steps.old + 2 ^ 126 }
     ensures steps { (d : Declared) (b : TheBody) (pairs : List (ℕ × ℕ)) → HasBody a.now at.now d b → AreEdges (frame a.now (hierarchy w.old) d b) pairs → steps.new ≤ steps.old + step_bound (length pairs) (length b.code + 1) (height sources) }
     ensures shallow { (d : Declared) (b : TheBody) (pairs : List (ℕ × ℕ)) → HasBody a.now at.now d b → AreEdges (frame a.now (hierarchy w.old) d b) pairs → IfOk result (λ failures. failures ≡ [] → steps.new ≤ steps.old + step_bound (length pairs) b.bound (height sources)) }
 {

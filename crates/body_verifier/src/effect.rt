@@ -13,12 +13,12 @@ use crate::meeting::{object_element, referent};
 use crate::operands::operand;
 use crate::pairs::outcome;
 use crate::stack::Stack;
-use assignability::StackType;
-use assignability::types::World;
 use il_lists::NoMemory;
 use stack_effects::kinds::{is_integer, is_null, is_number};
 use stack_effects::row::{Pushed, Row};
 use std::alloc::Global;
+use type_order::StackType;
+use type_order::types::World;
 
 /// An element of a vector of a reference type, and null of null.
 fn fetched(w: &mut World, s: &StackType) -> Result<StackType, NoMemory>

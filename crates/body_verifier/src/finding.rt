@@ -5,7 +5,7 @@ ghost use Rattle.assembly_tree.specs.declared.typedef.TypeDef.{TypeDef as TheTyp
 ghost use Rattle.assembly_tree.specs.declared.typedef.TypeDef.TheViews.{out-TypeDef};
 ghost use Rattle.body_verifier.specs.Checking.{LeadsToBody};
 ghost use Rattle.body_verifier.specs.Finding.{method_in, typedef_at, typedef_by};
-ghost use Rattle.assignability.specs.Fields.{the_module};
+ghost use Rattle.type_order.specs.Fields.{the_module};
 ghost use Rattle.code_flow.specs.Methods.{inwards, method_at, type_by_place, Nested};
 
 use assembly_tree::{Assembly, Method, MethodPath, TypeDef};

@@ -15,12 +15,12 @@ use crate::asking::{
     fails_to_fit, gets_too_deep, has_more, has_too_few, has_wrong_operand, is_mismatched,
 };
 use crate::stack::Stack;
-use assignability::keys_keep_their_types;
-use assignability::types::World;
 use code_flow::operation::Operation;
 use il_lists::NoMemory;
 use stack_effects::row::Row;
 use std::alloc::Global;
+use type_order::keys_keep_their_types;
+use type_order::types::World;
 
 /// What an instruction breaks that asks its stack.
 #[derive(Clone, Copy, Drop)]

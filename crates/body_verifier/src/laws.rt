@@ -4,7 +4,7 @@ ghost use Rattle.type_hierarchy.specs.Laws.{IsGrounded};
 ghost use Rattle.code_flow.specs.Frames.{Frame};
 ghost use Rattle.code_flow.specs.Laws.{AreMonotone, HasOneLeast, IsFormed, PathsAreRight};
 
-use assignability::{assignable_is_a_preorder, joins_are_least_upper_bounds};
+use type_order::{assignable_is_a_preorder, joins_are_least_upper_bounds};
 
 /// The demands and effects of every instruction are monotone in the order of stack types, and where each
 /// value may stand for another or that one is Bad (ECMA-335 III.1.8.1). It does nothing when it is called.

@@ -10,7 +10,6 @@ mod asking;
 mod checking;
 mod code_breaks;
 mod code_marks;
-mod declaring;
 mod effect;
 mod finding;
 mod judging;

@@ -10,8 +10,6 @@ ghost use Rattle.stack_effects.specs.RowMeanings.{demand_meant, IsDemandWithin};
 
 use crate::alike::same_type;
 use crate::pairs::is_comparable;
-use assignability::types::World;
-use assignability::{StackType, TypeKey, assignable, element_of, id_of, pointer_to};
 use il_lists::NoMemory;
 use sig_pool::SigPool;
 use stack_effects::kinds::{
@@ -19,6 +17,8 @@ use stack_effects::kinds::{
 };
 use stack_effects::row::Demand;
 use stack_effects::type_kinds::is_reference;
+use type_order::types::World;
+use type_order::{StackType, TypeKey, assignable, element_of, id_of, pointer_to};
 
 /// What a managed pointer to a reference type points to; None for anything else. Takes no memory.
 pub(crate) fn referent(pool: &SigPool, s: &StackType) -> Option<TypeKey>

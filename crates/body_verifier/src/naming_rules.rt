@@ -1,8 +1,9 @@
-//! The rules on the member or the variable that an instruction names (V10, V19). Nothing here takes memory.
-ghost use Rattle.std.specs.Prelude.{◌≡◌, ◌↔◌, ◌<◌, ℕ, length, slice_get, codes, IsTrue, Some};
+//! The rules on the member or the variable that an instruction names (V10, V19).
+ghost use Rattle.std.specs.Prelude.{◌≡◌, ◌↔◌, ◌<◌, ℕ, length, slice_get, codes, IfOk, IsTrue, Some};
 ghost use Rattle.sig_pool.specs.Terms.{AllBelow};
 ghost use Rattle.type_hierarchy.specs.Indexed.{KnowsTypes};
 ghost use Rattle.type_hierarchy.specs.Names.{same_text};
+ghost use Rattle.type_hierarchy.specs.World.{hierarchy};
 ghost use Rattle.code_flow.specs.Frames.{Frame};
 ghost use Rattle.body_verifier.specs.Judging.{Misfits, PointsToReference};
 ghost use Rattle.body_verifier.specs.MemberTests.{IsOther, HasOther, is_reference_there, addresses_reference};
@@ -12,15 +13,15 @@ ghost use Rattle.stack_effects.specs.RowMeanings.{type_option, MeansFrame, IsFra
 ghost use Rattle.code_flow.specs.Rows.{variable};
 ghost use Rattle.code_flow.specs.Rules.{misfits_method, wants_static, MisfitsField, MisfitsMember};
 
-use crate::declaring::fields_of;
 use assembly_tree::{Assembly, Field, Ins, Operand};
-use assignability::types::World;
-use assignability::{TypeKeys, id_of};
 use code_flow::operation::{Operation, operation_of};
+use il_lists::NoMemory;
 use stack_effects::frame::CodeFrame;
 use stack_effects::type_kinds::is_by_reference;
 use stack_effects::variables::variable_key;
 use std::cmp::Ordering;
+use type_order::types::World;
+use type_order::{TypeKeys, fields_meant, id_of};
 use type_terms::{FieldRef, MethodRef, SigType, compare_terms};
 
 /// Whether an instruction wants a static field, where it wants a field (ECMA-335 III.4.10 to III.4.30).
@@ -96,38 +97,52 @@ pub(crate) fn misfits_field(fields: &[Field], r: &FieldRef, wanted: bool) -> boo
 
 /// Whether a field that the image declares is static where the instruction wants one of an instance, or the other way
 /// round.
-fn misfits_declared(w: &World, a: &Assembly, does: Operation, r: &FieldRef) -> bool
+fn misfits_declared(
+    w: &World,
+    a: &Assembly,
+    does: Operation,
+    r: &FieldRef,
+) -> Result<bool, NoMemory>
     requires { KnowsTypes a.now w.now.tables }
-    ensures { (f : Frame) → f.image ≡ a.now → (IsTrue result ↔ MisfitsField f does r.now) }
+    ensures { (f : Frame) → f.image ≡ a.now → f.types ≡ hierarchy w.now → IfOk result (λ b. IsTrue b ↔ MisfitsField f does r.now) }
 {
     match wants_static(does) {
-        Some(wanted) => misfits_field(fields_of(w, a, &r.owner), r, wanted),
-        None => false,
+        Some(wanted) => {
+            let fields = fields_meant(w, a, &r.owner)?;
+            Ok(misfits_field(fields, r, wanted))
+        }
+        None => Ok(false),
     }
 }
 
-fn misfits_operand(w: &World, a: &Assembly, does: Operation, operand: &Operand) -> bool
+fn misfits_operand(
+    w: &World,
+    a: &Assembly,
+    does: Operation,
+    operand: &Operand,
+) -> Result<bool, NoMemory>
     requires { KnowsTypes a.now w.now.tables }
-    ensures { (f : Frame) → f.image ≡ a.now → (IsTrue result ↔ MisfitsMember f does operand.now) }
+    ensures { (f : Frame) → f.image ≡ a.now → f.types ≡ hierarchy w.now → IfOk result (λ b. IsTrue b ↔ MisfitsMember f does operand.now) }
 {
     match operand {
-        Operand::Method(m) => misfits_method(does, m.get()),
+        Operand::Method(m) => Ok(misfits_method(does, m.get())),
         Operand::Field(r) => misfits_declared(w, a, does, r.get()),
-        Operand::Nothing => false,
-        Operand::Var(_) => false,
-        Operand::Int(_) => false,
-        Operand::Real(_) => false,
-        Operand::Target(_) => false,
-        Operand::Targets(_) => false,
-        Operand::Of(_) => false,
-        Operand::Text(_) => false,
+        Operand::Nothing => Ok(false),
+        Operand::Var(_) => Ok(false),
+        Operand::Int(_) => Ok(false),
+        Operand::Real(_) => Ok(false),
+        Operand::Target(_) => Ok(false),
+        Operand::Targets(_) => Ok(false),
+        Operand::Of(_) => Ok(false),
+        Operand::Text(_) => Ok(false),
     }
 }
 
 /// Whether an instruction of a body of the image names a member that doesn't fit it (V10). The world is one of that image.
-pub(crate) fn misfits(w: &World, a: &Assembly, ins: &Ins) -> bool
+/// NoMemory where there is no memory, which only a field of a primitive type takes.
+pub(crate) fn misfits(w: &World, a: &Assembly, ins: &Ins) -> Result<bool, NoMemory>
     requires { KnowsTypes a.now w.now.tables }
-    ensures { (f : Frame) (k : ℕ) → f.image ≡ a.now → slice_get f.code k ≡ Some ins.now → (IsTrue result ↔ Misfits f k) }
+    ensures { (f : Frame) (k : ℕ) → f.image ≡ a.now → f.types ≡ hierarchy w.now → slice_get f.code k ≡ Some ins.now → IfOk result (λ b. IsTrue b ↔ Misfits f k) }
 {
     misfits_operand(w, a, operation_of(ins.op), &ins.operand)
 }

@@ -6,7 +6,7 @@ ghost use Rattle.type_hierarchy.specs.Stack.{bad};
 ghost use Rattle.code_flow.specs.Effects.{operands_of};
 ghost use Rattle.stack_effects.specs.RowMeanings.{stack_meant, IsStackWithin};
 
-use assignability::StackType;
+use type_order::StackType;
 
 /// The operand at place `k` of the `count` that an instruction takes, the one that was pushed first at place 0, from a
 /// stack's values or the topmost of them. Those that are missing count as Bad. Takes no memory.

@@ -7,9 +7,9 @@ ghost use Rattle.type_hierarchy.specs.Stack.{i4, native};
 ghost use Rattle.code_flow.specs.Demands.{arithmetic, go_together, outcome};
 ghost use Rattle.stack_effects.specs.RowMeanings.{comparable_test, pairing_meant};
 
-use assignability::StackType;
 use stack_effects::kinds::{is_integer, is_number, is_object, is_pointer};
 use stack_effects::row::Pairing;
+use type_order::StackType;
 
 /// Whether it may be one of a pair.
 pub(crate) fn is_comparable(t: &StackType) -> bool

@@ -8,8 +8,6 @@ ghost use Rattle.code_flow.specs.Rows.{row_by, constraint_by};
 ghost use Rattle.body_verifier.specs.Ways.{AreRows};
 
 use assembly_tree::Ins;
-use assignability::types::World;
-use assignability::{StackType, TypeKey};
 use code_flow::operation::{Operation, Prefix, operation_of};
 use il_lists::{Items, NoMemory};
 use stack_effects::calls::{call_row, new_row, return_row};
@@ -30,6 +28,8 @@ use stack_effects::type_rows::{
 };
 use stack_effects::variables::{address_row, load_row, store_row, variable_key};
 use std::alloc::Global;
+use type_order::types::World;
+use type_order::{StackType, TypeKey};
 
 /// The row of an instruction that does `operation`, by the type that `constrained.` names before it.
 fn row_by_operation(

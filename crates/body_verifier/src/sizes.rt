@@ -1,20 +1,9 @@
 //! How many bytes instructions take (ECMA-335 III.1.2). Nothing here takes memory.
 ghost use Rattle.std.specs.Prelude.{◌≡◌, ◌+◌, ◌<◌, ◌^◌, sum_by};
-ghost use Rattle.assembly_tree.specs.WellFormedBodies.{opcode_size, operand_size, targets_size, size_of};
+ghost use Rattle.assembly_tree.specs.WellFormedBodies.{operand_size, targets_size, size_of};
 
 use assembly_tree::{Ins, Operand};
-use opcode_table::{Op, OperandKind, bytes_of, kind_of};
-
-/// The bytes of an opcode.
-#[tactic(auto, unfolding(assembly_tree::specs::WellFormedBodies::opcode_size))]
-fn opcode_size(op: Op) -> u32
-    ensures { result ≡ opcode_size op }
-{
-    match bytes_of(op) {
-        (_, None) => 1,
-        (_, Some(_)) => 2,
-    }
-}
+use opcode_table::{OperandKind, kind_of, opcode_size};
 
 /// The bytes of the operand of a switch: its count, and 4 for each target.
 fn targets_size(operand: &Operand) -> u32
@@ -63,7 +52,8 @@ fn size_of(ins: &Ins) -> u32
     requires { size_of ins.now < 2 ^ 32 }
     ensures { result ≡ size_of ins.now }
 {
-    opcode_size(ins.op) + operand_size(kind_of(ins.op), &ins.operand)
+    let opcode = opcode_size(ins.op) as u32;
+    opcode + operand_size(kind_of(ins.op), &ins.operand)
 }
 
 /// The bytes of instructions.

@@ -17,13 +17,13 @@ use crate::stack::Stack;
 use crate::state::{State, meet};
 use crate::stated::Stated;
 use crate::worklist::Worklist;
-use assignability::keys_keep_their_types;
-use assignability::types::World;
 use code_flow::goings::{Going, Goings};
 use il_base::Steps;
 use il_lists::{Items, NoMemory};
 use stack_effects::row::Row;
 use std::alloc::Global;
+use type_order::keys_keep_their_types;
+use type_order::types::World;
 
 /// What is known after an instruction with that row.
 fn state_after(alloc: Global, w: &mut World, row: &Row, state: &State) -> Result<State, NoMemory>
@@ -193,6 +193,7 @@ pub(crate) fn least_typing(
     requires room { steps.old + step_budget at goings.now ≤ 2 ^ 127 }
     ensures ok { IfOk result (λ states. IsSolved at.frame w.new.nodes states) }
     ensures stays { Stays w.old w.new }
+    ensures budget { steps.new ≤ steps.old + step_budget at goings.now }
     ensures bound { (pairs : List (ℕ × ℕ)) → AreEdges at.frame pairs → steps.new ≤ steps.old + step_bound (length pairs) (length at.frame.code + 1) at.top }
     ensures shallow { (d : ℕ) (pairs : List (ℕ × ℕ)) → IsDepth at.frame d → FlowsApart at.frame → AreEdges at.frame pairs → IfOk result (λ _. steps.new ≤ steps.old + step_bound (length pairs) d at.top) }
 {

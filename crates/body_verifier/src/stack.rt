@@ -2,11 +2,11 @@
 ghost use Rattle.std.specs.Prelude.{◌≡◌, ◌-◌, [], ◌∷◌, ◌++◌, length, take, drop, IfOk, OnOk, OnErr};
 ghost use Rattle.body_verifier.specs.Chains.{values_of};
 
-use assignability::StackType;
 use il_lists::NoMemory;
 use std::alloc::Global;
 use std::marker::Model;
 use std::rc::Rc;
+use type_order::StackType;
 
 /// A value, and what lies below it.
 #[derive(Drop)]

@@ -6,12 +6,12 @@ ghost use Rattle.body_verifier.specs.StateMeanings.{AllJoinAs, is_unreached, IsS
 
 use crate::alike::{same_count, same_stack};
 use crate::stack::Stack;
-use assignability::types::World;
-use assignability::{StackType, join, keys_keep_their_types};
 use il_base::Steps;
 use il_lists::{Items, NoMemory};
 use sig_pool::SigPool;
 use std::alloc::Global;
+use type_order::types::World;
+use type_order::{StackType, join, keys_keep_their_types};
 
 /// What is known before an instruction (ECMA-335 III.1.8.1.1).
 #[derive(Drop)]

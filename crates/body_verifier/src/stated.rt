@@ -12,11 +12,11 @@ ghost use Rattle.body_verifier.specs.Ways.{brought, AreStatedFor};
 use crate::stack::Stack;
 use crate::state::State;
 use assembly_tree::{Clause, ClauseKind};
-use assignability::types::World;
-use assignability::{StackType, boxed_of, owner_key, primitive_key};
 use code_flow::goings::Carried;
 use il_lists::{Items, NoMemory};
 use std::alloc::Global;
+use type_order::types::World;
+use type_order::{StackType, boxed_of, owner_key, primitive_key};
 use type_terms::{Owner, Prim};
 
 /// The stacks that edges state, whatever their instructions leave (ECMA-335 I.12.4.2.8).

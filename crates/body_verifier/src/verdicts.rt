@@ -16,13 +16,13 @@ use crate::code_marks::CodeMarks;
 use crate::judging::judge;
 use crate::state::State;
 use assembly_tree::{Assembly, Ins};
-use assignability::types::World;
 use code_flow::blocks::Spans;
 use code_flow::operation::operation_of;
 use il_lists::NoMemory;
 use stack_effects::frame::CodeFrame;
 use stack_effects::row::Row;
 use std::alloc::Global;
+use type_order::types::World;
 
 /// The number of the first rule that instruction `k` of a body breaks, by its row and what is known before it; none where
 /// it isn't reached.
@@ -53,7 +53,7 @@ pub(crate) fn verdict(
         State::Unreached => Ok(None),
         State::Clash => Ok(Some(2)),
         State::Stack(stack) => {
-            let breaks = code_breaks(w, a, frame, code, clauses, marks, k);
+            let breaks = code_breaks(w, a, frame, code, clauses, marks, k)?;
             let does = operation_of(code[k as usize].op);
             let rule = judge(alloc, w, row, does, bound, stack, &breaks)?;
             Ok(rule)

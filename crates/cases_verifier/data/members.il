@@ -1,5 +1,6 @@
 // Locals, arguments and members, and pointers to them.
 .assembly extern mscorlib { }
+.assembly extern Test { }
 .assembly Test { }
 
 .class interface public abstract I { }
@@ -88,4 +89,14 @@
   .method public static void 'a pointer to a local'() cil managed { .locals init (int32) ldloca.s 0 pop ret }
   .method public static int64 'a field of the type of its class argument'(class G<int64>) cil managed {
     ldarg.0  ldfld !0 class G<int64>::f  ret }
+  .method public static void 'a static field of an object, by the name of the image'(valuetype S) cil managed {
+    ldarga.s 0  ldfld int32 [Test]S::s  pop  ret }
+  .method public static void 'and with a modifier'(valuetype S) cil managed {
+    ldarga.s 0  ldfld int32 valuetype S modopt(A)::s  pop  ret }
+  .method public static void 'a field of objects as a static one, by the name of the image'() cil managed {
+    ldsfld !0 class [Test]G<int32>::f  pop  ret }
+  .method public static void 'a field of objects of a class elsewhere as a static one'() cil managed {
+    ldsfld int32 [mscorlib]S::x  pop  ret }
+  .method public static void 'a static field that has another type'(valuetype S) cil managed {
+    ldarga.s 0  ldfld int64 S::s  pop  ret }
 }

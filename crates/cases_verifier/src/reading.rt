@@ -2,7 +2,7 @@
 
 ghost use Rattle.std.specs.Prelude.{◌≤◌, length, IfOk};
 ghost use Rattle.std.specs.List.{All};
-ghost use Rattle.assignability.specs.Worlds.{IsFit};
+ghost use Rattle.type_order.specs.Worlds.{IsFit};
 
 use crate::fault::Fault;
 use crate::repeats::written_out;

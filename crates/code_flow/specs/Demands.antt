@@ -2,7 +2,7 @@
 use Rattle.std.specs.Prelude.{◌≡◌, ◌⊎◌, Bool, true, false, ◌||◌, ◌&&◌, if◌then◌else◌, List, Option, None, Some, is_some, get_or, IsTrue}
 use Rattle.type_terms.specs.declared.term.SigType.{SigType}
 use Rattle.type_hierarchy.specs.Hierarchy.{Hierarchy}
-use Rattle.assignability.specs.Keys.{vector_element}
+use Rattle.type_order.specs.Keys.{vector_element}
 use Rattle.type_hierarchy.specs.Stack.{Stack, i4, i8, native, float, null, ref, boxed, val, ptr, bad, is_reference, verification_type}
 use Rattle.type_hierarchy.specs.Relations.{Assignable}
 

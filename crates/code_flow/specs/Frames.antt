@@ -1,8 +1,6 @@
 -- What a body is checked against: the types of its arguments, locals and result, and of what its instructions name,
 -- normalised (ECMA-335 II.15.4, II.23.2.1, II.23.2.6).
-use Rattle.std.specs.Prelude.{ℕ, zero, suc, ◌+◌, false, if◌then◌else◌, List, [], ◌∷◌, ◌++◌, map, Option, None, Some}
-use Rattle.type_terms.specs.declared.name.Scope.TheVariants.{Here}
-use Rattle.type_terms.specs.declared.name.TypeId.{TypeId}
+use Rattle.std.specs.Prelude.{ℕ, if◌then◌else◌, List, [], ◌∷◌, ◌++◌, map, Option, None, Some}
 use Rattle.type_terms.specs.declared.term.Owner.{Owner}
 use Rattle.type_terms.specs.declared.term.SigType.{SigType}
 use Rattle.type_terms.specs.declared.term.SigType.TheVariants as type
@@ -11,9 +9,10 @@ use Rattle.assembly_tree.specs.declared.body.Body.{Body}
 use Rattle.assembly_tree.specs.declared.body.Clause.{Clause}
 use Rattle.assembly_tree.specs.declared.body.Ins.{Ins}
 use Rattle.sig_pool.specs.Replaced.{replaced}
-use Rattle.assignability.specs.Keys.{reading_of}
+use Rattle.type_order.specs.Keys.{reading_of}
 use Rattle.type_hierarchy.specs.Normal.{Reading, normal, normal_owner}
-use Rattle.assignability.specs.Parts.{type_arguments}
+use Rattle.type_order.specs.OwnTypes.{own_class}
+use Rattle.type_order.specs.Parts.{type_arguments}
 use Rattle.type_hierarchy.specs.Hierarchy.{Hierarchy}
 use Rattle.type_hierarchy.specs.Stack.{is_reference}
 use Rattle.code_flow.specs.Methods.{Declared}
@@ -59,16 +58,6 @@ abbrev pub member_type : Hierarchy → Owner → Option (List SigType) → SigTy
 member_type w owner args t = replaced (class_arguments w owner) (method_arguments w args) (type_in w t)
 
 -- ---- arguments
-
--- `!k` and those after it, `n` in all
-abbrev pub variables : ℕ → ℕ → List SigType
-variables k zero = []
-variables k (suc n) = type.Var k ∷ variables (k + 1) n
-
--- a class with its own parameters as arguments, before it is normalised
-abbrev pub own_class : List TypeId → ℕ → SigType
-own_class path zero = type.Class (record { scope = Here; path = path })
-own_class path (suc n) = type.Inst false (record { scope = Here; path = path }) (variables 0 (suc n))
 
 -- argument 0 of an instance method: the object of a reference type, and of another type a pointer to the value (I.12.1.6.2.1)
 abbrev pub as_this : SigType → SigType

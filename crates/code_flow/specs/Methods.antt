@@ -2,11 +2,7 @@
 use Rattle.std.specs.Prelude.{◌≡◌, ℕ, Bool, not, nat_eq, bit_and, List, [], ◌∷◌, ◌++◌, length, slice_get, is_some, if◌then◌else◌, Option, None, Some, option_and_then}
 use Rattle.std.specs.List.{Contains, flat_map, enumerate_from}
 use Rattle.type_terms.specs.declared.name.TypeId.{TypeId}
-use Rattle.type_terms.specs.declared.name.TypeName.{TypeName}
 use Rattle.type_terms.specs.declared.reference.FieldRef.{FieldRef}
-use Rattle.type_terms.specs.declared.term.Owner.{Owner, out-Owner}
-use Rattle.type_terms.specs.declared.term.Owner.TheOpen.{Owner-F, SigType-F, Name, Spec, Prim, Class, Value, Inst, Var, MVar, SzArray, Array, ByRef, Pointer, Mod, Pinned}
-use Rattle.type_terms.specs.declared.term.SigType.{SigType, out-SigType}
 use Rattle.assembly_tree.specs.declared.assembly.Assembly.{Assembly}
 use Rattle.assembly_tree.specs.declared.members.Field.{Field}
 use Rattle.assembly_tree.specs.declared.members.Method.{Method}
@@ -15,7 +11,8 @@ use Rattle.assembly_tree.specs.declared.typedef.TypeDef.{TypeDef}
 use Rattle.assembly_tree.specs.declared.typedef.TypeDef.TheOpen.{TypeDef-F}
 use Rattle.assembly_tree.specs.declared.typedef.TypeDef.TheFolds.{fold-TypeDef}
 use Rattle.assembly_tree.specs.declared.typedef.TypeDef.TheViews.{out-TypeDef}
-use Rattle.assignability.specs.Fields.{the_module, fields_of}
+use Rattle.type_hierarchy.specs.Hierarchy.{Hierarchy}
+use Rattle.type_order.specs.Fields.{the_module, fields_meant}
 
 -- ---- a method by its place
 
@@ -80,31 +77,10 @@ all_methods a = places_in [] a.methods ++ flat_map typedef_places (enumerate_fro
 
 -- ---- fields
 
-abbrev pub layer_name : SigType-F Owner SigType → Option TypeName
-layer_name (Class name) = Some name
-layer_name (Value name) = Some name
-layer_name (Inst value name args) = Some name
-layer_name (Prim p) = None
-layer_name (Var n) = None
-layer_name (MVar n) = None
-layer_name (SzArray of) = None
-layer_name (Array of rank sizes lower) = None
-layer_name (ByRef of) = None
-layer_name (Pointer of) = None
-layer_name (Mod required by of) = None
-layer_name (Pinned of) = None
-
-abbrev pub owner_layer_name : Owner-F Owner SigType → Option TypeName
-owner_layer_name (Name name) = Some name
-owner_layer_name (Spec t) = layer_name (out-SigType t)
-
--- the name of a type as it is written, that of an instantiation included
-abbrev pub written_name : Owner → Option TypeName
-written_name o = owner_layer_name (out-Owner o)
-
--- the image declares the field: owner, name and type are equal as they are written
-pub record DeclaresField (a : Assembly) (r : FieldRef) (field : Field) : Type 0 where
-  pub here : Contains (fields_of a (written_name r.owner)) field
+-- The image declares the field: it is one of the type that the reference's owner means in the world, and its name and type are
+-- those of the reference as they are written.
+pub record DeclaresField (a : Assembly) (w : Hierarchy) (r : FieldRef) (field : Field) : Type 0 where
+  pub here : Contains (fields_meant a w r.owner) field
   pub name : field.name ≡ r.name
   pub type : field.of ≡ r.of
 

@@ -1,23 +1,27 @@
 -- Single paths through a body with the types that values really have there (ECMA-335 I.12.3.2, III.1.5): nothing is merged,
 -- and a value may have any type that may stand where its type is stated.
-use Rattle.std.specs.Prelude.{◌≡◌, ℕ, ◌<◌, ◌≤◌, List, [], length, get_or, slice_get, Some}
+use Rattle.std.specs.Prelude.{◌≡◌, ℕ, ◌<◌, ◌≤◌, List, [], length, get_or, slice_get, Some, IsTrue}
+use Rattle.type_terms.specs.declared.term.SigType.{SigType}
 use Rattle.assembly_tree.specs.declared.body.Ins.{Ins}
 use Rattle.type_hierarchy.specs.Hierarchy.{Hierarchy}
 use Rattle.type_hierarchy.specs.Stack.{Stack, bad}
 use Rattle.type_hierarchy.specs.Relations.{Assignable}
+use Rattle.code_flow.specs.declared.operation.Operation.{Operation}
+use Rattle.code_flow.specs.declared.operation.Operation.TheVariants as does
 use Rattle.code_flow.specs.Stacks.{Each}
 use Rattle.code_flow.specs.Frames.{Frame}
 use Rattle.code_flow.specs.Demands.{Demand, Meets, MeetTogether}
 use Rattle.code_flow.specs.Rows.{Row, row_of}
 use Rattle.code_flow.specs.Effects.{taken, results, left_with}
-use Rattle.code_flow.specs.Edges.{Carries, flowing, stated, Edge}
+use Rattle.code_flow.specs.Edges.{Carries, flowing, stated, Does, Edge}
+use Rattle.code_flow.specs.Rules.{addressed, is_by_reference}
 
 -- where control is, and the types of the values on the stack, the first that was pushed first
 pub record Point : Type 0 where
   pub at : ℕ
   pub stack : List Stack
 
--- ---- what goes wrong
+-- ---- what goes wrong (III.3, III.4: what the instructions ask of the stack, and of the variable whose address is taken)
 
 -- each operand meets its demand, and all together do
 pub record AreMet (f : Frame) (r : Row) (operands : List Stack) : Type 0 where
@@ -28,6 +32,11 @@ pub data IsWrong (f : Frame) (p : Point) : Type 0 where
   past : length f.code ≤ p.at → IsWrong f p
   too_few : {i : Ins} → slice_get f.code p.at ≡ Some i → length p.stack < length (row_of f p.at i).operands → IsWrong f p
   unmet : {i : Ins} → slice_get f.code p.at ≡ Some i → (AreMet f (row_of f p.at i) (taken (row_of f p.at i) p.stack) → ⊥) → IsWrong f p
+  -- `ret` and `endfilter` leave nothing behind on the stack
+  returns_more : {i : Ins} → Does f p.at does.Return i → length (row_of f p.at i).operands < length p.stack → IsWrong f p
+  filters_more : {i : Ins} → Does f p.at does.EndFilter i → length (row_of f p.at i).operands < length p.stack → IsWrong f p
+  -- a pointer doesn't lead to a pointer
+  by_reference : {i : Ins} {o : Operation} {t : SigType} → Does f p.at o i → addressed f i o ≡ Some t → IsTrue (is_by_reference t) → IsWrong f p
 
 -- ---- steps
 

@@ -85,7 +85,7 @@ wants_static o = None
 -- a field that the image declares is static where the instruction wants one of an instance, or the other way round
 pub record MisfitsField (f : Frame) (o : Operation) (r : FieldRef) : Type 0 where
   pub field : Field
-  pub declared : DeclaresField f.image r field
+  pub declared : DeclaresField f.image f.types r field
   pub wanted : wants_static o ≡ Some (not (is_static field))
 
 abbrev pub MisfitsMember : Frame → Operation → operand.Operand → Type 0

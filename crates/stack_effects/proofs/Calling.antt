@@ -16,7 +16,7 @@ use Rattle.sig_pool.specs.Terms.{term_of}
 use Rattle.type_hierarchy.specs.declared.stack_type.StackType.{StackType}
 use Rattle.type_hierarchy.specs.Hierarchy.{Hierarchy}
 use Rattle.type_hierarchy.specs.Meaning.{Means}
-use Rattle.assignability.specs.Parts.{type_arguments}
+use Rattle.type_order.specs.Parts.{type_arguments}
 use Rattle.type_hierarchy.specs.Stack.{stack_of}
 use Rattle.type_hierarchy.specs.Tables.{hierarchy_in}
 use Rattle.type_hierarchy.specs.World.{Content, hierarchy, Stays}

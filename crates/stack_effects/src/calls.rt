@@ -18,12 +18,12 @@ use crate::making::{made, plain};
 use crate::row::{Demand, Pushed, Row};
 use crate::type_kinds::is_void;
 use assembly_tree::Operand;
-use assignability::types::World;
-use assignability::{
-    StackType, TypeKey, TypeKeys, arguments_of, id_of, key_of, owner_key, st_of, type_key,
-};
 use il_lists::{Items, NoMemory};
 use std::alloc::Global;
+use type_order::types::World;
+use type_order::{
+    StackType, TypeKey, TypeKeys, arguments_of, id_of, key_of, owner_key, st_of, type_key,
+};
 use type_terms::{MethodRef, SigType, Types};
 
 /// A method's owner, and the generic arguments of the owner and of the method.

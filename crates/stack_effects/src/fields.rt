@@ -4,7 +4,7 @@ ghost use Rattle.std.specs.Option.{option_copied};
 ghost use Rattle.sig_pool.specs.Pool.{Has};
 ghost use Rattle.sig_pool.specs.Replaced.{replaced};
 ghost use Rattle.sig_pool.specs.Terms.{term_of};
-ghost use Rattle.assignability.specs.Parts.{type_arguments};
+ghost use Rattle.type_order.specs.Parts.{type_arguments};
 ghost use Rattle.type_hierarchy.specs.World.{hierarchy, Stays};
 ghost use Rattle.code_flow.specs.declared.operation.Operation.TheVariants as does;
 ghost use Rattle.code_flow.specs.Frames.{type_in};
@@ -16,10 +16,10 @@ use crate::naming::{Named, named_of};
 use crate::row::{Demand, Pushed, Row};
 use crate::type_kinds::is_reference;
 use assembly_tree::Operand;
-use assignability::types::World;
-use assignability::{StackType, TypeKey, arguments_of, id_of, key_of, owner_key, pointer_to};
 use il_lists::{Items, NoMemory};
 use std::alloc::Global;
+use type_order::types::World;
+use type_order::{StackType, TypeKey, arguments_of, id_of, key_of, owner_key, pointer_to};
 use type_terms::FieldRef;
 
 /// What is asked of the object of a field or a call, whose owner is that type: with a type that

@@ -1,4 +1,4 @@
-use assignability::{TypeKey, TypeKeys};
+use type_order::{TypeKey, TypeKeys};
 
 /// The types that a body's arguments and locals and its method's result have (ECMA-335 II.15.4).
 #[derive(Drop)]

@@ -3,7 +3,8 @@ ghost use Rattle.std.specs.Prelude.{◌≡◌, [], ◌∷◌, ◌++◌, if◌the
 ghost use Rattle.assembly_tree.specs.declared.assembly.Assembly.{Assembly};
 ghost use Rattle.sig_pool.specs.Pool.{Has, HasAll};
 ghost use Rattle.type_hierarchy.specs.World.{hierarchy, Stays};
-ghost use Rattle.code_flow.specs.Frames.{type_in, types_in, variables, own_class, as_this, this_argument, frame};
+ghost use Rattle.type_order.specs.OwnTypes.{variables, own_class};
+ghost use Rattle.code_flow.specs.Frames.{type_in, types_in, as_this, this_argument, frame};
 ghost use Rattle.code_flow.specs.Methods.{Declared};
 ghost use Rattle.stack_effects.specs.RowMeanings.{MeansFrame, IsFrameWithin};
 
@@ -11,10 +12,10 @@ use crate::calls::type_keys;
 use crate::frame::CodeFrame;
 use crate::type_kinds::is_reference;
 use assembly_tree::{Body, Method};
-use assignability::types::World;
-use assignability::{TypeKey, TypeKeys, id_of, type_key};
 use il_lists::{Boxed, Copies, Items, NoMemory};
 use std::alloc::Global;
+use type_order::types::World;
+use type_order::{TypeKey, TypeKeys, id_of, type_key};
 use type_terms::{Path, Scope, SigType, TypeName, Types};
 
 /// The generic parameters of a class that has `count` of them, as types.

@@ -5,7 +5,7 @@ ghost use Rattle.type_hierarchy.specs.Meaning.{meant};
 ghost use Rattle.type_hierarchy.specs.Stack as stack;
 ghost use Rattle.code_flow.specs.Demands.{is_number, is_integer, is_index, is_object, is_pointer};
 
-use assignability::StackType;
+use type_order::StackType;
 
 pub fn is_bad(t: &StackType) -> bool
     ensures { (ns : List Node) → IsTrue result ↔ (meant ns t.now ≡ stack.bad) }

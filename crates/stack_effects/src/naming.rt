@@ -7,9 +7,9 @@ ghost use Rattle.stack_effects.specs.RowMeanings.{MeansNamed};
 ghost use Rattle.code_flow.specs.Rows.{named_in};
 
 use assembly_tree::Operand;
-use assignability::types::World;
-use assignability::{StackType, TypeKey, owner_key, pointer_to, primitive_key, st_of};
 use il_lists::NoMemory;
+use type_order::types::World;
+use type_order::{StackType, TypeKey, owner_key, pointer_to, primitive_key, st_of};
 use type_terms::Prim;
 
 /// A type: its key, what its values are on the stack, and a pointer to it (ECMA-335 I.8.7.1, I.12.3.2.1).

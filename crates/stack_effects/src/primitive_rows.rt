@@ -15,11 +15,11 @@ ghost use Rattle.code_flow.specs.Rows.{row, pushes, number_type, numeric_type_of
 use crate::making::plain;
 use crate::row::{Demand, Pushed, Row};
 use assembly_tree::Operand;
-use assignability::types::World;
-use assignability::{StackType, TypeKey, core_value, primitive_key};
 use code_flow::operation::{Number, Numeric};
 use il_lists::{NoMemory, Text};
 use std::alloc::Global;
+use type_order::types::World;
+use type_order::{StackType, TypeKey, core_value, primitive_key};
 use type_terms::{Path, Prim, TypeId};
 
 /// A number on the stack.

@@ -1,5 +1,5 @@
-use assignability::{StackType, TypeKey};
 use il_lists::Items;
+use type_order::{StackType, TypeKey};
 
 /// What an instruction asks of one operand (ECMA-335 III.1.5, III.3, III.4).
 #[derive(Clone, Copy, Drop)]

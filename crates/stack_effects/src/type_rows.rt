@@ -9,10 +9,10 @@ use crate::making::plain;
 use crate::naming::{named_key, type_named};
 use crate::row::{Demand, Pushed, Row};
 use assembly_tree::Operand;
-use assignability::types::World;
-use assignability::{StackType, boxed_of, vector_of};
 use il_lists::NoMemory;
 use std::alloc::Global;
+use type_order::types::World;
+use type_order::{StackType, boxed_of, vector_of};
 
 /// Of `ldobj`.
 pub fn load_object(alloc: Global, w: &mut World, operand: &Operand) -> Result<Row, NoMemory>

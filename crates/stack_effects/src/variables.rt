@@ -10,11 +10,11 @@ use crate::making::plain;
 use crate::row::{Demand, Pushed, Row};
 use crate::type_kinds::is_by_reference;
 use assembly_tree::{Ins, Operand};
-use assignability::types::World;
-use assignability::{StackType, TypeKey, TypeKeys, id_of, pointer_to, st_of};
 use il_lists::NoMemory;
 use opcode_table::Op;
 use std::alloc::Global;
+use type_order::types::World;
+use type_order::{StackType, TypeKey, TypeKeys, id_of, pointer_to, st_of};
 
 /// The number of the variable that a short form names by its opcode.
 fn short_form(op: Op) -> Option<u16>

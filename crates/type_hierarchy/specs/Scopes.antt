@@ -12,6 +12,9 @@ pub record Sources : Type 0 where
   pub image : Assembly
   pub references : List Assembly
 
+abbrev pub sources : Assembly → List Assembly → Sources
+sources a references = record { image = a; references = references }
+
 -- an assembly of the world with its number: 0 is the image, and references count from 1
 pub record Member : Type 0 where
   pub number : ℕ

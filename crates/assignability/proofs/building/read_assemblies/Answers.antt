@@ -1,8 +1,8 @@
 use Rattle.std.proofs.Common.{◌∙◌}
-use Rattle.type_hierarchy.specs.Members.{sources}
-use Rattle.type_hierarchy.specs.Places.{row}
-use Rattle.type_hierarchy.proofs.FillLemmas.{places_within}
-use Rattle.type_hierarchy.proofs.KnownTypes.{knows_all}
+use Rattle.type_hierarchy.specs.Scopes.{sources}
+use Rattle.type_tables.specs.Places.{row}
+use Rattle.type_tables.proofs.FillLemmas.{places_within}
+use Rattle.type_tables.proofs.KnownTypes.{knows_all}
 use Rattle.assignability.proofs.WorldLemmas.{few_externs, formed_of, read_all}
 use Rattle.assignability.proofs.building.read_assemblies.Goals as goal
 

@@ -5,6 +5,14 @@ use Rattle.body_verifier.proofs.EdgeCounts.{room_low}
 use Rattle.body_verifier.proofs.EdgeStart.{setup_kept}
 use Rattle.body_verifier.proofs.checking.states_of.Goals as goal
 
+pub returns-clause-low : goal.returns-clause-low
+returns-clause-low g c =
+    let ready = c.requires.1.0 in
+    let goings = c.in_ok-goings.ensures g.at.frame (ready.code ∙ sym c.as_slice.ensures) (ready.spans ∙ ap (map spans_of) (sym ready.clauses)) ready.formed ready.nest in
+    let room = room_low g.at c.in_ok-goings.goings goings ready.short ready.low in
+    let used = c.least_typing.ensures.budget in
+    omega (arith, room, used)
+
 pub least_typing-requires : goal.least_typing-requires
 least_typing-requires g c =
     let set = c.requires.0 in

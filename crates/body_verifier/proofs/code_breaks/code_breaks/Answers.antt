@@ -11,7 +11,7 @@ use Rattle.body_verifier.proofs.VerdictLemmas.{unfit_exact}
 use Rattle.body_verifier.proofs.code_breaks.code_breaks.Goals as goal
 
 pub returns : goal.returns
-returns c = λ f b.
+returns c = λ f b types.
     let code = c.args.code.now in
     let k = c.args.k in
     let ins = c.index-code-k.result in
@@ -29,7 +29,7 @@ returns c = λ f b.
       off = c.runs_off.ensures f here long;
       local = c.lacks_local.ensures f k here c.variable_number-number.ensures locals;
       argument = c.lacks_argument.ensures f k here c.variable_number-number.ensures arguments;
-      member = c.misfits.ensures f k b.image here;
+      member = c.in_ok-unfit_member.ensures f k b.image types here;
       inside = c.returns_inside.ensures f here b.clauses;
       branch = c.branches_across.ensures f here b.clauses;
       fall = c.falls_across.ensures f here entered b.clauses;

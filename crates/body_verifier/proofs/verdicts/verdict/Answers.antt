@@ -23,4 +23,4 @@ returns-in_ok-rule-in-Stack-clause-ok c = λ f typing i body types bound here ro
     let same = one_item code k k i ins refl there_too there in
     let acts = ap (λ (z : Ins). operation z.op) (same ∙ c.index-code-k.is) ∙ sym c.operation_of-does.ensures in
     let stack_is = is ∙ ap (λ (x : State). state_meant c.args.w.now.nodes x) c.in-Stack.is in
-    c.in_ok-rule-in-Stack.ensures.ok f typing k i types bound here acts row stack_is (c.code_breaks-breaks.ensures f body)
+    c.in_ok-rule-in-Stack.ensures.ok f typing k i types bound here acts row stack_is (c.in_ok-breaks-in-Stack.ensures f body types)

@@ -1,5 +1,5 @@
-use Rattle.type_hierarchy.specs.Members.{sources}
-use Rattle.body_verifier.specs.Checking.{IsWorldSince}
+use Rattle.type_hierarchy.specs.Scopes.{sources}
+use Rattle.type_order.specs.Worlds.{IsWorldSince}
 use Rattle.cases_verifier.proofs.checks.show_methods.Given as goal
 
 abbrev pub ghost-show_method : goal.ghost-show_method

@@ -1,5 +1,5 @@
 use Rattle.std.proofs.Common.{◌≡◌}
-use Rattle.code_flow.specs.Frames.{variables}
+use Rattle.type_order.specs.OwnTypes.{variables}
 use Rattle.stack_effects.proofs.framing.own_parameters.Given as goal
 
 abbrev pub invariant-loop-k : goal.invariant-loop-k

@@ -1,5 +1,0 @@
-use Rattle.std.proofs.Common.{◌-◌, length}
-use Rattle.assignability.proofs.fields.+type_below.Given as goal
-
-abbrev pub decreases-type_below : goal.decreases-type_below
-decreases-type_below l = length l.path.now - l.depth

@@ -1,5 +1,0 @@
-use Rattle.type_hierarchy.proofs.KeptLemmas.{ready_more}
-use Rattle.assignability.proofs.written.stack_of.Goals as goal
-
-pub invariant_of-w : goal.invariant_of-w
-invariant_of-w c = ready_more c.w.inside.pool c.written_stack.new.pool c.w.inside.tables c.w.inside.parents c.w.invariant c.written_stack.ensures.extends

@@ -1,7 +1,0 @@
-use Rattle.std.proofs.Common.{ℕ, ◌<◌}
-use Rattle.type_hierarchy.proofs.CycleLemmas.{Tried}
-use Rattle.type_hierarchy.proofs.cyclic.first_by_walks.Given as goal
-
--- steps lead back to none before this one
-abbrev pub invariant-loop-k : goal.invariant-loop-k
-invariant-loop-k l = (j : ℕ) → j < l.k-counter → Tried l.steps j

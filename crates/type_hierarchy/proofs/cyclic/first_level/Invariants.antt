@@ -1,5 +1,0 @@
-use Rattle.type_hierarchy.specs.Walks.{FallsBefore}
-use Rattle.type_hierarchy.proofs.cyclic.first_level.Given as goal
-
-abbrev pub invariant-loop-i : goal.invariant-loop-i
-invariant-loop-i l = FallsBefore l.steps l.numbers l.i

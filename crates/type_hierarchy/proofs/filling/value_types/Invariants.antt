@@ -1,7 +1,0 @@
-use Rattle.type_hierarchy.specs.Members.{sources}
-use Rattle.type_hierarchy.specs.Places.{row}
-use Rattle.type_hierarchy.proofs.ValueLemmas.{AreFound}
-use Rattle.type_hierarchy.proofs.filling.value_types.Given as goal
-
-abbrev pub invariant-loop-k : goal.invariant-loop-k
-invariant-loop-k l = AreFound (sources l.image l.references) (row l.places) l.k l.names

@@ -1,9 +1,0 @@
-use Rattle.std.proofs.Common.{◌≡◌, ◌+◌, ◌++◌, drop, map}
-use Rattle.type_hierarchy.specs.Members.{member, sources, assembly_of}
-use Rattle.type_hierarchy.specs.Scopes.{members, members_from, name_of}
-use Rattle.type_hierarchy.proofs.members.member_numbers.Given as goal
-
-abbrev pub invariant-loop-k : goal.invariant-loop-k
-invariant-loop-k l =
-    let s = sources l.image l.references in
-    map (member s) l.numbers ++ members_from (l.k + 1) (map (λ n. name_of (assembly_of s n)) l.numbers) (drop l.k l.references) ≡ members s

@@ -1,0 +1,13 @@
+pub mod Assigning
+pub mod CommonLemmas
+pub mod FieldLemmas
+pub mod FitIds
+pub mod FitLemmas
+pub mod JoinIds
+pub mod JoinLemmas
+pub mod MeantLemmas
+pub mod Ordering
+pub mod PartLemmas
+pub mod StayLemmas
+pub mod TermLemmas
+pub mod WalkLemmas

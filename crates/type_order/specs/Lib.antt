@@ -1,0 +1,11 @@
+pub mod Answers
+pub mod Arrays
+pub mod Common
+pub mod Fields
+pub mod Joining
+pub mod Keys
+pub mod OwnTypes
+pub mod Parts
+pub mod Starts
+pub mod Staying
+pub mod Worlds

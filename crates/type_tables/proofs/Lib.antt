@@ -1,0 +1,17 @@
+pub mod CycleLemmas
+pub mod EntryLemmas
+pub mod FillLemmas
+pub mod Gathering
+pub mod IndexLemmas
+pub mod KnownTypes
+pub mod LandingLemmas
+pub mod MarkLemmas
+pub mod MemberLemmas
+pub mod NamingLemmas
+pub mod PlaceLemmas
+pub mod Placing
+pub mod ReachLemmas
+pub mod SoFar
+pub mod StepLists
+pub mod TreePlaces
+pub mod ValueLemmas
