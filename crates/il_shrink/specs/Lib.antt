@@ -1,0 +1,4 @@
+pub mod Branches
+pub mod Forms
+pub mod Shrunk
+pub mod ShrunkAll
