@@ -61,7 +61,7 @@ methods_formed a [] (n ∷ ns) h formed = absurd h
 methods_formed a (m ∷ ms) [] h formed = absurd h
 methods_formed a (m ∷ ms) (n ∷ ns) h formed =
     let first : IsTrue (is_method a n) =
-      ap (is_method a) h.0.same ∙ method_with a m n.body h.0.body (and_first (is_method a m) (list_all (is_method a) ms) formed) in
+    ap (is_method a) h.0.same ∙ method_with a m n.body h.0.body (and_first (is_method a m) (list_all (is_method a) ms) formed) in
     and_both (is_method a n) (list_all (is_method a) ns) first (methods_formed a ms ns h.1 (and_second (is_method a m) (list_all (is_method a) ms) formed))
 
 methods_length : (ms ns : List Method) → AreShrunkMethods ms ns → length ns ≡ length ms
@@ -111,13 +111,13 @@ module _ (a : Assembly) where
       let events = list_all (is_event a) t.events in
       let accessors : ℕ → Bool = λ n. list_all (has_accessors_of_property n) t.properties && list_all (has_accessors_of_event n) t.events in
       let differ : Bool → Bool = λ b.
-        all_differ is_same_field t.fields && b && all_differ is_same_property t.properties && all_differ is_same_event t.events in
+      all_differ is_same_field t.fields && b && all_differ is_same_property t.properties && all_differ is_same_event t.events in
       let new : IsTrue (list_all (is_method a) ms) =
-        methods_formed a t.methods ms h
-        (their_methods (is_head a top t) fields methods properties events (accessors (length t.methods)) (differ (all_differ is_same_method t.methods)) formed) in
+      methods_formed a t.methods ms h
+      (their_methods (is_head a top t) fields methods properties events (accessors (length t.methods)) (differ (all_differ is_same_method t.methods)) formed) in
       let made : IsTrue (is_head a top t && (fields && list_all (is_method a) ms && properties && events) && accessors (length t.methods) && differ (all_differ is_same_method t.methods)) =
-        new_methods (is_head a top t) fields methods properties events (accessors (length t.methods)) (differ (all_differ is_same_method t.methods))
-        (list_all (is_method a) ms) formed new in
+      new_methods (is_head a top t) fields methods properties events (accessors (length t.methods)) (differ (all_differ is_same_method t.methods))
+      (list_all (is_method a) ms) formed new in
       ap (λ n. is_head a top t && (fields && list_all (is_method a) ms && properties && events) && accessors n && differ (all_differ is_same_method ms))
       (methods_length t.methods ms h)
       ∙ ap (λ b. is_head a top t && (fields && list_all (is_method a) ms && properties && events) && accessors (length t.methods) && differ b)
@@ -157,7 +157,7 @@ module _ (a : Assembly) where
       let here = and_first (fine top zero t) (list_all (fine top zero) ts) h in
       let owns = own_formed a top (out-TypeDef t) (out-TypeDef u) own (and_first (is_own a top (out-TypeDef t)) (are_types a false zero (out-TypeDef t).nested) here) in
       let within : IsTrue (are_types a false zero (out-TypeDef u).nested) =
-        ap (λ n. n == 0) (types_length nested) ∙ and_second (is_own a top (out-TypeDef t)) (are_types a false zero (out-TypeDef t).nested) here in
+      ap (λ n. n == 0) (types_length nested) ∙ and_second (is_own a top (out-TypeDef t)) (are_types a false zero (out-TypeDef t).nested) here in
       and_both (fine top zero u) (list_all (fine top zero) us)
       (and_both (is_own a top (out-TypeDef u)) (are_types a false zero (out-TypeDef u).nested) owns within)
       (types_fine rest top zero (and_second (fine top zero t) (list_all (fine top zero) ts) h))
@@ -165,11 +165,11 @@ module _ (a : Assembly) where
       let here = and_first (fine top (suc levels) t) (list_all (fine top (suc levels)) ts) h in
       let owns = own_formed a top (out-TypeDef t) (out-TypeDef u) own (and_first (is_own a top (out-TypeDef t)) (are_types a false (suc levels) (out-TypeDef t).nested) here) in
       let inner : IsTrue (all_differ is_same_id (out-TypeDef t).nested && list_all (fine false levels) (out-TypeDef t).nested) =
-        and_second (is_own a top (out-TypeDef t)) (are_types a false (suc levels) (out-TypeDef t).nested) here in
+      and_second (is_own a top (out-TypeDef t)) (are_types a false (suc levels) (out-TypeDef t).nested) here in
       let differ : IsTrue (all_differ is_same_id (out-TypeDef u).nested) =
-        ids_differ nested ∙ and_first (all_differ is_same_id (out-TypeDef t).nested) (list_all (fine false levels) (out-TypeDef t).nested) inner in
+      ids_differ nested ∙ and_first (all_differ is_same_id (out-TypeDef t).nested) (list_all (fine false levels) (out-TypeDef t).nested) inner in
       let each : IsTrue (list_all (fine false levels) (out-TypeDef u).nested) =
-        types_fine nested false levels (and_second (all_differ is_same_id (out-TypeDef t).nested) (list_all (fine false levels) (out-TypeDef t).nested) inner) in
+      types_fine nested false levels (and_second (all_differ is_same_id (out-TypeDef t).nested) (list_all (fine false levels) (out-TypeDef t).nested) inner) in
       and_both (fine top (suc levels) u) (list_all (fine top (suc levels)) us)
       (and_both (is_own a top (out-TypeDef u)) (are_types a false (suc levels) (out-TypeDef u).nested) owns
       (and_both (all_differ is_same_id (out-TypeDef u).nested) (list_all (fine false levels) (out-TypeDef u).nested) differ each))
@@ -210,8 +210,8 @@ unfolding is_well_formed are_globals
 assembly_formed a c h formed =
     let same : SameNames a c = same_names a c h in
     let parts =
-      apart (is_manifest a a.manifest) (list_all is_extern a.externs) (are_classes a) (list_all (is_field a) a.fields) (list_all (is_method a) a.methods)
-      (all_differ is_same_field a.fields) (all_differ is_same_method a.methods) (is_one_entry a) formed in
+    apart (is_manifest a a.manifest) (list_all is_extern a.externs) (are_classes a) (list_all (is_field a) a.fields) (list_all (is_method a) a.methods)
+    (all_differ is_same_field a.fields) (all_differ is_same_method a.methods) (is_one_entry a) formed in
     together (is_manifest c c.manifest) (list_all is_extern c.externs) (are_classes c) (list_all (is_field c) c.fields) (list_all (is_method c) c.methods)
     (all_differ is_same_field c.fields) (all_differ is_same_method c.methods) (is_one_entry c)
     (ap (is_manifest c) (ap (λ x. x.manifest) h.same) ∙ ap (λ (f : Manifest → Bool). f a.manifest) (conditions.manifests a c same) ∙ parts.manifest)

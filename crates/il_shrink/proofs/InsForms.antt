@@ -147,7 +147,7 @@ unfolding operand_kind
 short_size_by i k s b e is h =
     let size : size_of (with_short i) ≡ opcode_size i.op + operand_size (short_kind (operand_kind i.op)) i.operand = short_size_is i in
     let kinds : operand_size (short_kind k) i.operand ≡ operand_size (short_kind (operand_kind i.op)) i.operand =
-      ap (λ l. operand_size (short_kind l) i.operand) e in
+    ap (λ l. operand_size (short_kind l) i.operand) e in
     omega arith
 
 -- the first form from what stands for its parts
@@ -168,7 +168,7 @@ width_at_most i =
     let is : size_of i ≡ opcode_size i.op + operand_size (operand_kind i.op) i.operand = size_is i in
     let fits : short_size i ≤ opcode_size i.op + operand_size (operand_kind i.op) i.operand = omega arith in
     let all : width (form_in (operand_kind i.op) i.operand (short_size i)) ≤ opcode_size i.op + operand_size (operand_kind i.op) i.operand =
-      width_in (operand_kind i.op) i.operand (opcode_size i.op) (short_size i) (some_byte i.op) fits in
+    width_in (operand_kind i.op) i.operand (opcode_size i.op) (short_size i) (some_byte i.op) fits in
     omega arith
 
 form_size : (i : Ins) (f : Form) → form_of i ≡ f → with_short i ≡ i → min (size_of i) 255 ≤ width f

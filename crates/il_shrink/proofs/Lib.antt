@@ -1,6 +1,7 @@
 pub mod Codes
 pub mod Formed
 pub mod InsForms
+pub mod Joins
 pub mod Kept
 pub mod Lists
 pub mod Moves

@@ -60,6 +60,6 @@ module _ {X Y : Type 0} (size : X → ℕ) (width : Y → ℕ) where
       near (sum_by size (take from xs)) (sum_by size (take to xs)) ≡ true → near (sum_by width (take from ys)) (sum_by width (take to ys)) ≡ true
   near_moves xs ys h from to is =
       elim (le_or to from) [
-        inl le ↦ near_back _ _ (sum_by size (take from xs)) (sum_by size (take to xs)) (rises width ys to from le) (grows size width xs ys h to from le) is
-      | inr le ↦ near_ahead _ _ (sum_by size (take from xs)) (sum_by size (take to xs)) (rises width ys from to le) (grows size width xs ys h from to le) is
+        | inl le ↦ near_back _ _ (sum_by size (take from xs)) (sum_by size (take to xs)) (rises width ys to from le) (grows size width xs ys h to from le) is
+        | inr le ↦ near_ahead _ _ (sum_by size (take from xs)) (sum_by size (take to xs)) (rises width ys from to le) (grows size width xs ys h from to le) is
       ]

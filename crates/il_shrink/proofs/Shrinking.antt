@@ -5,7 +5,7 @@ use Rattle.std.proofs.Math.Seq.{take-append_seam}
 use Rattle.std.proofs.lemmas.List.{length-map}
 use Rattle.branch_forms.specs.declared.form.Form.{Form}
 use Rattle.branch_forms.specs.declared.form.Form.TheVariants.{Fixed, Short, Long}
-use Rattle.branch_forms.specs.Forms.{width, has_bytes, shortened, IsShort, IsShortest} 
+use Rattle.branch_forms.specs.Forms.{width, has_bytes, shortened, IsShort, IsShortest}
 use Rattle.branch_forms.specs.Forms as forms
 use Rattle.opcode_table.specs.declared.kind.OperandKind.{OperandKind}
 use Rattle.opcode_table.specs.declared.kind.OperandKind.TheVariants as kind
@@ -43,12 +43,12 @@ short_at code k (t, h) =
 
 -- ---- validity
 
-reaches_to : (code : List Ins) (k t : ℕ) (l : OperandKind) (o : operand.Operand) → IsBranchTo l o t → reaches_at code k l o ≡ true →
+pub reaches_to : (code : List Ins) (k t : ℕ) (l : OperandKind) (o : operand.Operand) → IsBranchTo l o t → reaches_at code k l o ≡ true →
     is_near (offset_of code (k + 1)) (offset_of code t) ≡ true
 reaches_to code k t l o b h =
     ap (λ p. reaches_at code k kind.Branch8 p) (sym b.operand_is) ∙ ap (λ m. reaches_at code k m o) (sym b.kind_is) ∙ h
 
-reaches_by : (code : List Ins) (k : ℕ) (l : OperandKind) (o : operand.Operand) →
+pub reaches_by : (code : List Ins) (k : ℕ) (l : OperandKind) (o : operand.Operand) →
     ((t : ℕ) → l ≡ kind.Branch8 → o ≡ operand.TheVariants.Target t → is_near (offset_of code (k + 1)) (offset_of code t) ≡ true) → reaches_at code k l o ≡ true
 reaches_by code k kind.Branch8 (operand.TheVariants.Target t) h = h t refl refl
 reaches_by code k l o h = refl
@@ -68,12 +68,12 @@ unfolding short_branches_reach
 chosen_valid code fs e valid =
     let c = chosen code fs in
     test_all (reaches c) 0 c (λ k m i place at_k.
-        let same : m ≡ k = omega arith in
-        reaches_by c m (operand_kind i.op) i.operand (λ t l o.
-          let here : slice_get fs k ≡ Some (Short t) =
-            ap (λ gs. slice_get gs k) (sym (chosen_forms code fs e)) ∙ map_get form_of c k i at_k ∙ ap Some (form_by i t l o) in
-          subst (λ n. is_near (offset_of c (n + 1)) (offset_of c t) ≡ true) (sym same)
-          (near_moves width size_of fs c (chosen_at_most code fs e) (k + 1) t (valid k t here))))
+    let same : m ≡ k = omega arith in
+    reaches_by c m (operand_kind i.op) i.operand (λ t l o.
+    let here : slice_get fs k ≡ Some (Short t) =
+    ap (λ gs. slice_get gs k) (sym (chosen_forms code fs e)) ∙ map_get form_of c k i at_k ∙ ap Some (form_by i t l o) in
+    subst (λ n. is_near (offset_of c (n + 1)) (offset_of c t) ≡ true) (sym same)
+    (near_moves width size_of fs c (chosen_at_most code fs e) (k + 1) t (valid k t here))))
 
 -- ---- the greatest choice
 
@@ -98,7 +98,7 @@ module _ (code : List Ins) (fs : List Form) (best : IsShortest (map first_form c
       let first : first_form i ≡ Short t = some_is (first_form i) (Short t) (first_get code other fs k t i same same_forms at_k long) in
       let here : IsShort (map form_of other) k = (t, map_get form_of other k i at_k ∙ ap Some (first_short i t is_s first)) in
       let choice : map shortened (map form_of other) ≡ map shortened (map first_form code) =
-        forms_short other ∙ firsts_same code other same ∙ sym (firsts_short code) in
+      forms_short other ∙ firsts_same code other same ∙ sym (firsts_short code) in
       let (u, short) = best.greatest (map form_of other) choice (forms_valid other valid) k here in
       no_both fs k t u long short
 
@@ -107,12 +107,12 @@ module _ (code : List Ins) (fs : List Form) (best : IsShortest (map first_form c
       let choice : map with_short other ≡ map with_short (chosen code fs) = same ∙ sym (chosen_same code fs same_forms) in
       let (j, at_j, j_is) = get_same with_short other (chosen code fs) k i choice at_k in
       elim (chosen_short code fs k j at_j) [
-        inl (b, at_b, b_is) ↦
-          let (p, at_p, p_is) = get_same with_short other code k i same at_k in
-          let one : p ≡ b = some_is p b (sym at_p ∙ at_b) in
-          let op : j.op ≡ i.op = ap (λ x. x.op) (sym b_is) ∙ ap (λ x. short_form x.op) (sym one) ∙ ap (λ x. x.op) p_is ∙ short_stays i.op is_s in
-          (j, at_j, ap is_short op ∙ is_s)
-      | inr (t, long) ↦ absurd (not_long other same valid k i at_k is_s t long)
+        | inl (b, at_b, b_is) ↦
+            let (p, at_p, p_is) = get_same with_short other code k i same at_k in
+            let one : p ≡ b = some_is p b (sym at_p ∙ at_b) in
+            let op : j.op ≡ i.op = ap (λ x. x.op) (sym b_is) ∙ ap (λ x. short_form x.op) (sym one) ∙ ap (λ x. x.op) p_is ∙ short_stays i.op is_s in
+            (j, at_j, ap is_short op ∙ is_s)
+        | inr (t, long) ↦ absurd (not_long other same valid k i at_k is_s t long)
       ]
 
   pub shrunk_by : IsShrunkCode code (chosen code fs)

@@ -37,8 +37,8 @@ weight_with : (m : Method) (q : Option Body) → IsShrunkBody m.body q → metho
 unfolding method_weight
 weight_with m q h =
     ap (λ w.
-      64 + length m.name + signature_weight m.sig + sum_by generic_weight m.generics + sum_by param_weight m.params + 64 * length m.overrides
-      + sum_by method_ref_weight m.overrides + w + sum_by attribute_weight m.attributes)
+    64 + length m.name + signature_weight m.sig + sum_by generic_weight m.generics + sum_by param_weight m.params + 64 * length m.overrides
+    + sum_by method_ref_weight m.overrides + w + sum_by attribute_weight m.attributes)
     (body_same m.body q h)
 
 method_same : (m n : Method) → IsShrunkMethod m n → method_weight n ≡ method_weight m
@@ -47,8 +47,11 @@ method_same m n h = ap method_weight h.same ∙ weight_with m n.body h.body
 methods_weight : (ms ns : List Method) → AreShrunkMethods ms ns → sum_by method_weight ns ≡ sum_by method_weight ms
 methods_weight = methods_sum method_weight method_same
 
+abbrev entry_count : Method → ℕ
+entry_count m = cond m.entry 1 0
+
 methods_entries : (ms ns : List Method) → AreShrunkMethods ms ns → entries_in ns ≡ entries_in ms
-methods_entries = methods_sum (λ m. cond m.entry 1 0) (λ m n h. ap (λ x. cond x.entry 1 0) h.same)
+methods_entries = methods_sum entry_count (λ m n h. ap entry_count h.same)
 
 texts_with : (p q : Option Body) → IsShrunkBody p q → body_texts q ≡ body_texts p
 unfolding body_texts
@@ -90,9 +93,9 @@ own_with : (t : TypeDef-F TypeDef) (ms : List Method) (ns : List TypeDef) → Ar
 unfolding own_weight
 own_with t ms ns h =
     ap (λ w.
-      64 + length t.id.space + length t.id.name + optional (λ _. 64) t.layout + sum_by generic_weight t.generics + optional owner_weight t.extends
-      + bounds_weight t.implements + sum_by field_weight t.fields + w + sum_by property_weight t.properties + sum_by event_weight t.events
-      + sum_by attribute_weight t.attributes)
+    64 + length t.id.space + length t.id.name + optional (λ _. 64) t.layout + sum_by generic_weight t.generics + optional owner_weight t.extends
+    + bounds_weight t.implements + sum_by field_weight t.fields + w + sum_by property_weight t.properties + sum_by event_weight t.events
+    + sum_by attribute_weight t.attributes)
     (methods_weight t.methods ms h)
 
 own_same : (t u : TypeDef-F TypeDef) → IsShrunkOwn t u → own_weight u ≡ own_weight t
@@ -119,8 +122,8 @@ types_texts : {ts us : List TypeDef} → AreShrunkTypes ts us → flat_map typed
 types_texts none = refl
 types_texts (more {t} {u} {ts} {us} here nested rest) =
     let within =
-      texts_out u ∙ ap (λ l. l ++ flat_map typedef_texts (out-TypeDef u).nested) (methods_texts (out-TypeDef t).methods (out-TypeDef u).methods here.methods)
-      ∙ ap (λ l. flat_map method_texts (out-TypeDef t).methods ++ l) (types_texts nested) ∙ sym (texts_out t) in
+    texts_out u ∙ ap (λ l. l ++ flat_map typedef_texts (out-TypeDef u).nested) (methods_texts (out-TypeDef t).methods (out-TypeDef u).methods here.methods)
+    ∙ ap (λ l. flat_map method_texts (out-TypeDef t).methods ++ l) (types_texts nested) ∙ sym (texts_out t) in
     ap (λ l. l ++ flat_map typedef_texts us) within ∙ ap (λ l. typedef_texts t ++ l) (types_texts rest)
 
 -- ---- the assembly

@@ -36,7 +36,7 @@ pub record IsShrunkOwn (t u : TypeDef-F TypeDef) : Type 0 where
 pub data AreShrunkTypes : List TypeDef → List TypeDef → Type 0 where
   none : AreShrunkTypes [] []
   more : {t u : TypeDef} {ts us : List TypeDef} → IsShrunkOwn (out-TypeDef t) (out-TypeDef u) →
-    AreShrunkTypes (out-TypeDef t).nested (out-TypeDef u).nested → AreShrunkTypes ts us → AreShrunkTypes (t ∷ ts) (u ∷ us)
+      AreShrunkTypes (out-TypeDef t).nested (out-TypeDef u).nested → AreShrunkTypes ts us → AreShrunkTypes (t ∷ ts) (u ∷ us)
 
 -- the assembly but for its bodies
 pub record IsShrunkAll (a c : Assembly) : Type 0 where

@@ -11,7 +11,12 @@ use il_lists::{NoMemory, three};
 use std::alloc::Global;
 
 /// A copy of the assembly with these methods and types.
-fn with_members(alloc: Global, a: &Assembly, methods: Methods, types: TypeDefs) -> Result<Assembly, NoMemory>
+fn with_members(
+    alloc: Global,
+    a: &Assembly,
+    methods: Methods,
+    types: TypeDefs,
+) -> Result<Assembly, NoMemory>
     ensures { IfOk result (λ c. c ≡ record a.now { methods = methods; types = types }) }
 {
     let (manifest, externs, fields) = three(&a.manifest, &a.externs, &a.fields, alloc)?;

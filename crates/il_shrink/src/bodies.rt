@@ -48,11 +48,10 @@ pub fn shrunk_option(alloc: Global, b: &Option<Body>) -> Result<Option<Body>, No
 }
 
 /// A copy of the body in which a branch is short wherever it is in any choice of forms in which each short branch reaches
-/// its target (III.3). The body needn't have such forms itself.
+/// its target (III.3). It asks nothing of the body, whose own short branches needn't reach.
 pub fn shrink(alloc: Global, b: &Body) -> Result<Body, NoMemory>
-    requires { IsTrue (has_body_form b.now) }
     ensures shrunk { IfOk result (IsShrunk b.now) }
-    ensures form { IfOk result (λ c. IsTrue (has_body_form c)) }
+    ensures form { IfOk result (λ c. has_body_form c ≡ has_body_form b.now) }
     ensures reach { IfOk result (λ c. IsTrue (short_branches_reach c.code)) }
     ensures weight { IfOk result (λ c. body_weight c ≡ body_weight b.now) }
 {

@@ -6,8 +6,10 @@ mod assemblies;
 mod bodies;
 mod branches;
 mod forms;
+mod laws;
 mod methods;
 mod types;
 
 pub use assemblies::shrink_all;
 pub use bodies::shrink;
+pub use laws::{one_is_shrunk, short_ones_stay, valid_choices_join};

@@ -3,9 +3,7 @@ ghost use Rattle.assembly_tree.specs.declared.typedef.TypeDef.TheViews.{out-Type
 ghost use Rattle.il_shrink.specs.ShrunkAll.{IsShrunkWith, AreShrunkTypes};
 
 use crate::methods::shrunk_methods;
-use assembly_tree::{
-    Attributes, Events, Fields, Generics, Methods, Properties, TypeDef, TypeDefs,
-};
+use assembly_tree::{Attributes, Events, Fields, Generics, Methods, Properties, TypeDef, TypeDefs};
 use il_lists::{Items, NoMemory, four};
 use std::alloc::Global;
 use type_terms::{Owner, Owners, TypeId};
@@ -32,8 +30,13 @@ fn head_copied(alloc: Global, t: &TypeDef) -> Result<Head, NoMemory>
     ensures { IfOk result (λ h. let u = out-TypeDef t.now in
         (h.id ≡ u.id) × (h.generics ≡ u.generics) × (h.extends ≡ u.extends) × (h.implements ≡ u.implements)) }
 {
-    let (id, generics, extends, implements) =
-        four(&t.id, &t.generics, &t.extends, &t.implements, alloc)?;
+    let (id, generics, extends, implements) = four(
+        &t.id,
+        &t.generics,
+        &t.extends,
+        &t.implements,
+        alloc,
+    )?;
     Ok(Head {
         id,
         generics,
@@ -46,8 +49,13 @@ fn members_copied(alloc: Global, t: &TypeDef) -> Result<Members, NoMemory>
     ensures { IfOk result (λ m. let u = out-TypeDef t.now in
         (m.fields ≡ u.fields) × (m.properties ≡ u.properties) × (m.events ≡ u.events) × (m.attributes ≡ u.attributes)) }
 {
-    let (fields, properties, events, attributes) =
-        four(&t.fields, &t.properties, &t.events, &t.attributes, alloc)?;
+    let (fields, properties, events, attributes) = four(
+        &t.fields,
+        &t.properties,
+        &t.events,
+        &t.attributes,
+        alloc,
+    )?;
     Ok(Members {
         fields,
         properties,

@@ -34,8 +34,8 @@ returns c =
     let e = c.as_mut_slice.ensures.value ∙ first in
     if_ok (λ (l : List Ins). l ≡ chosen c.args.code.now c.as_slice.result.now) (λ (l : List Ins). IsShrunkCode c.args.code.now l) c.chosen.result
     (λ l made.
-      shrunk_from c.args.code.now c.as_mut_slice.result.now c.shorten.new.forms c.as_slice.result.now l e c.shorten.ensures
-      (slice_is c.args.code.now c.as_mut_slice.result.now c.shorten.new.forms c.as_slice.result.now c.in_ok-forms.forms.items c.in_ok-forms.forms.len e
-      c.shorten.ensures c.as_mut_slice.ensures.len c.as_slice.ensures.value)
-      made)
+    shrunk_from c.args.code.now c.as_mut_slice.result.now c.shorten.new.forms c.as_slice.result.now l e c.shorten.ensures
+    (slice_is c.args.code.now c.as_mut_slice.result.now c.shorten.new.forms c.as_slice.result.now c.in_ok-forms.forms.items c.in_ok-forms.forms.len e
+    c.shorten.ensures c.as_mut_slice.ensures.len c.as_slice.ensures.value)
+    made)
     c.chosen.ensures
