@@ -1,0 +1,6 @@
+pub mod Rows
+mod Types
+mod References
+mod Values
+mod Flags
+mod Members

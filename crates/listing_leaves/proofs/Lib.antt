@@ -1,0 +1,9 @@
+mod NoWords
+mod Each
+mod Numbers
+mod Bytes
+mod Texts
+mod Parts
+mod Pieces
+mod Names
+mod Ends

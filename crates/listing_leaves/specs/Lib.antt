@@ -1,0 +1,5 @@
+pub mod Numbers
+pub mod Bytes
+pub mod Texts
+pub mod Names
+pub mod Laws

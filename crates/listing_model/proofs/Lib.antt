@@ -1,0 +1,3 @@
+mod Derived
+mod Joined
+mod Told

@@ -1,0 +1,14 @@
+pub mod Shown
+pub mod Text
+pub mod Grown
+pub mod Flags
+pub mod Types
+pub mod References
+pub mod Values
+pub mod Members
+pub mod Bodies
+pub mod Methods
+pub mod Classes
+pub mod Manifests
+pub mod Canon
+pub mod Laws
