@@ -26,7 +26,7 @@ pub trait Demand {
         requires before { (t r : ℕ) → IsEarlier t r table row → meets self.now t r }
         ensures { IsTrue result ↔ meets self.now table row };
 
-    /// A law: rows that aren't there meet the demand.
+    /// A law: rows that aren't there meet the demand, where those of their table that are there do.
     fn others_meet(&self)
-        ensures { (table row : ℕ) → (45 ≤ table) ⊎ (rows self.now table < row) → meets self.now table row };
+        ensures { (table row : ℕ) → (45 ≤ table) ⊎ ((rows self.now table < row) × ((r : ℕ) → r ≤ rows self.now table → meets self.now table r)) → meets self.now table row };
 }

@@ -1,12 +1,10 @@
 ghost use Rattle.image_model.specs.declared.place.Place.TheVariants.{Byte, Whole};
 ghost use Rattle.std.specs.Prelude.{◌≡◌, ◌<◌, ◌≤◌, IfOk, OnOk, IfErr};
 ghost use Rattle.pe_layout.specs.CliHeader.{entry_token_of};
-ghost use Rattle.pe_layout.specs.FileMap.{readable};
-ghost use Rattle.pe_layout.specs.Numbers.{numbers_of};
 ghost use Rattle.image_model.specs.Faults.{HasTables, IsImageFault};
 ghost use Rattle.image_model.specs.Streams.{tables_of, strings_of, user_of, guids_of, blobs_of};
 
-use crate::cli::has_cli_header;
+use crate::cli::{entry_token, has_cli_header};
 use crate::heaps::{Streams, streams_of};
 use image_model::Place;
 use metadata_tables::TableView;
@@ -136,6 +134,13 @@ impl<'a> Image<'a> {
         ensures { result.now ≡ blobs_of self.now }
     {
         self.streams.blobs
+    }
+
+    /// The token of the entry point, 0 for none.
+    pub fn entry_token(&self) -> u32
+        ensures { result ≡ entry_token_of self.now }
+    {
+        entry_token(&self.pe)
     }
 
     /// The file's headers and the map of its sections.
