@@ -15,6 +15,7 @@ use text_places::TextPlaces;
 
 /// Entries lie in their heaps (I9): a text ends and is UTF-8, and isn't empty where it is needed; a blob and an identifier are
 /// whole.
+#[derive(Drop)]
 pub struct Entries<'i, 'a> {
     image: &'i Image<'a>,
     texts: &'i TextPlaces<'a>,

@@ -12,6 +12,7 @@ use std::marker::Model;
 
 /// Indexes lie in their range (I8): a simple index names a row, a run begins at a row or one behind the last, a coded index has
 /// a known tag and names a row, or is nil where it may be.
+#[derive(Drop)]
 pub struct Indexes<'i, 'a> {
     image: &'i Image<'a>,
 }

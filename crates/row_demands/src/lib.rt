@@ -4,6 +4,7 @@
 
 mod entries;
 mod entry;
+mod first;
 mod firsts;
 mod indexes;
 mod manifest;
@@ -16,6 +17,7 @@ mod standing;
 
 pub use entries::Entries;
 pub use entry::has_entry;
+pub use first::first_unmet;
 pub use indexes::Indexes;
 pub use manifest::Manifest;
 pub use order::Order;

@@ -12,6 +12,7 @@ use image_streams::Image;
 use std::marker::Model;
 
 /// The rows that must be there (I10): one in Module and in Assembly, and at least one in TypeDef, whose first is `<Module>`.
+#[derive(Drop)]
 pub struct Manifest<'i, 'a> {
     image: &'i Image<'a>,
 }

@@ -7,6 +7,7 @@ use image_streams::Image;
 use std::marker::Model;
 
 /// Sorted tables are in order (I12): no row comes before the one above it.
+#[derive(Drop)]
 pub struct Order<'i, 'a> {
     image: &'i Image<'a>,
 }

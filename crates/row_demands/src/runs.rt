@@ -23,6 +23,7 @@ use std::marker::Model;
 
 /// Runs are right (I11): they rise and stay in their table, each member lies in one, a type has one map row of a kind at most,
 /// and the sequences of a method's params rise.
+#[derive(Drop)]
 pub struct Runs<'i, 'a> {
     image: &'i Image<'a>,
     // Whether a method's params begin at a row of Param.
