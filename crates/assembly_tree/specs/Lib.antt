@@ -1,4 +1,5 @@
 pub mod DataSize
+pub mod Fits
 pub mod Loading
 pub mod Nesting
 pub mod Room

@@ -1,7 +1,8 @@
 -- The conditions on bodies in a well-formed tree (ECMA-335 II.19, II.25.4, III.1.7, III.1.9).
-use Rattle.std.specs.Prelude.{ℕ, ◌+◌, ◌*◌, ◌&&◌, Bool, true, false, nat_lt, nat_le, int_le, pos, negsuc, List, length, take, sum_by, Option, None, Some}
+use Rattle.std.specs.Prelude.{ℕ, ◌+◌, ◌*◌, ◌&&◌, Bool, true, false, nat_lt, nat_le, int_le, pos, negsuc, List, length, take, sum_by}
 use Rattle.std.specs.List.{list_all, enumerate_from}
 use Rattle.opcode_table.specs.Opcodes as opcodes
+pub use Rattle.opcode_table.specs.Sizes.{bytes_in, opcode_size}
 use Rattle.opcode_table.specs.declared.kind.OperandKind.{OperandKind}
 use Rattle.opcode_table.specs.declared.kind.OperandKind.TheVariants as kind
 use Rattle.opcode_table.specs.declared.op.Op.{Op}
@@ -73,14 +74,6 @@ abbrev pub is_instruction : ℕ → Ins → Bool
 is_instruction count i = fits_kind (operand_kind i.op) i.operand && are_targets count i.operand
 
 -- ---- short branches
-
--- the bytes of an opcode
-abbrev pub bytes_in : ℕ × Option ℕ → ℕ
-bytes_in (first, None) = 1
-bytes_in (first, Some second) = 2
-
-unfoldable pub opcode_size : Op → ℕ
-opcode_size op = bytes_in (opcodes.bytes_of op)
 
 -- the bytes of an operand: a switch has its count and 4 for each target
 abbrev pub targets_size : operand.Operand → ℕ

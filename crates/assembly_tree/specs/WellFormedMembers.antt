@@ -1,13 +1,9 @@
 -- The conditions on members and what belongs to them in a well-formed tree (ECMA-335 II.15 to II.18, II.21).
 use Rattle.std.specs.Prelude.{ℕ, ◌==◌, ◌&&◌, ◌||◌, Bool, true, false, not, nat_lt, nat_le, nat_eq, int_le, ℤ, pos, negsuc, bit_and, List, length, Option, None, Some}
 use Rattle.std.specs.List.{list_all}
-use Rattle.std.specs.Bool.{beq}
-use Rattle.std.specs.Ordering.{is_eq}
 use lib.Pointwise.{pointwise}
-use Rattle.type_terms.specs.Order.{term_order}
-use Rattle.type_terms.specs.declared.reference.MethodSig.{MethodSig}
+pub use Rattle.type_terms.specs.Same.{is_same_type, is_same_sentinel, is_same_signature}
 use Rattle.type_terms.specs.declared.term.Primitive as prim
-use Rattle.type_terms.specs.declared.term.SigType.{SigType}
 use Rattle.assembly_tree.specs.DataSize.{size_in_data}
 use Rattle.assembly_tree.specs.declared.assembly.Assembly.{Assembly}
 use Rattle.assembly_tree.specs.declared.members.Accessor.{Accessor}
@@ -138,21 +134,6 @@ is_event a e =
 
 abbrev pub is_same_text : List ℕ → List ℕ → Bool
 is_same_text x y = pointwise nat_eq x y
-
--- types are the same where their order is "equal", which is so exactly for equal types
-abbrev pub is_same_type : SigType → SigType → Bool
-is_same_type x y = is_eq (term_order x y)
-
-abbrev pub is_same_sentinel : Option ℕ → Option ℕ → Bool
-is_same_sentinel None None = true
-is_same_sentinel (Some j) (Some k) = j == k
-is_same_sentinel None (Some k) = false
-is_same_sentinel (Some j) None = false
-
-unfoldable pub is_same_signature : MethodSig → MethodSig → Bool
-is_same_signature s u =
-    beq s.has_this u.has_this && beq s.explicit_this u.explicit_this && beq s.vararg u.vararg && (s.generic == u.generic)
-    && is_same_sentinel s.sentinel u.sentinel && is_same_type s.ret u.ret && pointwise is_same_type s.params u.params
 
 unfoldable pub is_same_field : Field → Field → Bool
 is_same_field f g = is_same_text f.name g.name && is_same_type f.of g.of

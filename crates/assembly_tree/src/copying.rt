@@ -1,5 +1,5 @@
-//! Copies of a tree's parts. Of the parts of one value those with types in them are copied last, so that no early end has
-//! them to drop: such drops are what the proofs of copies take longest for.
+//! Copies of a tree's parts. The parts of one value are copied in one call, so that no early end has trees to drop field by
+//! field: such drops are what the proofs of copies take longest for.
 
 mod assemblies;
 mod bodies;

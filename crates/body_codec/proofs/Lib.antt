@@ -31,3 +31,4 @@ pub mod Offsets
 pub mod SectionRows
 pub mod Tails
 pub mod Whole
+pub mod Widths

@@ -3,6 +3,7 @@ use Rattle.std.specs.Prelude.{◌≡◌, ℕ, ◌+◌, ◌*◌, ℤ, List, [], �
 use Rattle.std.specs.List.{flat_map}
 use Rattle.byteorder.specs.Endian.{little_number, twos_complement}
 use Rattle.opcode_table.specs.Opcodes.{bytes_of, kind_of}
+use Rattle.opcode_table.specs.Sizes as sizes
 use Rattle.opcode_table.specs.declared.op.Op.{Op}
 use Rattle.opcode_table.specs.declared.kind.OperandKind.{OperandKind}
 use Rattle.opcode_table.specs.declared.kind.OperandKind.TheVariants as kinds
@@ -34,23 +35,7 @@ signed bytes = twos_complement (length bytes) (number bytes)
 
 -- how many bytes an operand has: a switch has a count, and as many displacements of four bytes
 abbrev pub operand_size : OperandKind → List ℕ → ℕ
-operand_size kinds.Nothing tail = 0
-operand_size kinds.Var8 tail = 1
-operand_size kinds.Var16 tail = 2
-operand_size kinds.Num8 tail = 1
-operand_size kinds.Num32 tail = 4
-operand_size kinds.Num64 tail = 8
-operand_size kinds.Byte tail = 1
-operand_size kinds.Real4 tail = 4
-operand_size kinds.Real8 tail = 8
-operand_size kinds.Branch8 tail = 1
-operand_size kinds.Branch32 tail = 4
-operand_size kinds.Switch tail = 4 + 4 * little_number 4 tail
-operand_size kinds.Method tail = 4
-operand_size kinds.Field tail = 4
-operand_size kinds.Of tail = 4
-operand_size kinds.Text tail = 4
-operand_size kinds.Token tail = 4
+operand_size kind tail = sizes.operand_size kind (little_number 4 tail)
 
 -- the bytes of the instruction
 abbrev pub piece_bytes : Piece → List ℕ

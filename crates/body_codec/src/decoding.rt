@@ -7,10 +7,14 @@ mod marks;
 mod opcode;
 mod operands;
 mod outline;
-pub(crate) mod sections;
+mod sections;
 mod targets;
 mod tokens;
 mod top;
 
+pub use header::{Header, code_in, read_header};
+pub use marks::{Mark, Marks};
+pub use outline::{Outline, read_outline};
+pub use sections::{ClauseRow, Clauses, Found, Region};
 pub use tokens::named_tokens;
 pub use top::decode;

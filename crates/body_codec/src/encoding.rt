@@ -1,6 +1,6 @@
 //! From a body to its bytes.
 
-ghost use Rattle.std.specs.Prelude.{◌≡◌, ◌<◌, ◌++◌, ◌^◌, ℕ, length, Err, IfOk, IfErr, OnOk};
+ghost use Rattle.std.specs.Prelude.{◌≡◌, ◌<◌, ◌++◌, ◌^◌, ℕ, [], length, Err, IfOk, IfErr, OnOk, OnErr};
 ghost use Rattle.body_codec.specs.Encoding.{CanBeWritten, IsFarFault, IsFirstFar, IsWritten};
 ghost use Rattle.body_codec.specs.Faults.{Answers};
 ghost use Rattle.body_codec.specs.Written.{header_bytes, locals_number, tail_bytes, token_map};
@@ -16,8 +16,7 @@ mod operand;
 mod section;
 mod site;
 
-use crate::BodyFault;
-use crate::decoding::sections::ClauseRow;
+use crate::{BodyFault, ClauseRow};
 use assembly_tree::Body;
 use clauses::rows_of;
 use code::draft_of;
@@ -57,7 +56,8 @@ impl BodyWriter {
         }
     }
 
-    /// Puts the bytes of a body, as [`encode`] answers them, in the place of those in `out`.
+    /// Puts the bytes of a body, as [`encode`] answers them, in the place of those in `out`. After a fault `out` holds
+    /// nothing.
     pub fn write<N: Numberer>(
         &mut self,
         alloc: Global,
@@ -69,7 +69,9 @@ impl BodyWriter {
         ensures written { OnOk result (IsWritten (token_map (N.owner_tokens map.now) (N.method_tokens map.now) (N.field_tokens map.now) (N.locals_tokens map.now) (N.text_tokens map.now)) body.now out.new) }
         ensures fault { IfErr result (IsFarFault body.now.code) }
         ensures only { (at : ℕ) → IsFirstFar body.now.code at → Answers result (Err (faults.Far at)) }
+        ensures err { OnErr result (out.new ≡ []) }
     {
+        out.truncate(0);
         draft_of(&mut self.draft, body.code.as_slice(), map)?;
         let rows = rows_of(
             alloc,
@@ -77,14 +79,36 @@ impl BodyWriter {
             self.draft.offsets.as_slice(),
             map,
         )?;
-        out.truncate(0);
         push_body(out, body, self.draft.bytes.as_slice(), rows.as_slice(), map)?;
         Ok(())
     }
 }
 
-/// Adds the bytes of a body: its header, its code, which has these bytes, and its clauses.
+/// Puts the bytes of a body where none are, or none.
 fn push_body<N: Numberer>(
+    out: &mut Bytes,
+    body: &Body,
+    code: &[u8],
+    rows: &[ClauseRow],
+    numberer: &N,
+) -> Result<(), NoMemory>
+    requires empty { out.old ≡ [] }
+    requires size { length code.now < 2 ^ 31 }
+    requires few { length rows.now < 2 ^ 16 }
+    ensures written { OnOk result (out.new ≡ out.old ++ header_bytes (locals_number (N.locals_tokens numberer.now) body.now.locals) (length code.now) body.now ++ code.now ++ tail_bytes (length (out.old ++ header_bytes (locals_number (N.locals_tokens numberer.now) body.now.locals) (length code.now) body.now ++ code.now)) rows.now) }
+    ensures local { locals_number (N.locals_tokens numberer.now) body.now.locals < 2 ^ 32 }
+    ensures bound { body.now.bound < 2 ^ 16 }
+    ensures err { OnErr result (out.new ≡ []) }
+{
+    let added = add_body(out, body, code, rows, numberer);
+    if added.is_err() {
+        out.truncate(0);
+    }
+    added
+}
+
+/// Adds the bytes of a body: its header, its code, which has these bytes, and its clauses.
+fn add_body<N: Numberer>(
     out: &mut Bytes,
     body: &Body,
     code: &[u8],

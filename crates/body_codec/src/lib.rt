@@ -7,7 +7,10 @@ mod encoding;
 mod fault;
 mod laws;
 
-pub use decoding::{decode, named_tokens};
+pub use decoding::{
+    ClauseRow, Clauses, Found, Header, Mark, Marks, Outline, Region, code_in, decode, named_tokens,
+    read_header, read_outline,
+};
 pub use encoding::{BodyWriter, encode, written_is_read};
 pub use fault::BodyFault;
 pub use laws::{bytes_name_one_list, bytes_spell_one_body};

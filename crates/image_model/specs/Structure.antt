@@ -14,13 +14,17 @@ use Rattle.image_model.specs.Naming.{HasPath, HasRefPath}
 
 -- ---- I10
 
+-- no run of a row of a map (II.22.12, II.22.35) belongs to `<Module>`: where its parent is row 1, it is empty
+abbrev pub HasNoneInModule : List ℕ → ℕ → (List ℕ → ℕ → ℕ) → (List ℕ → ℕ → List ℕ) → Type 0
+HasNoneInModule image table parent run_of = (map : ℕ) → HasRow image table map → parent image map ≡ 1 → run_of image map ≡ []
+
 -- `<Module>` (II.22.37): without base, properties, events, interfaces, attributes and generic parameters, and in no nesting
 pub record IsModuleType (image : List ℕ) : Type 0 where
   pub name : HasText (strings_of image) (type_name image 1) (codes "<Module>")
   pub space : HasText (strings_of image) (type_space image 1) []
   pub no_base : type_extends image 1 ≡ 0
-  pub no_properties : rows_with image 0x15 property_map_parent 1 ≡ []
-  pub no_events : rows_with image 0x12 event_map_parent 1 ≡ []
+  pub no_properties : HasNoneInModule image 0x15 property_map_parent properties_in
+  pub no_events : HasNoneInModule image 0x12 event_map_parent events_in
   pub no_interfaces : rows_with image 0x09 interface_class 1 ≡ []
   pub no_attributes : rows_with image 0x0C attribute_parent (index_of HasCustomAttribute 0x02 1) ≡ []
   pub no_generics : rows_with image 0x2A generic_owner (index_of TypeOrMethodDef 0x02 1) ≡ []

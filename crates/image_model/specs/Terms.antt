@@ -105,4 +105,6 @@ pub record HasSignatures (image : List ℕ) (names : NameMap) (table row : ℕ) 
   pub override : table ≡ 0x19 → HasRow image 0x19 row → NamesSignature image names (override_body image row) × NamesSignature image names (override_declaration image row)
   pub type : table ≡ 0x1B → IsUsed image 0x1B row → (term : SigType) × TypeSpecHas image names row term × HasRanks term
   pub instance : table ≡ 0x2B → IsUsed image 0x2B row
-      → (args : List SigType) × InstanceHas image names row args × All HasRanks args × NamesSignature image names (instance_method image row)
+      → (args : List SigType) × InstanceHas image names row args × All HasRanks args
+  -- of each row, in use or not
+  pub instance_of : table ≡ 0x2B → HasRow image 0x2B row → NamesSignature image names (instance_method image row)

@@ -7,7 +7,6 @@ pub mod EachRowLemmas
 pub mod FoundLemmas
 pub mod GivenLemmas
 pub mod GrowthLemmas
-pub mod HashLemmas
 pub mod LeavesLemmas
 pub mod LoadedLemmas
 pub mod LoadsLemmas

@@ -12,7 +12,7 @@ use Rattle.type_terms.specs.declared.name.Scope.{Scope}
 use Rattle.type_terms.specs.declared.name.Scope.TheVariants.{Here, Extern}
 use Rattle.type_terms.specs.declared.name.TypeId.{TypeId}
 use Rattle.type_terms.specs.declared.name.TypeName.{TypeName}
-use Rattle.image_tokens.specs.Hashing.{start, mix_name}
+use Rattle.type_terms.specs.Hashing.{start, mix_name}
 use Rattle.image_tokens.specs.NameHashes.{add_digit, number_of, spread, short_in, short_at, short_text, hash_by, name_hash}
 
 abbrev pub are_bytes : List ℕ → Bool

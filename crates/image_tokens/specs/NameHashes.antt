@@ -6,7 +6,7 @@ use Rattle.type_terms.specs.declared.name.Scope.{Scope}
 use Rattle.type_terms.specs.declared.name.Scope.TheVariants.{Here, Extern}
 use Rattle.type_terms.specs.declared.name.TypeId.{TypeId}
 use Rattle.type_terms.specs.declared.name.TypeName.{TypeName}
-use Rattle.image_tokens.specs.Hashing.{start, mix_name}
+use Rattle.type_terms.specs.Hashing.{start, mix_name}
 
 -- a text as a number: 1, and then its bytes as digits to the base 256
 abbrev pub add_digit : ℕ → ℕ → ℕ

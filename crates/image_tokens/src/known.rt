@@ -1,13 +1,14 @@
 //! The tokens of what a tree names.
-ghost use Rattle.std.specs.Prelude.{◌≡◌, []};
+ghost use Rattle.std.specs.Prelude.{◌≡◌, ◌↔◌, [], IsTrue};
 
-use crate::equality::{are_types, is_field, is_method, is_text, is_type};
 use crate::found::{Found, Term};
-use crate::hashing::{START, mix_field, mix_method, mix_type, mix_types, mix_units};
+use crate::hashing::mix_units;
 use crate::name_hashes::{are_same, hash_name};
 use il_base::{NoMemory, Units};
 use sig_codec::Numberer;
 use std::alloc::Global;
+use type_terms::equality::{are_same_types, is_same_field, is_same_method, is_same_type};
+use type_terms::hashing::{START, mix_field, mix_method, mix_type, mix_types};
 use type_terms::{FieldRef, MethodRef, Owner, SigType, TypeName, Types};
 
 /// The tokens that have been given.
@@ -98,7 +99,7 @@ impl Term for TypeName {
 }
 
 impl Term for SigType {
-    ghost use Rattle.image_tokens.specs.Hashing.{start, mix_type};
+    ghost use Rattle.type_terms.specs.Hashing.{start, mix_type};
     ghost use Rattle.image_tokens.specs.KnownTokens.{types_apart};
 
     ghost hash = { mix_type start };
@@ -110,12 +111,12 @@ impl Term for SigType {
     }
 
     fn is_same(&self, other: &SigType, _hashed: u64) -> bool {
-        is_type(self, other)
+        is_same_type(self, other)
     }
 }
 
 impl Term for MethodRef {
-    ghost use Rattle.image_tokens.specs.Hashing.{start, mix_method};
+    ghost use Rattle.type_terms.specs.Hashing.{start, mix_method};
     ghost use Rattle.image_tokens.specs.KnownTokens.{methods_apart};
 
     ghost hash = { mix_method start };
@@ -127,12 +128,12 @@ impl Term for MethodRef {
     }
 
     fn is_same(&self, other: &MethodRef, _hashed: u64) -> bool {
-        is_method(self, other)
+        is_same_method(self, other)
     }
 }
 
 impl Term for FieldRef {
-    ghost use Rattle.image_tokens.specs.Hashing.{start, mix_field};
+    ghost use Rattle.type_terms.specs.Hashing.{start, mix_field};
     ghost use Rattle.image_tokens.specs.KnownTokens.{fields_apart};
 
     ghost hash = { mix_field start };
@@ -144,12 +145,12 @@ impl Term for FieldRef {
     }
 
     fn is_same(&self, other: &FieldRef, _hashed: u64) -> bool {
-        is_field(self, other)
+        is_same_field(self, other)
     }
 }
 
 impl Term for Types {
-    ghost use Rattle.image_tokens.specs.Hashing.{start, mix_types};
+    ghost use Rattle.type_terms.specs.Hashing.{start, mix_types};
     ghost use Rattle.image_tokens.specs.KnownTokens.{locals_apart};
 
     ghost hash = { mix_types start };
@@ -161,12 +162,12 @@ impl Term for Types {
     }
 
     fn is_same(&self, other: &Types, _hashed: u64) -> bool {
-        are_types(self.as_slice(), other.as_slice())
+        are_same_types(self.as_slice(), other.as_slice())
     }
 }
 
 impl Term for Units {
-    ghost use Rattle.image_tokens.specs.Hashing.{start, mix_text};
+    ghost use Rattle.type_terms.specs.Hashing.{start, mix_text};
     ghost use Rattle.image_tokens.specs.KnownTokens.{texts_apart};
 
     ghost hash = { mix_text start };
@@ -180,4 +181,11 @@ impl Term for Units {
     fn is_same(&self, other: &Units, _hashed: u64) -> bool {
         is_text(self, other)
     }
+}
+
+/// Whether two texts are equal.
+fn is_text(a: &Units, b: &Units) -> bool
+    ensures { IsTrue result ↔ (a.now ≡ b.now) }
+{
+    a.as_slice() == b.as_slice()
 }

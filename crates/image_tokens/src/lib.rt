@@ -5,7 +5,6 @@
 
 pub mod blobs;
 pub mod body_tokens;
-pub mod equality;
 pub mod found;
 pub mod hashing;
 pub mod heap_contents;

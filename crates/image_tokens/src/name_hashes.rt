@@ -3,8 +3,8 @@
 ghost use Rattle.std.specs.Prelude.{◌≡◌, ◌≤◌, ◌↔◌, [], Some, None, length, IsTrue, IfSome, MatchOption};
 ghost use Rattle.image_tokens.specs.NameHashes.{name_hash, number_of, short_in, short_text, spread};
 
-use crate::equality::is_name;
-use crate::hashing::{START, mix_name};
+use type_terms::equality::is_same_name;
+use type_terms::hashing::{START, mix_name};
 use type_terms::{Scope, TypeId, TypeName};
 
 /// How many bytes a short name has at most.
@@ -33,7 +33,7 @@ pub fn are_same(a: &TypeName, b: &TypeName, hash: u64) -> bool
     requires second { hash ≡ name_hash b.now }
     ensures { IsTrue result ↔ (a.now ≡ b.now) }
 {
-    hash < OTHERS || is_name(a, b)
+    hash < OTHERS || is_same_name(a, b)
 }
 
 /// The text of a short name.

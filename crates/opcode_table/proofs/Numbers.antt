@@ -1,3 +1,4 @@
+-- Made by tools/opcodes.py from tools/opcodes.txt: change that text, and run the script.
 -- An opcode's number is the number of its variant.
 use Rattle.std.proofs.Common.{◌≡◌, ◌<◌, lit<, refl}
 use denote.Enum.Declared.{tag_of}

@@ -236,6 +236,7 @@ one byte op word kind = record { op = op; bytes = (byte, None); word = word; kin
 abbrev two : ℕ → Op → List ℕ → OperandKind → Row
 two byte op word kind = record { op = op; bytes = (0xFE, Some byte); word = word; kind = kind }
 
+-- The rows are made by tools/opcodes.py from tools/opcodes.txt.
 -- the rows in the order of their bytes
 abbrev pub opcodes : List Row
 opcodes =
@@ -689,6 +690,7 @@ word_of op = (row_of op).word
 abbrev pub kind_of : Op → OperandKind
 kind_of op = (row_of op).kind
 
+-- The rows are made by tools/opcodes.py from tools/opcodes.txt.
 -- the other words that sources use, each with its opcode
 abbrev pub aliases : List (List ℕ × Op)
 aliases =

@@ -4,6 +4,7 @@ ghost use Rattle.opcode_table.specs.declared.op.Op.{Op};
 
 use crate::Op;
 
+// The rows are made by tools/opcodes.py from tools/opcodes.txt.
 /// The opcode of each byte that is one by itself.
 static OF_BYTE: [Option<Op>; 256] = [
     Some(Op::Nop),
@@ -264,6 +265,7 @@ static OF_BYTE: [Option<Op>; 256] = [
     None,
 ];
 
+// The rows are made by tools/opcodes.py from tools/opcodes.txt.
 /// The opcode of each byte after 0xFE.
 static AFTER_FE: [Option<Op>; 31] = [
     Some(Op::Arglist),

@@ -6,6 +6,7 @@ mod kind;
 mod lookup;
 mod mnemonic;
 mod op;
+mod sizes;
 mod table;
 
 pub use bytes::op_of_bytes;
@@ -13,4 +14,5 @@ pub use kind::OperandKind;
 pub use lookup::candidate;
 pub use mnemonic::op_of_word;
 pub use op::Op;
+pub use sizes::{opcode_size, operand_size};
 pub use table::{bytes_of, kind_of, word_of};

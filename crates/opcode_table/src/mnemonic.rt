@@ -6,6 +6,7 @@ use crate::Op;
 use crate::lookup::candidate;
 use crate::table::OPCODES;
 
+// The rows are made by tools/opcodes.py from tools/opcodes.txt.
 /// The shifts of the perfect hash of the mnemonics and aliases.
 static SHIFTS: [u8; 128] = [
     22, 3, 23, 2, 0, 1, 5, 0, 0, 6, 17, 0, 0, 2, 4, 11, 3, 1, 17, 0, 0, 0, 10, 0, 0, 3, 0, 11, 0,
@@ -15,6 +16,7 @@ static SHIFTS: [u8; 128] = [
     0, 6, 1, 0, 7, 18, 0,
 ];
 
+// The rows are made by tools/opcodes.py from tools/opcodes.txt.
 /// Its slots: the place of a word's row, or 227 where no word has the slot.
 static SLOTS: [u16; 512] = [
     227, 227, 227, 111, 227, 227, 227, 227, 225, 74, 227, 227, 227, 170, 128, 93, 227, 227, 152,

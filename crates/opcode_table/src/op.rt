@@ -1,3 +1,4 @@
+// Made by tools/opcodes.py from tools/opcodes.txt: change that text, and run the script.
 /// The opcodes of the instructions, one value for each, in the order of their bytes (III.1.2).
 #[derive(Debug, Clone, Copy, PartialEq, Eq, Drop)]
 pub enum Op {

@@ -22,6 +22,7 @@ macro_rules! rows {
     };
 }
 
+// The rows are made by tools/opcodes.py from tools/opcodes.txt.
 /// The opcodes of Partition III in the order of their bytes, so that an `Op` is its row's number, and then a row for each
 /// alias, a word that sources use besides the mnemonic.
 pub static OPCODES: [Opcode; 227] = rows![

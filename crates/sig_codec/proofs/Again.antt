@@ -1,5 +1,5 @@
 -- A type that is spelled, within the limits, is read, whatever follows it.
-use Rattle.std.proofs.Common.{◌≡◌, ◌≢◌, ℕ, zero, suc, ◌+◌, ◌-◌, max, ◌^◌, ◌<◌, ◌≤◌, ◌⊎◌, inl, inr, Bool, true, false, cond, nat_lt, nat_le, nat_eq, ◌&&◌, ℤ, List, [], ◌∷◌, ◌++◌, length, map, Option, Some, None, refl, sym, ap, subst, ◌∙◌, append_assoc, arith}
+use Rattle.std.proofs.Common.{◌≡◌, ℕ, zero, suc, ◌+◌, ◌-◌, ◌^◌, ◌<◌, ◌≤◌, ◌⊎◌, inl, inr, Bool, true, false, cond, nat_lt, nat_le, nat_eq, ◌&&◌, ℤ, List, [], ◌∷◌, ◌++◌, length, map, Option, Some, refl, sym, ap, ◌∙◌, append_assoc, arith}
 use Rattle.std.proofs.lemmas.Grind.{common_steps}
 use Rattle.il_base.specs.Numbers.{Packed}
 use Rattle.type_terms.specs.declared.name.TypeName.{TypeName}
@@ -14,7 +14,7 @@ use Rattle.type_terms.specs.Nodes.{nodes, owner_nodes, total}
 use Rattle.sig_codec.specs.declared.element.Element.{Element}
 use Rattle.sig_codec.specs.declared.element.Element.TheVariants as element
 use Rattle.sig_codec.specs.Spelling.{Layer, Notation, reading, prim_byte, kind_byte, modifier_byte, SpellsOwner, SpellsName, SpellsShape, SpellsType, made, SpellsLayer, prim, class, value, inst, var, mvar, sz_array, array, by_ref, pointer, modified, pinned, SpellsEach, none, more}
-use Rattle.sig_codec.specs.Reading.{◌>>=◌, Step, Read, TypeStep, byte_at, owner_at, declared_at, variable_at, shape_at, generic_at, element_of, is_at_sentinel, types_at, all_types_at, boxed_at, named_at, numbered_at, array_at, inst_at, after, after_owner, modified_at, parts_at, type_at}
+use Rattle.sig_codec.specs.Reading.{Read, TypeStep, shape_at, generic_at, element_of, is_at_sentinel, types_at, all_types_at, boxed_at, named_at, numbered_at, array_at, inst_at, modified_at, parts_at, type_at}
 use Rattle.sig_codec.proofs.Parts.{owner_again, declared_again, variable_again, shape_again, generic_again, SpellsHead}
 use Rattle.sig_codec.proofs.Layers.{layer_depth, layer_nodes, depth-out, nodes-out}
 use Rattle.sig_codec.proofs.Steps.{first_step}

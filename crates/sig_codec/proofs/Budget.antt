@@ -1,5 +1,5 @@
 -- What is left of a limit, layer by layer.
-use Rattle.std.proofs.Common.{◌≡◌, ◌≢◌, ℕ, ◌+◌, ◌-◌, max, Option, Some, None, arith, refl}
+use Rattle.std.proofs.Common.{◌≡◌, ◌≢◌, ℕ, ◌+◌, ◌-◌, max, Some, arith}
 use Rattle.std.proofs.lemmas.Grind.{common_steps}
 use Rattle.sig_codec.specs.Reading.{after}
 

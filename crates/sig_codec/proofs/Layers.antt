@@ -1,10 +1,7 @@
 -- Depth and nodes by the layer of a type.
-use Rattle.std.proofs.Common.{◌≡◌, ℕ, ℤ, ◌+◌, max, Bool, ◌⊎◌, inl, inr, List, map, ◌∙◌, ap, refl, sym, subst}
+use Rattle.std.proofs.Common.{◌≡◌, ℕ, ℤ, ◌+◌, max, Bool, ◌⊎◌, inl, inr, List, map, ◌∙◌, ap}
 use Rattle.type_terms.specs.declared.name.TypeName.{TypeName}
-use Rattle.type_terms.specs.declared.term.Primitive.{Primitive}
-use Rattle.type_terms.specs.declared.term.Owner.{Owner, fold_out-Owner, map-Owner}
-use Rattle.type_terms.specs.declared.term.Owner.TheVariants as owner
-use Rattle.type_terms.specs.declared.term.Owner.TheOpen as layer
+use Rattle.type_terms.specs.declared.term.Owner.{Owner}
 use Rattle.type_terms.specs.declared.term.SigType.{SigType, fold_out-SigType, fold-roll-SigType, map-SigType, out-SigType, roll-SigType}
 use Rattle.type_terms.specs.declared.term.SigType.TheVariants as type
 use Rattle.type_terms.specs.Depth.{depth, owner_depth, depth_step, owner_depth_step, largest}

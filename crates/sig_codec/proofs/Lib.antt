@@ -5,6 +5,7 @@ pub mod Loop
 pub mod Methods
 pub mod Numbers
 pub mod Parts
+pub mod StepParts
 pub mod Steps
 pub mod Takes
 pub mod Unique

@@ -1,20 +1,20 @@
 -- A method or a property that is read is the one that its bytes spell, and what is spelled within bounds is read.
-use Rattle.std.proofs.Common.{◌≡◌, ℕ, zero, suc, ◌+◌, ◌-◌, ◌*◌, ◌/◌, ◌%◌, max, ◌^◌, ◌<◌, ◌≤◌, ◌⊎◌, inl, inr, Bool, true, false, cond, not, nat_lt, nat_le, nat_eq, ◌&&◌, List, [], ◌∷◌, ◌++◌, length, map, take, drop, Option, Some, None, refl, sym, ap, subst, ◌∙◌, append_assoc, arith}
+use Rattle.std.proofs.Common.{◌≡◌, ℕ, zero, suc, ◌+◌, ◌-◌, ◌/◌, ◌%◌, max, ◌<◌, ◌≤◌, inl, inr, Bool, true, false, cond, not, nat_lt, nat_eq, List, [], ◌∷◌, ◌++◌, length, map, take, drop, Option, Some, None, refl, sym, ap, subst, ◌∙◌, append_assoc, arith}
 use Rattle.std.proofs.lemmas.Grind.{common_steps}
-use Rattle.std.proofs.lemmas.List.{append-nil, nil_from_length, take-append-drop, length-append, length-take, length-drop}
+use Rattle.std.proofs.lemmas.List.{append-nil, take-append-drop, length-append, length-take, length-drop}
 use Rattle.std.specs.List.{AllByRecursion}
 use Rattle.il_base.specs.Numbers.{Packed}
 use Rattle.type_terms.specs.declared.reference.MethodSig.{MethodSig}
 use Rattle.type_terms.specs.declared.term.Owner.{Owner}
 use Rattle.type_terms.specs.declared.term.SigType.{SigType}
-use Rattle.type_terms.specs.Depth.{depth, largest, sig_depth}
-use Rattle.type_terms.specs.Nodes.{nodes, total, list_nodes, sig_nodes}
-use Rattle.sig_codec.specs.Spelling.{Notation, reading, SpellsType, SpellsEach, none, more}
-use Rattle.sig_codec.specs.Signature.{method_byte, SpellsGeneric, SpellsParams, SpellsMethod, SpellsProperty, max_depth, max_nodes, IsMethod, IsProperty}
-use Rattle.sig_codec.specs.Reading.{◌>>=◌, Step, Read, TypeStep, byte_at, number_at, lookup, type_at, types_at, all_types_at, is_at_sentinel, ended, kinds_of_call, flags_of_call, convention_of, generics_at, others_at, params_at, whole_method, property_has_this, whole_property}
-use Rattle.sig_codec.proofs.Numbers.{Took, done, some_is, bind_some, chosen, number_takes, number_again}
+use Rattle.type_terms.specs.Depth.{depth, largest}
+use Rattle.type_terms.specs.Nodes.{nodes, list_nodes}
+use Rattle.sig_codec.specs.Spelling.{Notation, reading}
+use Rattle.sig_codec.specs.Signature.{method_byte, SpellsGeneric, SpellsParams, max_depth, max_nodes, IsMethod, IsProperty}
+use Rattle.sig_codec.specs.Reading.{◌>>=◌, TypeStep, byte_at, number_at, lookup, type_at, types_at, all_types_at, is_at_sentinel, ended, kinds_of_call, flags_of_call, convention_of, generics_at, others_at, params_at, whole_method, property_has_this, whole_property}
+use Rattle.sig_codec.proofs.Numbers.{some_is, bind_some, chosen, number_takes, number_again}
 use Rattle.sig_codec.proofs.Parts.{two_parts}
-use Rattle.sig_codec.proofs.Takes.{TookEach, type_takes, types_take, all_types_take}
+use Rattle.sig_codec.proofs.Takes.{type_takes, types_take, all_types_take}
 use Rattle.sig_codec.proofs.Again.{type_again, each_again}
 use Rattle.sig_codec.proofs.Whole.{ended_is, is_nil, to_end}
 

@@ -1,8 +1,8 @@
 -- What number_at and signed_at read is spelled so, and what is spelled so is read.
-use Rattle.std.proofs.Common.{◌≡◌, ℕ, zero, suc, ◌+◌, ◌-◌, ◌*◌, ◌/◌, ◌%◌, ◌^◌, ◌<◌, ◌≤◌, ◌⊎◌, inl, inr, Bool, true, false, cond, nat_lt, nat_eq, ◌&&◌, ℤ, pos, negsuc, ◌≤ℤ◌, List, [], ◌∷◌, ◌++◌, length, take, drop, Option, Some, None, refl, sym, ap, subst, ◌∙◌, arith, length-append}
+use Rattle.std.proofs.Common.{◌≡◌, ℕ, ◌+◌, ◌-◌, ◌*◌, ◌/◌, ◌%◌, ◌^◌, ◌<◌, ◌≤◌, ◌⊎◌, inl, inr, Bool, true, false, cond, nat_lt, nat_eq, ◌&&◌, ℤ, pos, negsuc, List, [], ◌∷◌, ◌++◌, length, take, drop, Option, Some, None, refl, sym, ap, subst, ◌∙◌, arith, length-append}
 use Rattle.std.proofs.lemmas.Grind.{common_steps}
-use Rattle.std.proofs.lemmas.List.{take-append-drop, append-nil}
-use Rattle.il_base.specs.Numbers.{Packed, PackedSigned, IsTurned, StandsAt, packed_bits, turned_left, modulo_bits, least_signed, greatest_signed}
+use Rattle.std.proofs.lemmas.List.{take-append-drop}
+use Rattle.il_base.specs.Numbers.{Packed, PackedSigned, IsTurned, StandsAt, packed_bits}
 use Rattle.sig_codec.specs.Reading.{◌>>=◌, Step, number_at, two_at, four_at, signed_at, turned_right}
 
 -- a front that is spelled so, and what is behind it

@@ -1,13 +1,13 @@
 -- The parts of types: what is read is spelled so, and what is spelled so is read.
-use Rattle.std.proofs.Common.{◌≡◌, ◌≢◌, ℕ, zero, suc, ◌+◌, ◌-◌, ◌*◌, ◌/◌, ◌%◌, ◌^◌, ◌<◌, ◌≤◌, ◌⊎◌, inl, inr, Bool, true, false, cond, nat_lt, nat_eq, ltb, ℤ, List, [], ◌∷◌, ◌++◌, length, Option, Some, None, refl, sym, ap, subst, ◌∙◌, append_assoc, arith}
+use Rattle.std.proofs.Common.{◌≡◌, ℕ, zero, suc, ◌+◌, ◌*◌, ◌/◌, ◌%◌, ◌^◌, ◌<◌, ◌≤◌, inl, inr, Bool, true, false, cond, nat_lt, nat_eq, ℤ, List, [], ◌∷◌, ◌++◌, length, Option, Some, None, refl, sym, ap, subst, ◌∙◌, append_assoc, arith}
 use Rattle.std.proofs.lemmas.Grind.{common_steps}
 use Rattle.il_base.specs.Numbers.{Packed, PackedSigned}
 use Rattle.type_terms.specs.declared.name.TypeName.{TypeName}
 use Rattle.type_terms.specs.declared.term.Owner.{Owner, Name, Spec}
 use Rattle.sig_codec.specs.Tokens.{token_of_coded, IsDeclared, type_refs, type_defs, type_specs}
 use Rattle.sig_codec.specs.Spelling.{Notation, reading, kind_byte, SpellsOwner, SpellsName, SpellsEachBy, SpellsCounted, SpellsShape}
-use Rattle.sig_codec.specs.Reading.{◌>>=◌, Step, byte_at, number_at, signed_at, each_at, counted_at, owner_at, name_of, is_declared, declared_at, variable_at, shape_at, kind_at, generic_at}
-use Rattle.sig_codec.proofs.Numbers.{Took, done, some_is, bind_some, chosen, number_takes, number_again, signed_takes, signed_again}
+use Rattle.sig_codec.specs.Reading.{◌>>=◌, Step, number_at, signed_at, each_at, counted_at, owner_at, name_of, is_declared, declared_at, variable_at, shape_at, kind_at, generic_at}
+use Rattle.sig_codec.proofs.Numbers.{Took, some_is, bind_some, chosen, number_takes, number_again, signed_takes, signed_again}
 
 -- a front in two parts
 pub two_parts : (bytes a b c x y : List ℕ) → bytes ≡ a ++ x → x ≡ b ++ y → bytes ≡ (a ++ b) ++ y

@@ -1,8 +1,7 @@
 -- The first step of reading a type.
-use Rattle.std.proofs.Common.{◌≡◌, ◌≢◌, ℕ, zero, suc, ◌-◌, ◌<◌, ◌⊎◌, inl, inr, List, Option, Some, None, refl, arith}
+use Rattle.std.proofs.Common.{◌≡◌, ◌≢◌, ℕ, zero, suc, ◌-◌, ◌⊎◌, inl, inr, List, Option, None, refl, arith}
 use Rattle.type_terms.specs.declared.term.Owner.{Owner}
-use Rattle.type_terms.specs.declared.term.SigType.{SigType}
-use Rattle.sig_codec.specs.Reading.{◌>>=◌, Read, byte_at, element_of, parts_at, type_at}
+use Rattle.sig_codec.specs.Reading.{◌>>=◌, byte_at, element_of, parts_at, type_at}
 
 -- no type where there is no depth or no node left
 pub nothing_left : (owners : ℕ → Option Owner) (depth : ℕ) (bytes : List ℕ) (nodes : ℕ) → (depth ≡ 0) ⊎ ((depth ≡ 0 → ⊥) × (nodes ≡ 0)) → type_at owners depth bytes nodes ≡ None

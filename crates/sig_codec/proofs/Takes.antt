@@ -1,11 +1,11 @@
 -- A type that is read is spelled by the bytes that were read, and within its limits.
-use Rattle.std.proofs.Common.{◌≡◌, ℕ, zero, suc, ◌+◌, ◌-◌, max, ◌^◌, ◌<◌, ◌≤◌, ◌⊎◌, inl, inr, Bool, true, false, cond, nat_lt, nat_le, nat_eq, ◌&&◌, ℤ, List, [], ◌∷◌, ◌++◌, length, map, Option, Some, None, refl, sym, ap, subst, ◌∙◌, append_assoc, arith}
+use Rattle.std.proofs.Common.{◌≡◌, ℕ, zero, suc, ◌+◌, ◌-◌, ◌^◌, ◌<◌, ◌≤◌, ◌⊎◌, inl, inr, Bool, true, false, cond, nat_lt, nat_le, nat_eq, ◌&&◌, ℤ, List, [], ◌∷◌, ◌++◌, length, map, Option, Some, None, refl, sym, ap, subst, ◌∙◌, append_assoc, arith}
 use Rattle.std.proofs.lemmas.Grind.{common_steps}
 use Rattle.std.specs.List.{AllByRecursion}
 use Rattle.il_base.specs.Numbers.{Packed}
 use Rattle.type_terms.specs.declared.name.TypeName.{TypeName}
 use Rattle.type_terms.specs.declared.term.Primitive.TheVariants as kinds
-use Rattle.type_terms.specs.declared.term.Owner.{Owner, Name}
+use Rattle.type_terms.specs.declared.term.Owner.{Owner}
 use Rattle.type_terms.specs.declared.term.Owner.TheOpen as layer
 use Rattle.type_terms.specs.declared.term.SigType.{SigType, out-SigType}
 use Rattle.type_terms.specs.declared.term.SigType.TheVariants as type
@@ -13,9 +13,9 @@ use Rattle.type_terms.specs.Depth.{depth, owner_depth, largest}
 use Rattle.type_terms.specs.Nodes.{nodes, owner_nodes, total}
 use Rattle.sig_codec.specs.declared.element.Element.{Element}
 use Rattle.sig_codec.specs.declared.element.Element.TheVariants as element
-use Rattle.sig_codec.specs.Spelling.{Layer, Notation, reading, prim_byte, kind_byte, modifier_byte, SpellsOwner, SpellsName, SpellsShape, SpellsType, made, SpellsLayer, prim, class, value, inst, var, mvar, sz_array, array, by_ref, pointer, modified, pinned, SpellsEach, none, more}
-use Rattle.sig_codec.specs.Reading.{◌>>=◌, Step, Read, TypeStep, byte_at, owner_at, declared_at, variable_at, shape_at, generic_at, lookup, elements, element_of, is_at_sentinel, types_at, all_types_at, boxed_at, named_at, numbered_at, array_at, inst_at, after, after_owner, modified_at, parts_at, type_at}
-use Rattle.sig_codec.proofs.Numbers.{Took, done, some_is, bind_some, chosen}
+use Rattle.sig_codec.specs.Spelling.{Layer, Notation, reading, prim_byte, kind_byte, modifier_byte, SpellsName, SpellsType, made, SpellsLayer, prim, class, value, inst, var, mvar, sz_array, array, by_ref, pointer, modified, pinned, SpellsEach, none, more}
+use Rattle.sig_codec.specs.Reading.{◌>>=◌, Read, TypeStep, owner_at, declared_at, variable_at, shape_at, generic_at, lookup, elements, element_of, is_at_sentinel, types_at, all_types_at, boxed_at, named_at, numbered_at, array_at, inst_at, after, after_owner, modified_at, parts_at, type_at}
+use Rattle.sig_codec.proofs.Numbers.{some_is, bind_some, chosen}
 use Rattle.sig_codec.proofs.Parts.{two_parts, owner_takes, declared_takes, variable_takes, shape_takes, generic_takes}
 use Rattle.sig_codec.proofs.Layers.{layer_depth, layer_nodes, depth-out, nodes-out, depth-Inst, nodes-Inst, depth-Mod, nodes-Mod, IsRound, IsRound-from}
 

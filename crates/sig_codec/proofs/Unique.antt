@@ -1,23 +1,23 @@
 -- Laws of spellings: one value, one end, from a numberer's map to a namer's.
-use Rattle.std.proofs.Common.{◌≡◌, ℕ, zero, suc, ◌+◌, ◌-◌, ◌*◌, ◌/◌, ◌%◌, max, ◌^◌, ◌<◌, ◌≤◌, ◌⊎◌, inl, inr, Bool, true, false, cond, nat_lt, nat_eq, ℤ, ◌≤ℤ◌, List, [], ◌∷◌, ◌++◌, length, take, drop, Option, Some, None, refl, sym, ap, subst, ◌∙◌, arith}
+use Rattle.std.proofs.Common.{◌≡◌, ℕ, zero, suc, ◌+◌, ◌-◌, ◌/◌, ◌%◌, max, ◌^◌, ◌<◌, inl, inr, cond, nat_lt, nat_eq, ℤ, List, [], ◌∷◌, ◌++◌, length, take, drop, Option, Some, None, sym, ap, subst, ◌∙◌, arith}
 use Rattle.std.proofs.lemmas.Grind.{common_steps}
 use Rattle.std.proofs.lemmas.List.{append_cancel_right, take-append-drop}
 use Rattle.std.specs.List.{AllByRecursion}
-use Rattle.il_base.specs.Numbers.{Packed, PackedSigned, IsTurned, IsShortest, packed_bits, least_signed, greatest_signed}
+use Rattle.il_base.specs.Numbers.{Packed, PackedSigned, IsTurned, packed_bits}
 use Rattle.type_terms.specs.declared.name.TypeName.{TypeName}
 use Rattle.type_terms.specs.declared.reference.MethodSig.{MethodSig}
 use Rattle.type_terms.specs.declared.term.Owner.{Owner, Name}
 use Rattle.type_terms.specs.declared.term.SigType.{SigType}
 use Rattle.type_terms.specs.Depth.{depth}
 use Rattle.type_terms.specs.Nodes.{nodes}
-use Rattle.sig_codec.specs.Tokens.{GivesBack, IsTypeToken, IsDeclared, token_of_coded, type_defs, type_refs, type_specs}
+use Rattle.sig_codec.specs.Tokens.{GivesBack, IsTypeToken, token_of_coded, type_defs, type_refs, type_specs}
 use Rattle.sig_codec.specs.Spelling as spelling
 use Rattle.sig_codec.specs.Spelling.{Layer, Notation, reading, shortest, writing, SpellsOwner, SpellsName, SpellsEachBy, SpellsCounted, SpellsShape, SpellsType, SpellsLayer, SpellsEach}
 use Rattle.sig_codec.specs.Signature.{SpellsGeneric, SpellsParams, SpellsMethod, SpellsField, SpellsProperty, SpellsLocals, SpellsInstantiation, IsMethod, IsField, IsProperty, AreLocals, IsInstantiation}
 use Rattle.sig_codec.specs.Spellable as spellable
 use Rattle.sig_codec.specs.Spellable.{Renumbers, HasToken, HasDeclaredToken, CanBePacked, CanBePackedSigned, IsShape, HasSpelling, HasParts, HaveSpellings, IsSentinel, MethodHasSpelling, PropertyHasSpelling, LocalsHaveSpelling, InstantiationHasSpelling}
-use Rattle.sig_codec.specs.Reading.{type_at, whole_method, whole_field, whole_property, whole_locals, whole_instantiation}
-use Rattle.sig_codec.proofs.Numbers.{done, some_is, chosen}
+use Rattle.sig_codec.specs.Reading.{type_at}
+use Rattle.sig_codec.proofs.Numbers.{some_is, chosen}
 use Rattle.sig_codec.proofs.Again.{type_again}
 use Rattle.sig_codec.proofs.Whole.{whole_field_again, whole_locals_again, whole_instantiation_again}
 use Rattle.sig_codec.proofs.Methods.{whole_method_again, whole_property_again}
@@ -237,10 +237,10 @@ each_by_all S P f (x ∷ xs) bytes h = (f h.0 x h.3, each_by_all S P f xs h.1 h.
 
 module _ (owners : ℕ → Option Owner) (tokens : Owner → Option ℕ) (again : Renumbers owners tokens) where
   has_token : (o : Owner) (bytes : List ℕ) → SpellsOwner (reading owners) o bytes → HasToken tokens o
-  has_token o bytes h = (h.token, again h.token o h.named, coded_is_type h.coded h.token h.decoded)
+  has_token o bytes h = let a = again h.token o h.named (coded_is_type h.coded h.token h.decoded) in (a.0, a.1, a.2)
 
   has_declared : (n : TypeName) (bytes : List ℕ) → SpellsName (reading owners) n bytes → HasDeclaredToken tokens n
-  has_declared n bytes h = (h.owner.token, again h.owner.token (Name n) h.owner.named, coded_is_type h.owner.coded h.owner.token h.owner.decoded, h.declared)
+  has_declared n bytes h = let a = again h.owner.token (Name n) h.owner.named (coded_is_type h.owner.coded h.owner.token h.owner.decoded) in (a.0, a.1, a.2, a.3 h.declared)
 
   has_shape : (r : ℕ) (s : List ℕ) (l : List ℤ) (bytes : List ℕ) → SpellsShape (reading owners) r s l bytes → IsShape r s l
   has_shape r s l bytes h = record {

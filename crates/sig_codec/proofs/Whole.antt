@@ -1,22 +1,19 @@
 -- A signature that is read is the one that its bytes spell, and what is spelled within bounds is read.
-use Rattle.std.proofs.Common.{◌≡◌, ℕ, zero, suc, ◌+◌, ◌-◌, ◌*◌, ◌/◌, ◌%◌, max, ◌^◌, ◌<◌, ◌≤◌, ◌⊎◌, inl, inr, Bool, true, false, cond, nat_lt, nat_le, nat_eq, ◌&&◌, List, [], ◌∷◌, ◌++◌, length, map, take, drop, Option, Some, None, Result, Ok, Err, refl, sym, ap, subst, ◌∙◌, append_assoc, arith}
+use Rattle.std.proofs.Common.{◌≡◌, ℕ, ◌-◌, ◌<◌, ◌≤◌, inl, inr, true, false, nat_lt, nat_eq, List, [], ◌∷◌, ◌++◌, length, map, Option, Some, None, Result, Ok, Err, refl, sym, ap, subst, ◌∙◌, arith}
 use Rattle.std.proofs.lemmas.Grind.{common_steps}
-use Rattle.std.proofs.lemmas.List.{append-nil, nil_from_length}
+use Rattle.std.proofs.lemmas.List.{append-nil}
 use Rattle.std.specs.Prelude.{IfOk, IfSome, IfNone}
-use Rattle.std.specs.List.{AllByRecursion}
 use Rattle.il_base.specs.Numbers.{Packed}
 use Rattle.il_lists.specs.declared.memory.NoMemory.{NoMemory}
-use Rattle.type_terms.specs.declared.reference.MethodSig.{MethodSig}
 use Rattle.type_terms.specs.declared.term.Owner.{Owner}
 use Rattle.type_terms.specs.declared.term.SigType.{SigType}
-use Rattle.type_terms.specs.Depth.{depth, largest, sig_depth}
-use Rattle.type_terms.specs.Nodes.{nodes, total, list_nodes, sig_nodes}
-use Rattle.sig_codec.specs.Spelling.{Notation, reading, SpellsType, SpellsEach, none, more}
-use Rattle.sig_codec.specs.Signature.{method_byte, SpellsGeneric, SpellsParams, SpellsMethod, SpellsField, SpellsProperty, SpellsLocals, SpellsInstantiation, max_depth, max_nodes, IsType, IsMethod, IsField, IsProperty, AreLocals, IsInstantiation}
-use Rattle.sig_codec.specs.Reading.{◌>>=◌, Step, Read, TypeStep, byte_at, number_at, lookup, type_at, types_at, all_types_at, is_at_sentinel, ended, whole_type, whole_field, whole_types, whole_locals, some_types, whole_instantiation, kinds_of_call, flags_of_call, convention_of, generics_at, others_at, params_at, whole_method, property_has_this, whole_property}
-use Rattle.sig_codec.proofs.Numbers.{Took, done, some_is, bind_some, chosen, number_takes, number_again}
-use Rattle.sig_codec.proofs.Parts.{two_parts}
-use Rattle.sig_codec.proofs.Takes.{TookEach, type_takes, types_take, all_types_take}
+use Rattle.type_terms.specs.Depth.{depth, largest}
+use Rattle.type_terms.specs.Nodes.{nodes, list_nodes}
+use Rattle.sig_codec.specs.Spelling.{Notation, reading, SpellsType, SpellsEach}
+use Rattle.sig_codec.specs.Signature.{max_depth, max_nodes, IsType, IsField, AreLocals, IsInstantiation}
+use Rattle.sig_codec.specs.Reading.{◌>>=◌, number_at, type_at, types_at, all_types_at, ended, whole_type, whole_field, whole_types, whole_locals, some_types, whole_instantiation}
+use Rattle.sig_codec.proofs.Numbers.{some_is, bind_some, chosen, number_takes, number_again}
+use Rattle.sig_codec.proofs.Takes.{type_takes, all_types_take}
 use Rattle.sig_codec.proofs.Again.{type_again, each_again}
 
 -- ---- what a decoder answers

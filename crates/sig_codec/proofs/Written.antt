@@ -1,21 +1,20 @@
 -- What an encoder adds spells the value, each number in its shortest form.
-use Rattle.std.proofs.Common.{drop_of_length-le, ◌≡◌, ℕ, zero, suc, ◌+◌, ◌-◌, ◌*◌, ◌/◌, ◌%◌, ◌^◌, ◌<◌, ◌≤◌, ◌⊎◌, inl, inr, Bool, true, false, cond, nat_lt, nat_eq, ℤ, List, [], ◌∷◌, ◌++◌, length, map, take, drop, Option, Some, None, Result, Ok, Err, refl, sym, ap, subst, ◌∙◌, append_assoc, arith}
+use Rattle.std.proofs.Common.{drop_of_length-le, ◌≡◌, ℕ, zero, suc, ◌+◌, ◌^◌, ◌<◌, ◌≤◌, inl, inr, Bool, ℤ, List, [], ◌∷◌, ◌++◌, length, map, take, drop, Option, Some, Result, Ok, Err, refl, sym, ap, subst, ◌∙◌, append_assoc, arith}
 use Rattle.std.specs.Prelude.{OnOk}
 use Rattle.std.specs.List.{AllByRecursion}
 use Rattle.std.proofs.lemmas.Grind.{common_steps}
 use Rattle.std.proofs.lemmas.List.{append-nil}
-use Rattle.il_base.specs.Numbers.{Packed, PackedSigned, IsShortest, packed_bytes, packed_signed_bytes}
+use Rattle.il_base.specs.Numbers.{Packed, IsShortest}
 use Rattle.type_terms.specs.declared.name.TypeName.{TypeName}
-use Rattle.type_terms.specs.declared.term.Primitive.{Primitive}
 use Rattle.type_terms.specs.declared.term.Owner.{Owner, Name}
 use Rattle.type_terms.specs.declared.term.Owner.TheOpen as layer
 use Rattle.type_terms.specs.declared.term.SigType.{SigType, out-SigType}
 use Rattle.type_terms.specs.declared.term.SigType.TheVariants as type
 use Rattle.type_terms.specs.Depth.{depth, largest}
-use Rattle.sig_codec.specs.Tokens.{token_of_coded, coded_of_token, IsTypeToken, IsDeclared, type_defs, type_refs, type_specs}
+use Rattle.sig_codec.specs.Tokens.{token_of_coded, coded_of_token, IsTypeToken, IsDeclared}
 use Rattle.sig_codec.specs.Spelling.{Layer, Notation, writing, prim_byte, kind_byte, modifier_byte, SpellsOwner, SpellsName, SpellsEachBy, SpellsCounted, SpellsShape, SpellsType, SpellsLayer, SpellsEach}
 use Rattle.sig_codec.specs.Spelling as spelling
-use Rattle.sig_codec.specs.Spellable.{HasToken, HasDeclaredToken, CanBePacked, CanBePackedSigned, IsShape, HasSpelling, HasParts, HaveSpellings, made, prim, class, value, inst, var, mvar, sz_array, array, by_ref, pointer, modified, pinned, none, more}
+use Rattle.sig_codec.specs.Spellable.{HasToken, HasDeclaredToken, CanBePacked, IsShape, HasSpelling, HasParts, HaveSpellings, made, class, value, inst, var, mvar, sz_array, array, by_ref, pointer, modified, pinned, none, more}
 use Rattle.sig_codec.specs.Writing.{Appends}
 
 -- ---- what was added in parts

@@ -1,6 +1,6 @@
 -- Which types and signatures have a spelling, where a numberer's map gives the tokens of owners: each name in them has a token of
 -- the kind that is wanted, and the counts and numbers can be packed (ECMA-335 II.23.2).
-use Rattle.std.specs.Prelude.{◌≡◌, ℕ, zero, suc, ◌^◌, ◌<◌, ◌≤◌, ◌⊎◌, ℤ, ◌≤ℤ◌, Bool, true, false, List, [], ◌∷◌, length, Option, Some, None}
+use Rattle.std.specs.Prelude.{◌≡◌, ℕ, ◌^◌, ◌<◌, ◌≤◌, ℤ, ◌≤ℤ◌, Bool, true, false, List, [], ◌∷◌, length, Option, Some, None}
 use Rattle.std.specs.List.{AllByRecursion}
 use Rattle.il_base.specs.Numbers.{least_signed, greatest_signed}
 use Rattle.type_terms.specs.declared.name.TypeName.{TypeName}
@@ -12,9 +12,11 @@ use Rattle.type_terms.specs.declared.term.SigType.{SigType, out-SigType}
 use Rattle.sig_codec.specs.Tokens.{IsDeclared, IsTypeToken}
 use Rattle.sig_codec.specs.Spelling.{Layer}
 
--- a numberer's map numbers each owner by a token that a namer's map names it by
+-- a numberer's map has a token for each owner that a namer's map names: not that token, since an image may have two for one
+-- owner, but one of those tables, and of the tables TypeDef and TypeRef where that is
 abbrev pub Renumbers : (ℕ → Option Owner) → (Owner → Option ℕ) → Type 0
-Renumbers owners tokens = (token : ℕ) (o : Owner) → owners token ≡ Some o → tokens o ≡ Some token
+Renumbers owners tokens = (token : ℕ) (o : Owner) → owners token ≡ Some o → IsTypeToken token
+    → (other : ℕ) × (tokens o ≡ Some other) × IsTypeToken other × (IsDeclared token → IsDeclared other)
 
 -- an owner with a token of the tables TypeDef, TypeRef and TypeSpec
 abbrev pub HasToken : (Owner → Option ℕ) → Owner → Type 0

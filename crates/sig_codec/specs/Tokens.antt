@@ -1,6 +1,6 @@
 -- Tokens, and what names them (ECMA-335 II.22, II.24.2.6). A token is the number of a table in its highest byte and a row in the
 -- three below; a user string has 0x70 there, and its index below.
-use Rattle.std.specs.Prelude.{◌≡◌, ℕ, ◌+◌, ◌*◌, ◌/◌, ◌%◌, ◌^◌, ◌==◌, ◌⊎◌, nat_lt, if◌then◌else◌, Option, Some, None, List}
+use Rattle.std.specs.Prelude.{◌≡◌, ℕ, ◌+◌, ◌*◌, ◌/◌, ◌%◌, ◌^◌, ◌==◌, ◌⊎◌, nat_lt, if◌then◌else◌, Option, Some, None}
 
 -- the first token of a table
 abbrev pub type_refs : ℕ

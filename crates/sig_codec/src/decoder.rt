@@ -12,7 +12,7 @@ use type_terms::{Owner, TypeName};
 
 /// What is left to read: the bytes, and how many more nodes the value may have.
 #[derive(Clone, Copy)]
-pub(crate) struct Left<'a> {
+pub struct Left<'a> {
     pub bytes: &'a [u8],
     pub nodes: u32,
 }
@@ -50,9 +50,10 @@ pub(crate) fn declared_at<'a, N: Namer>(
     }
 }
 
-/// The number of the generic parameter at the front.
+/// The number of the generic parameter at the front (ECMA-335 II.23.2.12), and the bytes behind it. None where no packed
+/// number below 65,536 stands there.
 #[tactic(auto, unfolding(crate::specs::Reading::variable_at))]
-pub(crate) fn variable_at(bytes: &[u8]) -> Option<(u32, &[u8])>
+pub fn variable_at(bytes: &[u8]) -> Option<(u32, &[u8])>
     ensures { option_map (λ x. (x.0, x.1.now)) result ≡ variable_at bytes.now }
 {
     let (number, rest) = number_at(bytes)?;
@@ -85,8 +86,9 @@ pub(crate) fn shape_at(alloc: Global, bytes: &[u8]) -> Result<(Shape, &[u8]), St
     Ok((Shape { rank, sizes, lower }, rest))
 }
 
-/// Whether the generic type at the front is a value type.
-fn kind_at(bytes: &[u8]) -> Option<(bool, &[u8])>
+/// Whether the generic type at the front is a value type (ECMA-335 II.23.2.12), and the bytes behind that byte. None where
+/// the byte is neither that of a class nor that of a value type.
+pub fn kind_at(bytes: &[u8]) -> Option<(bool, &[u8])>
     ensures { option_map (λ x. (x.0, x.1.now)) result ≡ kind_at bytes.now }
 {
     let (byte, rest) = byte_at(bytes)?;

@@ -5,7 +5,7 @@ use type_terms::Prim;
 
 /// The byte that begins the spelling of a type (ECMA-335 II.23.1.16).
 #[derive(Clone, Copy)]
-pub(crate) enum Element {
+pub enum Element {
     Prim(Prim),
     Pointer,
     ByRef,
@@ -26,7 +26,7 @@ pub(crate) enum Element {
 impl Element {
     /// The element that `byte` is, or None where no type begins so.
     #[tactic(auto, unfolding(crate::specs::Reading::element_of))]
-    pub(crate) fn of(byte: u8) -> Option<Element>
+    pub fn of(byte: u8) -> Option<Element>
         ensures { result ≡ element_of byte }
     {
         let element = match byte {

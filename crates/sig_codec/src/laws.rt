@@ -1,10 +1,11 @@
-ghost use Rattle.std.specs.Prelude.{◌≡◌, ◌++◌, ℕ, List, Option};
+ghost use Rattle.std.specs.Prelude.{◌≡◌, ◌↔◌, ◌++◌, ℕ, List, Option, Some};
 ghost use Rattle.type_terms.specs.declared.reference.MethodSig.{MethodSig};
 ghost use Rattle.type_terms.specs.declared.term.Owner.{Owner};
 ghost use Rattle.type_terms.specs.declared.term.SigType.{SigType};
 ghost use Rattle.sig_codec.specs.Tokens.{GivesBack};
 ghost use Rattle.sig_codec.specs.Spelling.{reading, shortest, writing, SpellsType};
-ghost use Rattle.sig_codec.specs.Signature.{SpellsMethod, SpellsField, SpellsProperty, SpellsLocals, SpellsInstantiation, IsMethod, IsField, IsProperty, AreLocals, IsInstantiation};
+ghost use Rattle.sig_codec.specs.Reading.{whole_type, whole_method, whole_field, whole_property, whole_locals, whole_instantiation};
+ghost use Rattle.sig_codec.specs.Signature.{IsType, SpellsMethod, SpellsField, SpellsProperty, SpellsLocals, SpellsInstantiation, IsMethod, IsField, IsProperty, AreLocals, IsInstantiation};
 ghost use Rattle.sig_codec.specs.Spellable.{Renumbers, HasSpelling, MethodHasSpelling, PropertyHasSpelling, LocalsHaveSpelling, InstantiationHasSpelling};
 
 /// No spelling of a type begins another, and none spells two types: of one list of bytes, one front at most spells a type,
@@ -22,6 +23,17 @@ pub fn bytes_spell_one_signature()
     ensures property { (owners : ℕ → Option Owner) (bytes : List ℕ) (s t : MethodSig) → IsProperty owners bytes s → IsProperty owners bytes t → s ≡ t }
     ensures locals { (owners : ℕ → Option Owner) (bytes : List ℕ) (s t : List SigType) → AreLocals owners bytes s → AreLocals owners bytes t → s ≡ t }
     ensures instantiation { (owners : ℕ → Option Owner) (bytes : List ℕ) (s t : List SigType) → IsInstantiation owners bytes s → IsInstantiation owners bytes t → s ≡ t }
+{}
+
+/// What the steps of a decoder read from all of some bytes is what these spell, at most 100 deep and with at most 2,097,152
+/// nodes, and what they spell so is read. It does nothing when it is called.
+pub fn read_is_spelled()
+    ensures type_of { (owners : ℕ → Option Owner) (bytes : List ℕ) (t : SigType) → (whole_type owners bytes ≡ Some t) ↔ IsType owners bytes t }
+    ensures method { (owners : ℕ → Option Owner) (bytes : List ℕ) (s : MethodSig) → (whole_method owners bytes ≡ Some s) ↔ IsMethod owners bytes s }
+    ensures field { (owners : ℕ → Option Owner) (bytes : List ℕ) (t : SigType) → (whole_field owners bytes ≡ Some t) ↔ IsField owners bytes t }
+    ensures property { (owners : ℕ → Option Owner) (bytes : List ℕ) (s : MethodSig) → (whole_property owners bytes ≡ Some s) ↔ IsProperty owners bytes s }
+    ensures locals { (owners : ℕ → Option Owner) (bytes : List ℕ) (ts : List SigType) → (whole_locals owners bytes ≡ Some ts) ↔ AreLocals owners bytes ts }
+    ensures instantiation { (owners : ℕ → Option Owner) (bytes : List ℕ) (ts : List SigType) → (whole_instantiation owners bytes ≡ Some ts) ↔ IsInstantiation owners bytes ts }
 {}
 
 /// What is spelled with the tokens of a numberer is spelled, in shortest form, with the owners of any namer that gives back
@@ -47,8 +59,8 @@ pub fn shortest_is_read()
     ensures instantiation { (owners : ℕ → Option Owner) (ts : List SigType) (bytes : List ℕ) → SpellsInstantiation (shortest owners) ts bytes → SpellsInstantiation (reading owners) ts bytes }
 {}
 
-/// What is read with the owners of a namer has a spelling with the tokens of any numberer that numbers each owner as the
-/// namer names it. It does nothing when it is called.
+/// What is read with the owners of a namer has a spelling with the tokens of any numberer that has a token, of the same kind
+/// of table, for each owner that the namer names. It does nothing when it is called.
 #[tactic(auto, using(crate::proofs::Unique::has_type))]
 pub fn what_is_read_has_a_spelling()
     ensures type_of { (owners : ℕ → Option Owner) (tokens : Owner → Option ℕ) → Renumbers owners tokens → (t : SigType) (bytes : List ℕ) → SpellsType (reading owners) t bytes → HasSpelling tokens t }

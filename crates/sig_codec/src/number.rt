@@ -6,8 +6,8 @@ use crate::stop::Stop;
 use il_base::{Items, Numbers, Signed, read_packed, read_packed_signed};
 use std::alloc::Global;
 
-/// The byte at the front, and the bytes behind it.
-pub(crate) fn byte_at(bytes: &[u8]) -> Option<(u8, &[u8])>
+/// The byte at the front, and the bytes behind it. None where there is none.
+pub fn byte_at(bytes: &[u8]) -> Option<(u8, &[u8])>
     ensures { option_map (λ x. (x.0, x.1.now)) result ≡ byte_at bytes.now }
 {
     match bytes {
@@ -16,16 +16,16 @@ pub(crate) fn byte_at(bytes: &[u8]) -> Option<(u8, &[u8])>
     }
 }
 
-/// The packed number at the front (ECMA-335 II.23.2), and the bytes behind it.
-pub(crate) fn number_at(bytes: &[u8]) -> Option<(u32, &[u8])>
+/// The packed number at the front (ECMA-335 II.23.2), and the bytes behind it. None where none is spelled there.
+pub fn number_at(bytes: &[u8]) -> Option<(u32, &[u8])>
     ensures { option_map (λ x. (x.0, x.1.now)) result ≡ number_at bytes.now }
 {
     let (number, count) = read_packed(bytes, 0)?;
     Some((number, &bytes[count..]))
 }
 
-/// The packed signed number at the front (ECMA-335 II.23.2), and the bytes behind it.
-pub(crate) fn signed_at(bytes: &[u8]) -> Option<(i32, &[u8])>
+/// The packed signed number at the front (ECMA-335 II.23.2), and the bytes behind it. None where none is spelled there.
+pub fn signed_at(bytes: &[u8]) -> Option<(i32, &[u8])>
     ensures { option_map (λ x. (x.0, x.1.now)) result ≡ signed_at bytes.now }
 {
     let (number, count) = read_packed_signed(bytes, 0)?;

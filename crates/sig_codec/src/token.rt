@@ -2,7 +2,7 @@ ghost use Rattle.std.specs.Prelude.{◌≡◌};
 ghost use Rattle.sig_codec.specs.Tokens.{token_of_coded, coded_of_token, IsTypeToken};
 
 /// The token of a coded TypeDefOrRef number (ECMA-335 II.24.2.6), or None where there is no such tag or row.
-pub(crate) fn token_of_coded(number: u32) -> Option<u32>
+pub fn token_of_coded(number: u32) -> Option<u32>
     ensures { result ≡ token_of_coded number }
 {
     if number >= 1 << 26 {

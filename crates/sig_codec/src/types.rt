@@ -2,12 +2,13 @@ ghost use Rattle.std.specs.Prelude.{◌≡◌, ◌^◌, ◌<◌};
 ghost use Rattle.sig_codec.specs.Reading.{Gives, type_at, types_at, all_types_at, array_at, inst_at, modified_at, parts_at, is_at_sentinel};
 
 use crate::Namer;
+use crate::boxing::{boxed_copy_and, boxed_three, boxed_two};
 use crate::decoder::{Left, declared_at, generic_at, owner_at, shape_at, variable_at};
 use crate::element::Element;
 use crate::measure::after_owner;
 use crate::number::byte_at;
 use crate::stop::Stop;
-use il_base::{Boxed, Copies, Items};
+use il_base::{Boxed, Items};
 use std::alloc::Global;
 use type_terms::{SigType, Types};
 
@@ -108,10 +109,9 @@ fn array_at<'a, N: Namer>(
 ) -> Result<(SigType, Left<'a>), Stop>
     ensures { Gives (λ x. (x.0, x.1.bytes.now, x.1.nodes)) result (array_at (type_at (N.owners names.now) depth) left.entry.bytes.now left.entry.nodes) }
 {
-    let (of, left) = boxed_at(alloc, names, depth, left)?;
+    let (of, left) = type_at(alloc, names, depth, left)?;
     let (shape, bytes) = shape_at(alloc, left.bytes)?;
-    let sizes = Boxed::new(alloc, shape.sizes)?;
-    let lower = Boxed::new(alloc, shape.lower)?;
+    let (of, sizes, lower) = boxed_three(alloc, of, shape.sizes, shape.lower)?;
     let array = SigType::Array {
         of,
         rank: shape.rank,
@@ -135,8 +135,7 @@ fn inst_at<'a, N: Namer>(
     let (generic, bytes) = generic_at(alloc, names, left.bytes)?;
     let left = Left { bytes, ..left };
     let (args, left) = all_types_at(alloc, names, depth, generic.count, left)?;
-    let name = Boxed::new(alloc, generic.name)?;
-    let args = Boxed::new(alloc, args)?;
+    let (name, args) = boxed_two(alloc, generic.name, args)?;
     let inst = SigType::Inst {
         value: generic.value,
         name,
@@ -159,9 +158,8 @@ fn modified_at<'a, N: Namer>(
 {
     let (_, owner, bytes) = owner_at(names, left.bytes).ok_or(Stop::Unspelled)?;
     let nodes = after_owner(owner, depth, left.nodes).ok_or(Stop::Unspelled)?;
-    let owner = owner.copy(alloc)?;
-    let by = Boxed::new(alloc, owner)?;
-    let (of, left) = boxed_at(alloc, names, depth, Left { bytes, nodes })?;
+    let (of, left) = type_at(alloc, names, depth, Left { bytes, nodes })?;
+    let (by, of) = boxed_copy_and(alloc, owner, of)?;
     Ok((SigType::Mod { required, by, of }, left))
 }
 

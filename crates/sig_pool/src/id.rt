@@ -1,6 +1,7 @@
-ghost use Rattle.std.specs.Prelude.{◌≡◌};
+ghost use Rattle.std.specs.Prelude.{◌≡◌, IfOk};
 
-use il_lists::Items;
+use il_lists::{Copies, Items, NoMemory};
+use std::alloc::Global;
 use std::marker::Model;
 
 /// The place of a node in its pool. Contracts see it as that number.
@@ -30,6 +31,12 @@ impl SigId {
         ensures { result ≡ self }
     {
         self.0
+    }
+}
+
+impl Copies for SigId {
+    fn copy(&self, _alloc: Global) -> Result<SigId, NoMemory> {
+        Ok(*self)
     }
 }
 

@@ -3,7 +3,7 @@ ghost use Rattle.sig_pool.specs.Key.{flag, list_key, id_key, path_key, scope_key
 ghost use Rattle.sig_pool.specs.Shapes.{node_of};
 
 use crate::{Node, NodeOwner, SigId, SigIds};
-use il_lists::{Copies, Items, NoMemory, Numbers, Signed};
+use il_lists::{Copies, Items, NoMemory, Numbers, Signed, two};
 use std::alloc::Global;
 use type_terms::{Prim, Scope, TypeId, TypeName};
 
@@ -107,8 +107,7 @@ impl Shape<'_> {
                 Ok(Node::Value(name))
             }
             Shape::Inst { value, name, args } => {
-                let name = name.copy(alloc)?;
-                let args = Items::from_slice(alloc, args.as_slice())?;
+                let (name, args) = two(*name, *args, alloc)?;
                 Ok(Node::Inst {
                     value: *value,
                     name,
@@ -124,8 +123,7 @@ impl Shape<'_> {
                 sizes,
                 lower,
             } => {
-                let sizes = Items::from_slice(alloc, sizes.as_slice())?;
-                let lower = Items::from_slice(alloc, lower.as_slice())?;
+                let (sizes, lower) = two(*sizes, *lower, alloc)?;
                 Ok(Node::Array {
                     of: *of,
                     rank: *rank,

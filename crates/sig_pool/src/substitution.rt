@@ -8,7 +8,7 @@ ghost use Rattle.sig_pool.specs.Visits.{node_at, is_leaf, with_children, IsDone,
 
 use crate::shape::Shape;
 use crate::{Node, NodeOwner, SigId, SigIds, SigPool};
-use il_lists::{Copies, Items, NoMemory};
+use il_lists::{Copies, Items, NoMemory, two};
 use indexmap::IndexMap;
 
 impl SigPool {
@@ -160,8 +160,7 @@ impl SigPool {
                 Ok(Node::Value(name))
             }
             Node::Inst { value, name, .. } => {
-                let name = name.copy(alloc)?;
-                let args = Items::from_slice(alloc, kids.as_slice())?;
+                let (name, args) = two(name, kids, alloc)?;
                 Ok(Node::Inst {
                     value: *value,
                     name,
@@ -177,8 +176,7 @@ impl SigPool {
                 lower,
                 ..
             } => {
-                let sizes = sizes.copy(alloc)?;
-                let lower = lower.copy(alloc)?;
+                let (sizes, lower) = two(sizes, lower, alloc)?;
                 Ok(Node::Array {
                     of: *kids.at(0),
                     rank: *rank,
@@ -225,13 +223,26 @@ impl SigPool {
         ensures growth { length self.new + index_map_len done.old ≤ length self.old + index_map_len done.new }
     {
         let _ = self.len();
-        let node = self.with_kids(id, kids)?;
         done.insert(id.place(), id.place())?;
-        let placed = self.place(&Shape::of(&node));
+        let placed = self.put(id, kids);
         let _ = self.len();
         let replaced = placed?;
         done.insert(id.place(), replaced.place())?;
         Ok(replaced)
+    }
+
+    /// The id of the node of `id` with `kids` in the place of its children. The node lives here alone, across no early end
+    /// of another call.
+    fn put(&mut self, id: SigId, kids: &SigIds) -> Result<SigId, NoMemory>
+        requires id { id < length self.old }
+        requires kids { AllBelow (length self.old) kids.now }
+        requires count { length kids.now ≡ length (children (node_at self.old id)) }
+        ensures ok { IfOk result (λ r. Has self.new r (built (terms self.old) (with_children (node_at self.old id) kids.now))) }
+        ensures extends { Extends self.old self.new }
+        ensures bound { length self.new ≤ length self.old + 1 }
+    {
+        let node = self.with_kids(id, kids)?;
+        self.place(&Shape::of(&node))
     }
 }
 

@@ -1,4 +1,6 @@
 pub mod Depth
+pub mod Hashing
 pub mod HeldIds
 pub mod Nodes
 pub mod Order
+pub mod Same

@@ -218,7 +218,8 @@ fn place_of(t: &SigType) -> u8
     }
 }
 
-fn place_of_prim(prim: Prim) -> u8
+/// The place of a primitive type among the others.
+pub(crate) fn place_of_prim(prim: Prim) -> u8
     ensures { result ≡ prim_place prim }
 {
     prim as u8

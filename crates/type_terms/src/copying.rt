@@ -1,13 +1,12 @@
 ghost use Rattle.std.specs.Prelude.{◌≡◌, IfOk};
 
 use crate::{FieldRef, MethodRef, MethodSig, Owner, SigType, TypeId, TypeName, Types};
-use il_lists::{Boxed, Copies, Items, NoMemory};
+use il_lists::{Boxed, Copies, Items, NoMemory, four, three, two};
 use std::alloc::Global;
 
 impl Copies for TypeId {
     fn copy(&self, alloc: Global) -> Result<TypeId, NoMemory> {
-        let space = self.space.copy(alloc)?;
-        let name = self.name.copy(alloc)?;
+        let (space, name) = two(&self.space, &self.name, alloc)?;
         Ok(TypeId { space, name })
     }
 }
@@ -149,8 +148,7 @@ impl Owner {
 
 impl Copies for MethodSig {
     fn copy(&self, alloc: Global) -> Result<MethodSig, NoMemory> {
-        let ret = self.ret.copy(alloc)?;
-        let params = self.params.copy(alloc)?;
+        let (ret, params) = two(&self.ret, &self.params, alloc)?;
         Ok(MethodSig {
             has_this: self.has_this,
             explicit_this: self.explicit_this,
@@ -165,10 +163,7 @@ impl Copies for MethodSig {
 
 impl Copies for MethodRef {
     fn copy(&self, alloc: Global) -> Result<MethodRef, NoMemory> {
-        let owner = self.owner.copy(alloc)?;
-        let name = self.name.copy(alloc)?;
-        let sig = self.sig.copy(alloc)?;
-        let args = self.args.copy(alloc)?;
+        let (owner, name, sig, args) = four(&self.owner, &self.name, &self.sig, &self.args, alloc)?;
         Ok(MethodRef {
             owner,
             name,
@@ -180,9 +175,7 @@ impl Copies for MethodRef {
 
 impl Copies for FieldRef {
     fn copy(&self, alloc: Global) -> Result<FieldRef, NoMemory> {
-        let owner = self.owner.copy(alloc)?;
-        let name = self.name.copy(alloc)?;
-        let of = self.of.copy(alloc)?;
+        let (owner, name, of) = three(&self.owner, &self.name, &self.of, alloc)?;
         Ok(FieldRef { owner, name, of })
     }
 }

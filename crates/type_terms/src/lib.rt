@@ -1,10 +1,13 @@
 //! The terms that stand for types in a signature (ECMA-335 II.23.2), and the references to methods and
-//! fields that are made of them: plain trees of names and numbers, their order, their depth and copies.
+//! fields that are made of them: plain trees of names and numbers, their order, their
+//! equality, their hashes, their depth and copies.
 #![tactic(auto)]
 
 mod compare;
 mod copying;
 mod depth;
+pub mod equality;
+pub mod hashing;
 mod laws;
 mod name;
 mod path;

@@ -50,10 +50,8 @@ impl Path {
         match &mut self.held {
             Held::Nested(ids) => ids.push(id)?,
             Held::One { id: first, alloc } => {
-                let mut ids = Items::with_capacity(*alloc, 2)?;
                 let first = first.copy(*alloc)?;
-                ids.push(first)?;
-                ids.push(id)?;
+                let ids = Items::pair(*alloc, first, id)?;
                 self.held = Held::Nested(ids);
             }
         }

@@ -1,15 +1,18 @@
 ghost use Rattle.std.specs.Prelude.{◌≡◌, IfOk};
 
 use crate::{ExternAssembly, Layout, Manifest, MethodPath};
-use il_lists::{Copies, NoMemory};
+use il_lists::{Copies, NoMemory, four, six};
 use std::alloc::Global;
 
 impl Copies for ExternAssembly {
     fn copy(&self, alloc: Global) -> Result<ExternAssembly, NoMemory> {
-        let name = self.name.copy(alloc)?;
-        let key = self.key.copy(alloc)?;
-        let culture = self.culture.copy(alloc)?;
-        let hash = self.hash.copy(alloc)?;
+        let (name, key, culture, hash) = four(
+            &self.name,
+            &self.key,
+            &self.culture,
+            &self.hash,
+            alloc,
+        )?;
         Ok(ExternAssembly {
             name,
             version: self.version,
@@ -23,12 +26,15 @@ impl Copies for ExternAssembly {
 
 impl Copies for Manifest {
     fn copy(&self, alloc: Global) -> Result<Manifest, NoMemory> {
-        let name = self.name.copy(alloc)?;
-        let key = self.key.copy(alloc)?;
-        let culture = self.culture.copy(alloc)?;
-        let module = self.module.copy(alloc)?;
-        let attributes = self.attributes.copy(alloc)?;
-        let module_attributes = self.module_attributes.copy(alloc)?;
+        let (name, key, culture, module, attributes, module_attributes) = six(
+            &self.name,
+            &self.key,
+            &self.culture,
+            &self.module,
+            &self.attributes,
+            &self.module_attributes,
+            alloc,
+        )?;
         Ok(Manifest {
             name,
             version: self.version,

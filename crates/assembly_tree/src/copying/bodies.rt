@@ -1,14 +1,12 @@
 ghost use Rattle.std.specs.Prelude.{◌≡◌, IfOk};
 
 use crate::{Body, Clause, ClauseKind, Ins, Operand};
-use il_lists::{Copies, NoMemory};
+use il_lists::{Copies, NoMemory, three};
 use std::alloc::Global;
 
 impl Copies for Body {
     fn copy(&self, alloc: Global) -> Result<Body, NoMemory> {
-        let locals = self.locals.copy(alloc)?;
-        let code = self.code.copy(alloc)?;
-        let clauses = self.clauses.copy(alloc)?;
+        let (locals, code, clauses) = three(&self.locals, &self.code, &self.clauses, alloc)?;
         Ok(Body {
             bound: self.bound,
             init: self.init,

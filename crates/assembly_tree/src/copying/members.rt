@@ -1,14 +1,12 @@
 ghost use Rattle.std.specs.Prelude.{◌≡◌, IfOk};
 
 use crate::{Accessor, Attribute, Constant, Event, Field, Generic, Method, Param, Property};
-use il_lists::{Copies, NoMemory};
+use il_lists::{Copies, NoMemory, five, four, seven, three, two};
 use std::alloc::Global;
 
 impl Copies for Generic {
     fn copy(&self, alloc: Global) -> Result<Generic, NoMemory> {
-        let name = self.name.copy(alloc)?;
-        let bounds = self.bounds.copy(alloc)?;
-        let attributes = self.attributes.copy(alloc)?;
+        let (name, bounds, attributes) = three(&self.name, &self.bounds, &self.attributes, alloc)?;
         Ok(Generic {
             name,
             flags: self.flags,
@@ -20,11 +18,14 @@ impl Copies for Generic {
 
 impl Copies for Field {
     fn copy(&self, alloc: Global) -> Result<Field, NoMemory> {
-        let name = self.name.copy(alloc)?;
-        let content = self.content.copy(alloc)?;
-        let attributes = self.attributes.copy(alloc)?;
-        let constant = self.constant.copy(alloc)?;
-        let of = self.of.copy(alloc)?;
+        let (name, of, constant, content, attributes) = five(
+            &self.name,
+            &self.of,
+            &self.constant,
+            &self.content,
+            &self.attributes,
+            alloc,
+        )?;
         Ok(Field {
             name,
             flags: self.flags,
@@ -39,13 +40,16 @@ impl Copies for Field {
 
 impl Copies for Method {
     fn copy(&self, alloc: Global) -> Result<Method, NoMemory> {
-        let name = self.name.copy(alloc)?;
-        let generics = self.generics.copy(alloc)?;
-        let params = self.params.copy(alloc)?;
-        let overrides = self.overrides.copy(alloc)?;
-        let attributes = self.attributes.copy(alloc)?;
-        let body = self.body.copy(alloc)?;
-        let sig = self.sig.copy(alloc)?;
+        let (name, sig, generics, params, overrides, body, attributes) = seven(
+            &self.name,
+            &self.sig,
+            &self.generics,
+            &self.params,
+            &self.overrides,
+            &self.body,
+            &self.attributes,
+            alloc,
+        )?;
         Ok(Method {
             name,
             flags: self.flags,
@@ -63,9 +67,12 @@ impl Copies for Method {
 
 impl Copies for Param {
     fn copy(&self, alloc: Global) -> Result<Param, NoMemory> {
-        let name = self.name.copy(alloc)?;
-        let attributes = self.attributes.copy(alloc)?;
-        let constant = self.constant.copy(alloc)?;
+        let (name, constant, attributes) = three(
+            &self.name,
+            &self.constant,
+            &self.attributes,
+            alloc,
+        )?;
         Ok(Param {
             number: self.number,
             flags: self.flags,
@@ -78,11 +85,14 @@ impl Copies for Param {
 
 impl Copies for Property {
     fn copy(&self, alloc: Global) -> Result<Property, NoMemory> {
-        let name = self.name.copy(alloc)?;
-        let accessors = self.accessors.copy(alloc)?;
-        let attributes = self.attributes.copy(alloc)?;
-        let constant = self.constant.copy(alloc)?;
-        let sig = self.sig.copy(alloc)?;
+        let (name, sig, constant, accessors, attributes) = five(
+            &self.name,
+            &self.sig,
+            &self.constant,
+            &self.accessors,
+            &self.attributes,
+            alloc,
+        )?;
         Ok(Property {
             name,
             flags: self.flags,
@@ -96,10 +106,13 @@ impl Copies for Property {
 
 impl Copies for Event {
     fn copy(&self, alloc: Global) -> Result<Event, NoMemory> {
-        let name = self.name.copy(alloc)?;
-        let accessors = self.accessors.copy(alloc)?;
-        let attributes = self.attributes.copy(alloc)?;
-        let of = self.of.copy(alloc)?;
+        let (name, of, accessors, attributes) = four(
+            &self.name,
+            &self.of,
+            &self.accessors,
+            &self.attributes,
+            alloc,
+        )?;
         Ok(Event {
             name,
             flags: self.flags,
@@ -118,8 +131,7 @@ impl Copies for Accessor {
 
 impl Copies for Attribute {
     fn copy(&self, alloc: Global) -> Result<Attribute, NoMemory> {
-        let value = self.value.copy(alloc)?;
-        let constructor = self.constructor.copy(alloc)?;
+        let (constructor, value) = two(&self.constructor, &self.value, alloc)?;
         Ok(Attribute { constructor, value })
     }
 }

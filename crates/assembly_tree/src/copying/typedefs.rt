@@ -6,7 +6,7 @@ use super::nests::{Nests, copied_all};
 use crate::{
     Assembly, Attributes, Events, Fields, Generics, Methods, Properties, TypeDef, TypeDefs,
 };
-use il_lists::{Copies, NoMemory};
+use il_lists::{Copies, NoMemory, five, four};
 use std::alloc::Global;
 use type_terms::{Owner, Owners, TypeId};
 
@@ -34,10 +34,13 @@ impl TypeDef {
         ensures { IfOk result (λ h. let t = out-TypeDef self.now in
             (h.id ≡ t.id) × (h.generics ≡ t.generics) × (h.extends ≡ t.extends) × (h.implements ≡ t.implements)) }
     {
-        let id = self.id.copy(alloc)?;
-        let generics = self.generics.copy(alloc)?;
-        let implements = self.implements.copy(alloc)?;
-        let extends = self.extends.copy(alloc)?;
+        let (id, generics, extends, implements) = four(
+            &self.id,
+            &self.generics,
+            &self.extends,
+            &self.implements,
+            alloc,
+        )?;
         Ok(Head {
             id,
             generics,
@@ -51,11 +54,14 @@ impl TypeDef {
             (m.fields ≡ t.fields) × (m.methods ≡ t.methods) × (m.properties ≡ t.properties) × (m.events ≡ t.events)
             × (m.attributes ≡ t.attributes)) }
     {
-        let fields = self.fields.copy(alloc)?;
-        let methods = self.methods.copy(alloc)?;
-        let properties = self.properties.copy(alloc)?;
-        let events = self.events.copy(alloc)?;
-        let attributes = self.attributes.copy(alloc)?;
+        let (fields, methods, properties, events, attributes) = five(
+            &self.fields,
+            &self.methods,
+            &self.properties,
+            &self.events,
+            &self.attributes,
+            alloc,
+        )?;
         Ok(Members {
             fields,
             methods,
@@ -137,11 +143,14 @@ impl Copies for TypeDef {
 
 impl Copies for Assembly {
     fn copy(&self, alloc: Global) -> Result<Assembly, NoMemory> {
-        let externs = self.externs.copy(alloc)?;
-        let fields = self.fields.copy(alloc)?;
-        let methods = self.methods.copy(alloc)?;
-        let types = copied_all(self.types.as_slice(), alloc)?;
-        let manifest = self.manifest.copy(alloc)?;
+        let (manifest, externs, fields, methods, types) = five(
+            &self.manifest,
+            &self.externs,
+            &self.fields,
+            &self.methods,
+            &self.types,
+            alloc,
+        )?;
         Ok(Assembly {
             manifest,
             externs,

@@ -4,18 +4,7 @@ ghost use Rattle.assembly_tree.specs.WellFormedBodies.{opcode_size, operand_size
 use super::operands::operand_kind;
 use crate::weighing::charge_each;
 use crate::{Ins, Operand};
-use opcode_table::{Op, OperandKind, bytes_of};
-
-/// The bytes of the opcode.
-#[tactic(auto, unfolding(crate::specs::WellFormedBodies::opcode_size))]
-fn opcode_size(op: Op) -> u64
-    ensures { result ≡ opcode_size op }
-{
-    match bytes_of(op) {
-        (_, None) => 1,
-        (_, Some(_)) => 2,
-    }
-}
+use opcode_table::{OperandKind, opcode_size, operand_size};
 
 /// What is left of `left` once the bytes of a switch's operand are taken off, or 4 for any other operand.
 fn take_targets(left: u64, operand: &Operand) -> u64
@@ -41,21 +30,8 @@ fn take_operand(left: u64, kind: OperandKind, operand: &Operand) -> u64
     ensures { result ≡ left - operand_size kind operand.now }
 {
     match kind {
-        OperandKind::Nothing => left,
-        OperandKind::Var8 | OperandKind::Num8 | OperandKind::Byte | OperandKind::Branch8 => {
-            left.saturating_sub(1)
-        }
-        OperandKind::Var16 => left.saturating_sub(2),
-        OperandKind::Num64 | OperandKind::Real8 => left.saturating_sub(8),
         OperandKind::Switch => take_targets(left, operand),
-        OperandKind::Num32
-        | OperandKind::Real4
-        | OperandKind::Branch32
-        | OperandKind::Method
-        | OperandKind::Field
-        | OperandKind::Of
-        | OperandKind::Text
-        | OperandKind::Token => left.saturating_sub(4),
+        _ => left.saturating_sub(operand_size(kind) as u64),
     }
 }
 
@@ -65,7 +41,7 @@ impl Ins {
     fn take_size(&self, left: u64) -> u64
         ensures { result ≡ left - size_of self.now }
     {
-        let left = left.saturating_sub(opcode_size(self.op));
+        let left = left.saturating_sub(opcode_size(self.op) as u64);
         take_operand(left, operand_kind(self.op), &self.operand)
     }
 }

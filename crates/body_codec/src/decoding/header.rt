@@ -4,14 +4,16 @@ ghost use Rattle.body_codec.specs.Reading.{IsHeader};
 
 use byteorder::{ByteOrder, LittleEndian};
 
-/// What the header of a body says.
+/// What the header of a body says (ECMA-335 II.25.4.1 to II.25.4.4).
 #[derive(Clone, Copy)]
-pub(crate) struct Header {
+pub struct Header {
     /// Where the code begins, in bytes from the header on.
     pub start: usize,
     /// Where it ends.
     pub end: usize,
+    /// The most operands that the stack holds.
     pub bound: u16,
+    /// Whether the locals begin as zeros.
     pub init: bool,
     /// Whether sections follow.
     pub more: bool,
@@ -21,7 +23,7 @@ pub(crate) struct Header {
 
 /// The header at the front of `bytes`. None where it isn't known, or where its code is empty or can't be read.
 #[tactic(auto, using(crate::proofs::Headers::tiny_or_fat), unfolding(crate::specs::Header::is_tiny, crate::specs::Header::is_fat, crate::specs::Header::header_size, crate::specs::Header::code_end))]
-pub(crate) fn read_header(bytes: &[u8]) -> Option<Header>
+pub fn read_header(bytes: &[u8]) -> Option<Header>
     ensures found { IfSome result (IsHeader bytes.now) }
     ensures none { IfNone result (HasHeader bytes.now → ⊥) }
 {
@@ -89,9 +91,9 @@ fn read_fat(bytes: &[u8]) -> Option<Header>
     })
 }
 
-/// The bytes of the code.
+/// The bytes of the code of a body with this header.
 #[tactic(auto, using(crate::proofs::Outlines::code_is), unfolding(crate::specs::Header::code_end))]
-pub(crate) fn code_in<'a>(bytes: &'a [u8], header: &Header) -> &'a [u8]
+pub fn code_in<'a>(bytes: &'a [u8], header: &Header) -> &'a [u8]
     requires { IsHeader bytes.now header.now }
     ensures { result.now ≡ code_of bytes.now }
 {

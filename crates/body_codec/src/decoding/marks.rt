@@ -9,18 +9,21 @@ use il_lists::Items;
 use opcode_table::Op;
 use std::alloc::Global;
 
-/// Where an instruction stands in the code, in bytes.
+/// Where an instruction stands in the code, in bytes (ECMA-335 III.1.2, III.1.9).
 #[derive(Clone, Copy)]
-pub(crate) struct Mark {
+pub struct Mark {
+    /// Its opcode.
     pub op: Op,
+    /// Where it begins.
     pub start: u32,
     /// Where its operand begins.
     pub operand: u32,
+    /// Where it ends.
     pub end: u32,
 }
 
 /// Where instructions stand, in order.
-pub(crate) type Marks = Items<Mark>;
+pub type Marks = Items<Mark>;
 
 /// Where the instructions of the code stand, or the first that isn't known or is cut.
 pub(crate) fn read_marks(alloc: Global, code: &[u8]) -> Result<Marks, BodyFault>

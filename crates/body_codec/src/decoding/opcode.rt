@@ -5,7 +5,7 @@ ghost use Rattle.opcode_table.specs.declared.kind.OperandKind.TheVariants as kin
 ghost use Rattle.body_codec.specs.Instruction.{opcode_bytes, kind, operand_size};
 
 use byteorder::{ByteOrder, LittleEndian};
-use opcode_table::{Op, OperandKind, kind_of, op_of_bytes};
+use opcode_table::{Op, OperandKind, kind_of, op_of_bytes, operand_size};
 
 /// What stands behind an opcode.
 #[tactic(auto, unfolding(crate::specs::Instruction::kind))]
@@ -55,19 +55,16 @@ fn long_op(second: u8, rest: &[u8]) -> Option<(Op, usize)>
 }
 
 /// The size of the operand of this kind at the front, in bytes. None where it is cut.
+#[tactic(auto, using(crate::proofs::Widths::fixed_size))]
 pub(crate) fn operand_length(kind: OperandKind, rest: &[u8]) -> Option<usize>
     ensures found { IfSome result (λ n. n ≡ operand_size kind (take n rest.now)) }
     ensures inside { IfSome result (λ n. n ≤ length rest.now) }
     ensures none { IfNone result ((tail more : List ℕ) → rest.now ≡ tail ++ more → length tail ≡ operand_size kind tail → ⊥) }
 {
-    let size = match kind {
-        OperandKind::Nothing => 0,
-        OperandKind::Var8 | OperandKind::Num8 | OperandKind::Byte | OperandKind::Branch8 => 1,
-        OperandKind::Var16 => 2,
-        OperandKind::Num64 | OperandKind::Real8 => 8,
-        OperandKind::Switch => return switch_length(rest),
-        _ => 4,
-    };
+    if kind == OperandKind::Switch {
+        return switch_length(rest);
+    }
+    let size = operand_size(kind);
     if size <= rest.len() { Some(size) } else { None }
 }
 

@@ -12,21 +12,25 @@ use crate::BodyFault;
 use il_lists::Numbers;
 use std::alloc::Global;
 
-/// A body up to the names of its tokens.
+/// A body up to the names of its tokens: what its bytes say by themselves.
 #[derive(Drop)]
-pub(crate) struct Outline {
+pub struct Outline {
+    /// Where its instructions stand, in order.
     pub marks: Marks,
     /// For each offset of the code the number of the instruction that begins there.
     pub starts: Numbers,
+    /// Its exception clauses.
     pub clauses: Clauses,
 }
 
-/// The outline of the body with this header, or its first fault.
-pub(crate) fn read_outline(
-    alloc: Global,
-    bytes: &[u8],
-    header: &Header,
-) -> Result<Outline, BodyFault>
+/// The outline of the body with this header (ECMA-335 II.25.4).
+///
+/// # Errors
+///
+/// The first of these that stands: `Opcode` and `Cut` at the first instruction that isn't known or is cut; `Target` at the
+/// first instruction with a target that is no instruction's start; `Range` at the first clause that is wrong, that a section
+/// should hold that can't be read, or that is one too many. `NoMemory` where there is none.
+pub fn read_outline(alloc: Global, bytes: &[u8], header: &Header) -> Result<Outline, BodyFault>
     requires { IsHeader bytes.now header.now }
     ensures found { IfOk result (HasOutline bytes.now) }
     ensures fault { IfErr result (IsOutlineFault bytes.now) }

@@ -17,21 +17,31 @@ const MAX_CLAUSES: usize = 65_535;
 
 /// An exception clause as it stands, in offsets of the code (ECMA-335 II.25.4.6).
 #[derive(Clone, Copy)]
-pub(crate) struct ClauseRow {
+pub struct ClauseRow {
+    /// 0 catch, 1 filter, 2 finally, 4 fault.
     pub kind: u32,
+    /// Where the protected block begins.
     pub try_offset: u32,
+    /// How many bytes it has.
     pub try_length: u32,
+    /// Where the handler begins.
     pub handler_offset: u32,
+    /// How many bytes it has.
     pub handler_length: u32,
+    /// The token of the class that is caught, or where the filter begins.
     pub class_or_filter: u32,
 }
 
 /// Its ranges in instruction numbers, the ends not included.
 #[derive(Clone, Copy)]
-pub(crate) struct Region {
+pub struct Region {
+    /// Where the protected block begins.
     pub try_start: u32,
+    /// Where it ends.
     pub try_end: u32,
+    /// Where the handler begins.
     pub handler_start: u32,
+    /// Where it ends.
     pub handler_end: u32,
     /// Where its filter begins, if it has one.
     pub filter: u32,
@@ -39,8 +49,10 @@ pub(crate) struct Region {
 
 /// A clause with its ranges.
 #[derive(Clone, Copy)]
-pub(crate) struct Found {
+pub struct Found {
+    /// As it stands.
     pub row: ClauseRow,
+    /// Its ranges.
     pub region: Region,
 }
 
@@ -56,8 +68,10 @@ struct Section {
 
 /// The clauses of a body, and where it ends.
 #[derive(Drop)]
-pub(crate) struct Clauses {
+pub struct Clauses {
+    /// The clauses of all sections, in order.
     pub found: Items<Found>,
+    /// How many bytes the body has, from its header on.
     pub end: usize,
 }
 

@@ -3,7 +3,7 @@ ghost use Rattle.std.specs.List.{All};
 ghost use Rattle.assembly_tree.specs.declared.body.ClauseKind.TheVariants as handled;
 ghost use Rattle.body_codec.specs.Written.{AreRangesWithin, class_or_filter, kind_number, row_of, token_map};
 
-use crate::decoding::sections::ClauseRow;
+use crate::ClauseRow;
 use assembly_tree::{Clause, ClauseKind};
 use il_lists::{Items, NoMemory};
 use sig_codec::Numberer;

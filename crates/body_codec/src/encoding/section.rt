@@ -2,7 +2,7 @@ ghost use Rattle.std.specs.Prelude.{◌≡◌, ◌<◌, ◌++◌, ◌^◌, true,
 ghost use Rattle.std.specs.List.{flat_map, list_all};
 ghost use Rattle.body_codec.specs.Written.{all_small, fat_bytes, padding, section_bytes, serves_small, small_bytes, tail_bytes};
 
-use crate::decoding::sections::ClauseRow;
+use crate::ClauseRow;
 use crate::encoding::number::push_number;
 use il_lists::{Bytes, NoMemory};
 

@@ -3,7 +3,7 @@ ghost use Rattle.body_codec.specs.Chains.{IsFirstWith};
 ghost use Rattle.body_codec.specs.Encoding.{FitsBytes};
 ghost use Rattle.body_codec.specs.Instruction.{operand_size};
 
-use opcode_table::OperandKind;
+use opcode_table::{OperandKind, operand_size};
 
 /// A place in the code for a displacement (ECMA-335 III.1.7.2).
 #[derive(Clone, Copy, Drop)]
@@ -54,19 +54,5 @@ pub(crate) fn width(kind: OperandKind) -> usize
     ensures size { result ≡ operand_size kind [] }
     ensures small { result < 9 }
 {
-    match kind {
-        OperandKind::Nothing => 0,
-        OperandKind::Var8 | OperandKind::Num8 | OperandKind::Byte | OperandKind::Branch8 => 1,
-        OperandKind::Var16 => 2,
-        OperandKind::Num64 | OperandKind::Real8 => 8,
-        OperandKind::Num32
-        | OperandKind::Real4
-        | OperandKind::Branch32
-        | OperandKind::Switch
-        | OperandKind::Method
-        | OperandKind::Field
-        | OperandKind::Of
-        | OperandKind::Text
-        | OperandKind::Token => 4,
-    }
+    operand_size(kind)
 }

@@ -149,18 +149,21 @@ module _ (read : AllReread) (law : IndexesFit) (a : Assembly) (classes : List Cl
           let t = readable.members.member_methods (row - 1) cells m.sig at signature in
           subst (λ n. MemberHasMethod image names n m.sig) same (b.0, b.1, (b.2, t.0, t.1))
 
-  instance_meets : (row : ℕ) → HasRow image 0x2B row → (args : List SigType) × InstanceHas image names row args × All HasRanks args × NamesSignature image names (instance_method image row)
+  instance_meets : (row : ℕ) → HasRow image 0x2B row → (args : List SigType) × InstanceHas image names row args × All HasRanks args
   instance_meets row there =
-      by_item image (λ n. (args : List SigType) × InstanceHas image names n args × All HasRanks args × NamesSignature image names (instance_method image n)) 0x2B row r.referred.instances
-      rows.references.instances.count there
+      by_item image (λ n. (args : List SigType) × InstanceHas image names n args × All HasRanks args) 0x2B row
+      r.referred.instances rows.references.instances.count there
       (λ k cells at.
       let h : IsBoundedInstance r cells = bounded.instances k cells at in
-      let coded : instance_method image (1 + k) ≡ index_of_token MethodDefOrRef h.generic = ap (λ (cs : List ℕ). slice_index cs 0) (rows.references.instances.each k cells at) ∙ h.first_is in (
-        h.arguments,
-        instance_has read a classes r tables code image w rows names back.owners readable bounded k cells at,
-        h.ranks,
-        subst (NamesSignature image names) (sym coded) (generic_signature h.method h.generic h.generic_is),
-      ))
+      (h.arguments, instance_has read a classes r tables code image w rows names back.owners readable bounded k cells at, h.ranks))
+
+  instance_names : (row : ℕ) → HasRow image 0x2B row → NamesSignature image names (instance_method image row)
+  instance_names row there =
+      by_item image (λ n. NamesSignature image names (instance_method image n)) 0x2B row r.referred.instances rows.references.instances.count there
+      (λ k cells at.
+      let h : IsBoundedInstance r cells = bounded.instances k cells at in
+      let coded : instance_method image (1 + k) ≡ index_of_token MethodDefOrRef h.generic = ap (λ (cs : List ℕ). slice_index cs 0) (rows.references.instances.each k cells at) ∙ h.first_is in
+      subst (NamesSignature image names) (sym coded) (generic_signature h.method h.generic h.generic_is))
 
   -- ---- overrides
 
@@ -204,4 +207,5 @@ module _ (read : AllReread) (law : IndexesFit) (a : Assembly) (classes : List Cl
     override = λ is there. override_meets row there;
     type = λ is used. spec_meets row (used_row used);
     instance = λ is used. instance_meets row (used_row used);
+    instance_of = λ is there. instance_names row there;
   }

@@ -20,8 +20,9 @@ use Rattle.image_rows.specs.Lists.{Owned, longest_of, attribute_lists, attribute
 use Rattle.image_rows.specs.MapRows.{event_count, property_count}
 use Rattle.image_rows.specs.declared.classes.Class.{Class}
 use Rattle.image_model.specs.Columns.{attribute_parent, generic_owner, interface_class, property_map_parent, event_map_parent, nested_class, enclosing_class}
+use Rattle.image_model.specs.Rows as model
 use Rattle.image_model.specs.Rows.{rows_with}
-use Rattle.image_model.specs.Structure.{IsModuleType, HasManifest}
+use Rattle.image_model.specs.Structure.{IsModuleType, HasManifest, HasNoneInModule}
 use Rattle.laws_image_parts.specs.AtRows.{IsItem}
 use Rattle.laws_image_parts.specs.RowCells.{attribute_cells, generic_cells, interface_cells, property_map_cells, event_map_cells, nested_cells}
 use Rattle.laws_image_parts.specs.RowsRead.{IsMade, row_itself, ReadsRows}
@@ -32,7 +33,7 @@ use Rattle.laws_image_parts.specs.names.Paths.{PathsRead}
 use Rattle.laws_image_reading.proofs.order.ItemRising.{anything, never, cell_at, interfaces_rise, nested_rise}
 use Rattle.laws_image_reading.proofs.order.MapPairs.{map_pairs, pair_cells, type_in, reads_pairs, pairs_rise}
 use Rattle.laws_image_reading.proofs.order.Nesting.{nested_item, enclosers_are}
-use Rattle.laws_image_reading.proofs.order.RowOrder.{item_of, none_below, no_rows_with}
+use Rattle.laws_image_reading.proofs.order.RowOrder.{item_of, none_below, not_below, no_rows_with}
 
 -- nothing stands beside nothing
 none_beside : {X : Type 0} (P : ℕ → X → Type 0) (rows : List ℕ) (xs : List X) → xs ≡ [] → AllZip P rows xs → rows ≡ []
@@ -90,19 +91,19 @@ module _ (a : Assembly) (classes : List Class) (r : References) (code image : Li
       none_below 0x09 interface_cells (IsMade row_itself) (joined groups) image h.types.interfaces.are (cell_at 0) anything 2 (interfaces_rise r 2 classes groups h.types.interfaces.each) interface_class
       (λ row cells is. ap (cell_at 0) is) 1 (omega arith)
 
-  no_properties : rows_with image 0x15 property_map_parent 1 ≡ []
-  no_properties =
+  no_properties : HasNoneInModule image 0x15 property_map_parent model.properties_in
+  no_properties map there e =
       let all = length (properties_in classes) in
-      none_below 0x15 property_map_cells (IsMade (pair_cells all)) (map_pairs property_count 2 1 classes) image
+      absurd (not_below 0x15 property_map_cells (IsMade (pair_cells all)) (map_pairs property_count 2 1 classes) image
       (reads_pairs 0x15 property_map_cells property_count all classes image h.types.property_map) type_in never 2 (pairs_rise property_count 2 1 classes) property_map_parent
-      (λ row p is. ap (cell_at 0) is) 1 (omega arith)
+      (λ row p is. ap (cell_at 0) is) 1 (omega arith) map there e)
 
-  no_events : rows_with image 0x12 event_map_parent 1 ≡ []
-  no_events =
+  no_events : HasNoneInModule image 0x12 event_map_parent model.events_in
+  no_events map there e =
       let all = length (events_in classes) in
-      none_below 0x12 event_map_cells (IsMade (pair_cells all)) (map_pairs event_count 2 1 classes) image
+      absurd (not_below 0x12 event_map_cells (IsMade (pair_cells all)) (map_pairs event_count 2 1 classes) image
       (reads_pairs 0x12 event_map_cells event_count all classes image h.types.event_map) type_in never 2 (pairs_rise event_count 2 1 classes) event_map_parent
-      (λ row p is. ap (cell_at 0) is) 1 (omega arith)
+      (λ row p is. ap (cell_at 0) is) 1 (omega arith) map there e)
 
   not_nested : rows_with image 0x29 nested_class 1 ≡ []
   not_nested =

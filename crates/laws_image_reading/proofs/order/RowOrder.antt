@@ -61,11 +61,17 @@ module _ {X : Type 0} (table : ℕ) (cells : List ℕ → ℕ → List ℕ) (IsR
       }
 
   -- where items rise from a number on, no row has a lower one
+  pub not_below : (key : X → ℕ) (Q : X → X → Type 0) (low : ℕ) → Rise key Q low items → (column : List ℕ → ℕ → ℕ) → ((row : ℕ) (x : X) → IsRow (cells image row) x → column image row ≡ key x)
+      → (v : ℕ) → v < low → (row : ℕ) → HasRow image table row → column image row ≡ v → ⊥
+  not_below key Q low rise column is v less row there e =
+      let one = item_of row there in
+      let high = rise_low key Q low items (row - 1) one.0 rise one.1 in
+      let same = is row one.0 one.2 in
+      omega arith
+
   pub none_below : (key : X → ℕ) (Q : X → X → Type 0) (low : ℕ) → Rise key Q low items → (column : List ℕ → ℕ → ℕ) → ((row : ℕ) (x : X) → IsRow (cells image row) x → column image row ≡ key x)
       → (v : ℕ) → v < low → rows_with image table column v ≡ []
-  none_below key Q low rise column is v less =
-      no_rows_with image table column v
-      (λ row there e. let one = item_of row there in let high = rise_low key Q low items (row - 1) one.0 rise one.1 in let same = is row one.0 one.2 in omega arith)
+  none_below key Q low rise column is v less = no_rows_with image table column v (not_below key Q low rise column is v less)
 
 -- ---- columns
 

@@ -1,5 +1,5 @@
 use Rattle.std.proofs.Common.{◌≡◌, take, fold}
-use Rattle.image_tokens.specs.Hashing.{mix_doubled}
+use Rattle.type_terms.specs.Hashing.{mix_doubled}
 use Rattle.image_tokens.proofs.hashing.mix_units.Given as goal
 
 abbrev pub invariant-loop-unit : goal.invariant-loop-unit

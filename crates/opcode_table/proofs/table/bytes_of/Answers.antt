@@ -1,4 +1,4 @@
-use Rattle.std.proofs.Common.{◌≡◌, ℕ, List, get_or, map, sym, ap, refl, ◌∙◌}
+use Rattle.std.proofs.Common.{ℕ, List, get_or, map, ap, ◌∙◌}
 use Rattle.std.proofs.Math.ListN.{get_or-map, get_or-append}
 use Rattle.opcode_table.specs.declared.op.Op.{Op}
 use Rattle.opcode_table.specs.declared.table.Opcode.{Opcode}

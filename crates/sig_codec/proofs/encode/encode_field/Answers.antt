@@ -1,6 +1,4 @@
-use Rattle.std.proofs.Common.{◌≡◌, ◌∙◌, ◌∷◌, ◌++◌, ap, sym, subst, List, ℕ}
-use Rattle.il_base.specs.Numbers.{packed_bytes}
-use Rattle.sig_codec.specs.Spelling.{writing, Notation}
+use Rattle.sig_codec.specs.Spelling.{writing}
 use Rattle.sig_codec.proofs.Written.{begun, chain_1}
 use Rattle.sig_codec.proofs.encode.encode_field.Goals as goal
 

@@ -1,7 +1,7 @@
-use Rattle.std.proofs.Common.{◌≡◌, ◌∙◌, ◌∷◌, ◌++◌, ap, sym, subst, List, ℕ}
+use Rattle.std.proofs.Common.{subst, List, ℕ}
 use Rattle.il_base.specs.Numbers.{packed_bytes}
 use Rattle.type_terms.specs.declared.term.SigType.{SigType}
-use Rattle.sig_codec.specs.Spelling.{writing, Notation, SpellsEach}
+use Rattle.sig_codec.specs.Spelling.{writing, SpellsEach}
 use Rattle.sig_codec.proofs.Written.{begun, chain_2}
 use Rattle.sig_codec.proofs.encode.encode_instantiation.Goals as goal
 

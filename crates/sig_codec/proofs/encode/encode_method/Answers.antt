@@ -1,7 +1,6 @@
-use Rattle.std.proofs.Common.{◌≡◌, ◌∙◌, ◌∷◌, ◌++◌, ap, sym, subst, List, ℕ}
+use Rattle.std.proofs.Common.{◌≡◌, ◌∷◌, ◌++◌, subst, ℕ}
 use Rattle.il_base.specs.Numbers.{packed_bytes}
-use Rattle.sig_codec.specs.Spelling.{writing, Notation}
-use Rattle.sig_codec.specs.Signature.{method_byte}
+use Rattle.sig_codec.specs.Spelling.{writing}
 use Rattle.sig_codec.proofs.Written.{begun, chain_4}
 use Rattle.sig_codec.proofs.encode.encode_method.Goals as goal
 

@@ -1,6 +1,5 @@
-use Rattle.std.proofs.Common.{◌≡◌, ◌∙◌, ◌∷◌, ◌++◌, ap, sym, subst, List, ℕ}
-use Rattle.il_base.specs.Numbers.{packed_bytes}
-use Rattle.sig_codec.specs.Spelling.{writing, Notation}
+use Rattle.std.proofs.Common.{◌∙◌, ◌++◌, ap, sym, subst, List, ℕ}
+use Rattle.sig_codec.specs.Spelling.{writing}
 use Rattle.sig_codec.specs.Spelling.{SpellsType}
 use Rattle.sig_codec.proofs.encode.encode_type.Goals as goal
 

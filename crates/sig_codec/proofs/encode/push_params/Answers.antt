@@ -1,4 +1,4 @@
-use Rattle.std.proofs.Common.{◌≡◌, ◌∙◌, ap, sym, subst, List, take, drop}
+use Rattle.std.proofs.Common.{◌∙◌, ap, sym, subst, List, take, drop}
 use Rattle.type_terms.specs.declared.term.SigType.{SigType}
 use Rattle.sig_codec.specs.Spellable.{HaveSpellings}
 use Rattle.sig_codec.proofs.Written.{take_spellings, drop_spellings}

@@ -1,8 +1,8 @@
-use Rattle.std.proofs.Common.{◌≡◌, ℕ, ◌+◌, ◌-◌, ◌∙◌, sym, arith, map, max}
+use Rattle.std.proofs.Common.{◌≡◌, ◌+◌, ◌-◌, ◌∙◌, map, max}
 use Rattle.type_terms.specs.Depth.{depth, owner_depth, largest}
 use Rattle.type_terms.specs.Nodes.{nodes, owner_nodes, total}
 use Rattle.sig_codec.proofs.Budget.{after_more, after_both}
-use Rattle.sig_codec.proofs.Layers.{depth-Inst, nodes-Inst, depth-SzArray, nodes-SzArray, depth-Mod, nodes-Mod, IsRound, IsRound-from}
+use Rattle.sig_codec.proofs.Layers.{depth-Inst, nodes-Inst, depth-Mod, nodes-Mod, IsRound-from}
 use Rattle.sig_codec.proofs.measure.+measure.Goals as goal
 
 pub after_type-returns-in-Inst : goal.after_type-returns-in-Inst

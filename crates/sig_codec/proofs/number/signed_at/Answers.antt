@@ -1,5 +1,5 @@
-use Rattle.std.proofs.Common.{◌≡◌, sym, rules, SFits, w32, arith, to_z, of_z}
-use Rattle.std.proofs.lemmas.Int.{ints, to_z-of_z}
+use Rattle.std.proofs.Common.{◌≡◌, sym, rules, SFits, w32, to_z, of_z}
+use Rattle.std.proofs.lemmas.Int.{to_z-of_z}
 use Rattle.sig_codec.proofs.Numbers.{signed_found, signed_lacks, all_behind}
 use Rattle.sig_codec.proofs.number.signed_at.Goals as goal
 

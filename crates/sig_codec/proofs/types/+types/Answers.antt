@@ -1,5 +1,5 @@
-use Rattle.std.proofs.Common.{◌≡◌, ◌++◌, ◌∷◌, [], Some, rules}
-use Rattle.sig_codec.specs.Reading.{type_at, types_at, Gives}
+use Rattle.std.proofs.Common.{rules}
+use Rattle.sig_codec.specs.Reading.{type_at, types_at}
 use Rattle.sig_codec.proofs.Loop.{types_go_on}
 use Rattle.sig_codec.proofs.Steps.{nothing_left, first_step}
 use Rattle.sig_codec.proofs.types.+types.Goals as goal

@@ -1,4 +1,4 @@
-use Rattle.std.proofs.Common.{◌≡◌, ◌∷◌, ◌+◌, drop, get_or, pos, arith, length}
+use Rattle.std.proofs.Common.{◌≡◌, ◌∷◌, ◌+◌, drop, get_or, arith}
 use Rattle.std.proofs.lemmas.List.{drop_more}
 use Rattle.il_base.specs.Numbers.{Packed, packed_bytes}
 use Rattle.sig_codec.specs.Spelling.{writing}

@@ -1,4 +1,4 @@
-use Rattle.std.proofs.Common.{◌≡◌, ◌++◌, length, List, ℕ}
+use Rattle.std.proofs.Common.{◌++◌, length, List, ℕ}
 use Rattle.il_base.specs.Numbers.{packed_bytes}
 use Rattle.sig_codec.specs.Spelling.{writing, SpellsShape, SpellsEachBy}
 use Rattle.sig_codec.proofs.Written.{then_more, two_added, shape_written}

@@ -1,18 +1,16 @@
-use Rattle.std.proofs.Common.{◌≡◌, ℕ, ◌+◌, ◌^◌, ◌<◌, Bool, true, false, cond, List, [], ◌∷◌, ◌++◌, ◌*◌, max, inl, inr, length, map, drop, refl, sym, ap, subst, ◌∙◌, append_assoc, rules, arith, OnOk}
-use Rattle.std.proofs.lemmas.Grind.{common_steps}
+use Rattle.std.proofs.Common.{◌≡◌, ℕ, ◌+◌, ◌^◌, ◌<◌, List, [], ◌∷◌, ◌++◌, ◌*◌, max, inl, inr, length, map, drop, refl, sym, ap, subst, ◌∙◌, rules, arith}
 use Rattle.std.proofs.lemmas.List.{append-nil}
 use Rattle.il_base.specs.Numbers.{packed_bytes}
 use Rattle.type_terms.specs.declared.term.Owner.TheOpen as layer
 use Rattle.std.proofs.lemmas.List.{drop_more}
-use Rattle.type_terms.specs.declared.term.Owner.{Owner, Name}
+use Rattle.type_terms.specs.declared.term.Owner.{Owner}
 use Rattle.type_terms.specs.Depth.{depth, owner_depth, largest}
-use Rattle.sig_codec.proofs.Layers.{IsRound, IsRound-from, depth-Inst, depth-Mod}
+use Rattle.sig_codec.proofs.Layers.{IsRound-from, depth-Inst, depth-Mod}
 use Rattle.type_terms.specs.declared.term.SigType.{SigType}
 use Rattle.type_terms.specs.declared.term.SigType.TheVariants as type
 use Rattle.sig_codec.specs.Spelling.{writing, prim_byte, kind_byte, modifier_byte, SpellsType, SpellsEach, SpellsName, SpellsOwner, SpellsShape}
 use Rattle.sig_codec.specs.Spelling as spelling
 use Rattle.sig_codec.specs.Spellable.{HasToken, HasSpelling, HaveSpellings}
-use Rattle.sig_codec.specs.Writing.{Appends}
 use Rattle.sig_codec.proofs.Written.{then_more, then_bytes, two_added, written, parts_at, of_class, of_value, of_var, of_mvar, of_sz_array, of_by_ref, of_pointer, of_pinned, of_array, of_modified, of_inst, type_at_place, each_at_place, four_added, inst_written, shape_of, array_is, item_depth, each_done}
 use Rattle.sig_codec.proofs.write_type.+writing.Goals as goal
 

@@ -1,5 +1,5 @@
 use Rattle.std.proofs.Common.{◌≡◌, take}
-use Rattle.image_tokens.proofs.equality.is_path.Given as goal
+use Rattle.type_terms.proofs.equality.is_same_path.Given as goal
 
 abbrev pub invariant-loop-k : goal.invariant-loop-k
 invariant-loop-k l = take l.k l.a ≡ take l.k l.b
