@@ -1,3 +1,4 @@
+pub mod Faulted
 pub mod Holding
 pub mod Indexed
 pub mod ModuleParts

@@ -16,12 +16,12 @@ use text_places::TextPlaces;
 /// Entries lie in their heaps (I9): a text ends and is UTF-8, and isn't empty where it is needed; a blob and an identifier are
 /// whole.
 #[derive(Drop)]
-pub struct Entries<'i, 'a> {
+pub struct Entries<'i, 't, 'a> {
     image: &'i Image<'a>,
-    texts: &'i TextPlaces<'a>,
+    texts: &'t TextPlaces<'a>,
 }
 
-impl<'i, 'a> Model for Entries<'i, 'a> {
+impl<'i, 't, 'a> Model for Entries<'i, 't, 'a> {
     ghost use Rattle.std.specs.Prelude.{◌≡◌, ℕ, List};
     ghost use Rattle.image_model.specs.Streams.{strings_of};
 
@@ -32,9 +32,9 @@ impl<'i, 'a> Model for Entries<'i, 'a> {
     ghost invariant = { λ it. it.texts.now ≡ strings_of it.image.now };
 }
 
-impl<'i, 'a> Entries<'i, 'a> {
+impl<'i, 't, 'a> Entries<'i, 't, 'a> {
     /// The demand on an image, by the places of its texts.
-    pub fn new(image: &'i Image<'a>, texts: &'i TextPlaces<'a>) -> Entries<'i, 'a>
+    pub fn new(image: &'i Image<'a>, texts: &'t TextPlaces<'a>) -> Entries<'i, 't, 'a>
         requires { texts.now ≡ strings_of image.now }
         ensures { result ≡ image.now }
     {
@@ -91,7 +91,7 @@ fn is_empty_at(heap: &[u8], at: u32) -> bool
     at < heap.len() && heap[at] == 0
 }
 
-impl<'i, 'a> Demand for Entries<'i, 'a> {
+impl<'i, 't, 'a> Demand for Entries<'i, 't, 'a> {
     ghost use Rattle.image_model.specs.Rows.{count_of, HasRow};
     ghost use Rattle.image_model.specs.Cells.{HasEntries};
 
