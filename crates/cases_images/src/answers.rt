@@ -1,0 +1,45 @@
+//! What is printed of an image.
+
+ghost use Rattle.std.specs.Prelude.{◌≤◌, length};
+
+use crate::fault::Fault;
+use image_model::{Place, demand_text};
+use image_streams::{Unmet, open};
+use row_demands::first_unmet;
+
+/// Prints the first demand that an image fails, or that there is none among I1 to I12.
+pub fn show(rt: &HostRuntime, name: &str, image: &[u8]) -> Result<(), Fault> {
+    match first_fault(rt, image)? {
+        Some(unmet) => show_fault(rt, name, &unmet),
+        None => Ok(println!(rt; "{name}: meets I1 to I12")?),
+    }
+}
+
+fn first_fault(rt: &HostRuntime, image: &[u8]) -> Result<Option<Unmet>, Fault> {
+    match open(image) {
+        Ok(image) => Ok(first_unmet(rt.alloc(), &image)?),
+        Err(unmet) => Ok(Some(unmet)),
+    }
+}
+
+fn show_fault(rt: &HostRuntime, name: &str, unmet: &Unmet) -> Result<(), Fault> {
+    let rule = unmet.rule;
+    let text = text_of(rule);
+    match unmet.at {
+        Place::Byte(at) => println!(rt; "{name}: I{rule} at byte {at}: {text}")?,
+        Place::Row { table, row } => {
+            println!(rt; "{name}: I{rule} at table {table:02X} row {row}: {text}")?
+        }
+        Place::Whole => println!(rt; "{name}: I{rule} at the whole: {text}")?,
+    }
+    Ok(())
+}
+
+/// The text of a demand; empty for a number that is none.
+fn text_of(rule: u8) -> &'static str {
+    if (1..=24).contains(&rule) {
+        demand_text(rule)
+    } else {
+        ""
+    }
+}

@@ -1,0 +1,9 @@
+use Rattle.std.proofs.Common.{◌<◌, ℕ}
+use Rattle.metadata_tables.specs.Stream.{column_of, cell}
+use Rattle.image_model.specs.Streams.{tables_of}
+use Rattle.image_model.specs.Cells.{IsEntry}
+use Rattle.row_demands.proofs.entries.Entries.have_entries.Given as goal
+
+abbrev pub invariant-loop-number : goal.invariant-loop-number
+invariant-loop-number l =
+    (column : ℕ) → column < l.number → IsEntry l.self (column_of l.table column) (cell (tables_of l.self) l.table l.row column)

@@ -1,0 +1,5 @@
+use Rattle.row_demands.proofs.Tables.{law_at}
+use Rattle.row_demands.proofs.order.OrderDemand.others_meet.Goals as goal
+
+pub returns : goal.returns
+returns c table row past more there = absurd (law_at c.self.inside.image.now c.args.self.now c.self.view_is c.rows_stand_in_tables.ensures table row past there)
