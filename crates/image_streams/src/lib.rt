@@ -2,7 +2,7 @@
 #![tactic(auto)]
 
 mod cli;
-mod heaps;
+mod named;
 mod number;
 mod opened;
 mod root;

@@ -5,7 +5,7 @@ ghost use Rattle.image_model.specs.Faults.{HasTables, IsImageFault};
 ghost use Rattle.image_model.specs.Streams.{tables_of, strings_of, user_of, guids_of, blobs_of};
 
 use crate::cli::{entry_token, has_cli_header};
-use crate::heaps::{Streams, streams_of};
+use crate::named::{Streams, streams_of};
 use image_model::Place;
 use metadata_tables::TableView;
 use pe_layout::{PeFault, PeView};

@@ -4,7 +4,7 @@ use Rattle.pe_layout.specs.Fields.{u32_at}
 use Rattle.pe_layout.specs.CliHeader.{metadata_of, metadata_size_of}
 use Rattle.image_streams.specs.Walks.{LieInside, StandOnce}
 use Rattle.image_streams.proofs.Roots.{lie_in_root, stand_in_root, root_of_parts, if_some}
-use Rattle.image_streams.proofs.heaps.streams_of.Goals as goal
+use Rattle.image_streams.proofs.named.streams_of.Goals as goal
 
 pub u32_at-requires : goal.u32_at-requires
 u32_at-requires c = let l = c.lie_inside.ensures.long c.if-not-lie_inside.false in omega arith
