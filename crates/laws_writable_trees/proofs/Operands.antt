@@ -10,7 +10,8 @@ use Rattle.opcode_table.specs.declared.kind.OperandKind.TheVariants as kinds
 use Rattle.opcode_table.specs.declared.op.Op.{Op}
 use Rattle.assembly_tree.specs.declared.body.Ins.{Ins}
 use Rattle.assembly_tree.specs.declared.body.Operand as operand
-use Rattle.assembly_tree.specs.WellFormedBodies.{operand_kind, fits_kind, are_targets, is_instruction, bytes_in, opcode_size}
+use Rattle.opcode_table.specs.Sizes.{bytes_in, opcode_size}
+use Rattle.assembly_tree.specs.WellFormedBodies.{operand_kind, fits_kind, are_targets, is_instruction}
 use Rattle.assembly_tree.specs.WellFormedBodies as tree
 use Rattle.assembly_tree.specs.Weight.{instruction_weight, operand_weight}
 use Rattle.body_codec.specs.Encoding.{FitsBytes, OperandFits, size_of, ins_size}

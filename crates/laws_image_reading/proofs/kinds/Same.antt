@@ -7,13 +7,14 @@ use Rattle.std.specs.List.{AllZip, list_any}
 use Rattle.std.specs.Ordering.{is_eq}
 use Rattle.std.proofs.lemmas.Bool.{and_from, and_parts, eq-eqb, not-true, or_parts}
 use lib.Pointwise.{pointwise}
-use Rattle.assembly_tree.specs.WellFormedMembers.{is_same_text, is_same_type, is_same_sentinel, is_same_signature, is_same_field, is_same_method, is_same_property, is_same_event}
+use Rattle.assembly_tree.specs.WellFormedMembers.{is_same_text, is_same_field, is_same_method, is_same_property, is_same_event}
 use Rattle.assembly_tree.specs.WellFormedNames.{all_differ}
 use Rattle.assembly_tree.specs.declared.members.Event.{Event}
 use Rattle.assembly_tree.specs.declared.members.Field.{Field}
 use Rattle.assembly_tree.specs.declared.members.Method.{Method}
 use Rattle.assembly_tree.specs.declared.members.Property.{Property}
 use Rattle.type_terms.specs.Order.{term_order}
+use Rattle.type_terms.specs.Same.{is_same_type, is_same_sentinel, is_same_signature}
 use Rattle.type_terms.specs.declared.reference.MethodSig.{MethodSig}
 use Rattle.type_terms.specs.declared.term.SigType.{SigType}
 use Rattle.laws_image_reading.proofs.kinds.General.{beside, one_at, place_of}
