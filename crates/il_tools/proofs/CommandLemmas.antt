@@ -110,6 +110,17 @@ module _ (command : Command) (file : List ℕ) (kind : Kind) (output : List ℕ)
   pub plan_merits : (d lent : List ℕ) (e : Ending) → lent ≡ get_or given 0 d → ((m : ℕ) → MeritsImage lent m → e.number ≡ m) → (m : ℕ) → MeritsOf command given m → e.number ≡ m
   plan_merits d lent e same only m merits = only m (merits_image lent m (source_alone d lent same) merits)
 
+-- a command that reads has something given
+pub some_given : (command : Command) (given : List (List ℕ)) → AreWithin (inputs_of command) given → 0 < length given
+some_given (Ilasm file kind output) given within = there_is (Ilasm file kind output) file kind output given refl within
+
+pub given_within : (command : Command) (given : List (List ℕ)) → AreWithin (inputs_of command) given → (d lent : List ℕ) → lent ≡ get_or given 0 d → length lent ≤ 2 ^ 27
+given_within (Ilasm file kind output) given within = source_within (Ilasm file kind output) file kind output given refl within
+
+pub given_merits : (command : Command) (given : List (List ℕ)) → AreWithin (inputs_of command) given → (d lent : List ℕ) (e : Ending) → lent ≡ get_or given 0 d
+    → ((m : ℕ) → MeritsImage lent m → e.number ≡ m) → (m : ℕ) → MeritsOf command given m → e.number ≡ m
+given_merits (Ilasm file kind output) given within = plan_merits (Ilasm file kind output) file kind output given refl within
+
 -- ---- plans
 
 module _ (command : Command) (tells : Bool) (files : Files) (reads reads_now : ℕ) (inputs lent : List Input) (are : inputs ≡ inputs_of command) (lent-are : lent ≡ inputs) where
