@@ -21,7 +21,6 @@ use Rattle.source_assembly.specs.Laws.{OneReading}
 use Rattle.source_assembly.specs.Reading.{IsAssemblyOf}
 use Rattle.il_tools.specs.Assembled.{IsContentFault, IsImageOf}
 use Rattle.il_tools.specs.Commands.{AreWithin, Gives, GivesImage, MeritsImage, MeritsOf, Ran, an_image, a_fault, fitting, faulty, inputs_of}
-use Rattle.il_tools.specs.Texts.{content_text}
 use Rattle.il_tools.specs.declared.fault.ContentFault.{ContentFault}
 use Rattle.il_tools.specs.declared.fault.ContentFault.TheVariants as content
 

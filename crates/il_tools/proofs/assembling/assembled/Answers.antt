@@ -1,4 +1,3 @@
-use Rattle.std.proofs.Common.{◌≡◌, ℕ}
 use Rattle.il_tools.proofs.CommandLemmas.{due_to_image, image_given}
 use Rattle.il_tools.specs.Commands.{a_fault}
 use Rattle.il_tools.proofs.assembling.assembled.Goals as goal

@@ -1,5 +1,3 @@
-use Rattle.std.proofs.Common.{◌≡◌, ℕ, subst}
-use Rattle.run_endings.specs.Reads.{IsStop}
 use Rattle.il_tools.proofs.CommandLemmas.{plan_reached, plan_too_long, plan_unread, within_so}
 use Rattle.il_tools.proofs.planning.ending_of.Goals as goal
 

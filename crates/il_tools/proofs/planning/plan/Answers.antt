@@ -1,4 +1,4 @@
-use Rattle.std.proofs.Common.{◌≡◌, ◌∙◌, ℕ, rules}
+use Rattle.std.proofs.Common.{◌∙◌, rules}
 use Rattle.il_tools.proofs.CommandLemmas.{given_merits, given_within, plan_gives, some_given}
 use Rattle.il_tools.proofs.planning.plan.Goals as goal
 

@@ -1,4 +1,4 @@
-use Rattle.std.proofs.Common.{◌≡◌, ℕ, refl}
+use Rattle.std.proofs.Common.{refl}
 use Rattle.il_tools.proofs.CommandLemmas.{ran_by, ran_lacking}
 use Rattle.il_tools.proofs.top.run_and_keep.Goals as goal
 
