@@ -21,7 +21,6 @@ use Rattle.source_assembly.specs.Laws.{OneReading}
 use Rattle.source_assembly.specs.Reading.{IsAssemblyOf}
 use Rattle.il_tools.specs.Assembled.{IsContentFault, IsImageOf}
 use Rattle.il_tools.specs.Commands.{AreWithin, Gives, GivesImage, MeritsImage, MeritsOf, Ran, an_image, a_fault, fitting, faulty, inputs_of}
-use Rattle.il_tools.specs.Texts.{content_text}
 use Rattle.il_tools.specs.declared.fault.ContentFault.{ContentFault}
 use Rattle.il_tools.specs.declared.fault.ContentFault.TheVariants as content
 
@@ -109,6 +108,17 @@ module _ (command : Command) (file : List ℕ) (kind : Kind) (output : List ℕ)
 
   pub plan_merits : (d lent : List ℕ) (e : Ending) → lent ≡ get_or given 0 d → ((m : ℕ) → MeritsImage lent m → e.number ≡ m) → (m : ℕ) → MeritsOf command given m → e.number ≡ m
   plan_merits d lent e same only m merits = only m (merits_image lent m (source_alone d lent same) merits)
+
+-- a command that reads has something given
+pub some_given : (command : Command) (given : List (List ℕ)) → AreWithin (inputs_of command) given → 0 < length given
+some_given (Ilasm file kind output) given within = there_is (Ilasm file kind output) file kind output given refl within
+
+pub given_within : (command : Command) (given : List (List ℕ)) → AreWithin (inputs_of command) given → (d lent : List ℕ) → lent ≡ get_or given 0 d → length lent ≤ 2 ^ 27
+given_within (Ilasm file kind output) given within = source_within (Ilasm file kind output) file kind output given refl within
+
+pub given_merits : (command : Command) (given : List (List ℕ)) → AreWithin (inputs_of command) given → (d lent : List ℕ) (e : Ending) → lent ≡ get_or given 0 d
+    → ((m : ℕ) → MeritsImage lent m → e.number ≡ m) → (m : ℕ) → MeritsOf command given m → e.number ≡ m
+given_merits (Ilasm file kind output) given within = plan_merits (Ilasm file kind output) file kind output given refl within
 
 -- ---- plans
 

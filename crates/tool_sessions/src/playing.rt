@@ -93,7 +93,7 @@ fn add_hex(alloc: Global, stores: &mut Stores, digits: &str) -> Result<(), Sessi
         };
         match high {
             Some(above) => {
-                bytes.push(above * 16 + value)?;
+                bytes.push(above.wrapping_mul(16) | value)?;
                 high = None;
             }
             None => high = Some(value),

@@ -1,4 +1,4 @@
-use Rattle.std.proofs.Common.{◌≡◌, ℕ, rules}
+use Rattle.std.proofs.Common.{rules}
 use Rattle.il_tools.proofs.CommandLemmas.{plan_misfit, plan_of_words}
 use Rattle.il_tools.proofs.top.planned.Goals as goal
 

@@ -1,4 +1,4 @@
-use Rattle.std.proofs.Common.{◌≡◌, ℕ, refl}
+use Rattle.std.proofs.Common.{refl}
 use Rattle.il_tools.proofs.CommandLemmas.{ran_by, ran_lacking}
 use Rattle.il_tools.proofs.top.run_and_keep.Goals as goal
 
@@ -9,5 +9,5 @@ returns-in-Ok-clause-ran g c =
     (record { tells = before.same_tells; before = before.same_files; now = refl; writes = before.same_writes; writes_now = refl })
     c.perform.ensures.same_reads c.in-Ok.ensures.planned c.perform.ensures.performed
 
-pub returns-clause-ran : goal.returns-clause-ran
-returns-clause-ran g c = ran_lacking c.args.words.now _ _ (c.planned.ensures.same_files, λ t. (refl, refl))
+pub returns-in-Err-clause-ran : goal.returns-in-Err-clause-ran
+returns-in-Err-clause-ran g c = ran_lacking c.args.words.now _ _ (c.planned.ensures.same_files, λ t. (refl, refl))
