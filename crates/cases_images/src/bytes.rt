@@ -15,7 +15,7 @@ pub fn bytes_of(alloc: Global, text: &str) -> Result<Bytes, Fault> {
         match high {
             None => high = Some(digit),
             Some(first) => {
-                bytes.push((first * 16 + digit) as u8)?;
+                bytes.push((first << 4 | digit) as u8)?;
                 high = None;
             }
         }
