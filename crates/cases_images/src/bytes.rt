@@ -4,18 +4,27 @@ use crate::fault::Fault;
 use il_base::Bytes;
 use std::alloc::Global;
 
+/// The value of a hexadecimal digit.
+fn digit(byte: u8) -> Option<u8> {
+    match byte {
+        b'0'..=b'9' => Some(byte.wrapping_sub(b'0')),
+        b'a'..=b'f' => Some(byte.wrapping_sub(b'a').wrapping_add(10)),
+        _ => None,
+    }
+}
+
 /// The bytes that a line of hexadecimal digits spells.
 pub fn bytes_of(alloc: Global, text: &str) -> Result<Bytes, Fault> {
     let mut bytes = Bytes::new(alloc);
     let mut high = None;
-    for digit in text.chars() {
-        let Some(digit) = digit.to_digit(16) else {
+    for byte in text.as_bytes() {
+        let Some(low) = digit(*byte) else {
             return Err(Fault::Line);
         };
         match high {
-            None => high = Some(digit),
+            None => high = Some(low),
             Some(first) => {
-                bytes.push((first * 16 + digit) as u8)?;
+                bytes.push(first.wrapping_mul(16).wrapping_add(low))?;
                 high = None;
             }
         }
