@@ -84,7 +84,7 @@ fn play_counted(
 /// Adds the bytes that pairs of digits spell.
 fn add_hex(alloc: Global, stores: &mut Stores, digits: &str) -> Result<(), SessionFault> {
     let mut bytes = Bytes::new(alloc);
-    let mut high = None;
+    let mut high: Option<u8> = None;
     for digit in digits.bytes() {
         let value = match digit {
             b'0'..=b'9' => digit - b'0',
