@@ -1,0 +1,15 @@
+pub mod Codes
+pub mod Formed
+pub mod InsForms
+pub mod Joins
+pub mod Kept
+pub mod Lists
+pub mod Moves
+pub mod OperandKinds
+pub mod Ops
+pub mod Pairs
+pub mod Results
+pub mod SameConditions
+pub mod Shrinking
+pub mod Sums
+pub mod Twins
