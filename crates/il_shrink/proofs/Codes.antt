@@ -1,5 +1,5 @@
 -- Code, its forms, and the code of chosen forms.
-use Rattle.std.proofs.Common.{◌≡◌, ◌∙◌, sym, ap, refl, ℕ, zero, suc, ◌+◌, ◌<◌, ◌≤◌, ◌⊎◌, inl, inr, min, ◌&&◌, Bool, true, List, [], ◌∷◌, ◌++◌, length, map, take, get_or, Some, None, IsTrue, arith, add-one}
+use Rattle.std.proofs.Common.{◌≡◌, ◌∙◌, sym, ap, refl, ℕ, zero, suc, ◌+◌, ◌<◌, ◌⊎◌, inl, inr, ◌&&◌, Bool, List, [], ◌∷◌, ◌++◌, length, map, take, get_or, Some, IsTrue, arith}
 use Rattle.std.specs.List.{slice_get, list_all}
 use Rattle.branch_forms.specs.declared.form.Form.{Form}
 use Rattle.branch_forms.specs.declared.form.Form.TheVariants.{Fixed, Short, Long}

@@ -1,13 +1,10 @@
 -- The assembly with shrunk bodies meets the conditions of the one that it comes from.
-use Rattle.std.proofs.Common.{◌≡◌, ◌∙◌, sym, ap, subst, refl, ℕ, zero, suc, ◌==◌, ◌&&◌, ◌||◌, Bool, true, false, not, nat_le, List, [], ◌∷◌, length, Option, None, Some, IsTrue, arith}
+use Rattle.std.proofs.Common.{◌≡◌, ◌∙◌, ap, refl, ℕ, zero, suc, ◌==◌, ◌&&◌, ◌||◌, Bool, true, false, not, nat_le, List, [], ◌∷◌, length, Option, None, Some, IsTrue, arith}
 use Rattle.std.specs.List.{list_all, list_any}
 use Rattle.assembly_tree.specs.declared.assembly.Assembly.{Assembly}
-use Rattle.assembly_tree.specs.declared.assembly.ExternAssembly.{ExternAssembly}
 use Rattle.assembly_tree.specs.declared.assembly.Manifest.{Manifest}
 use Rattle.assembly_tree.specs.declared.body.Body.{Body}
-use Rattle.assembly_tree.specs.declared.members.Event.{Event}
 use Rattle.assembly_tree.specs.declared.members.Method.{Method}
-use Rattle.assembly_tree.specs.declared.members.Property.{Property}
 use Rattle.assembly_tree.specs.declared.typedef.TypeDef.{TypeDef}
 use Rattle.assembly_tree.specs.declared.typedef.TypeDef.TheOpen.{TypeDef-F}
 use Rattle.assembly_tree.specs.declared.typedef.TypeDef.TheViews.{out-TypeDef}
@@ -17,7 +14,7 @@ use Rattle.assembly_tree.specs.WellFormedBodies.{is_body}
 use Rattle.assembly_tree.specs.WellFormedMembers.{is_attribute, is_generic, is_param, is_field, is_method_head, is_method, is_property, is_event, is_same_field, is_same_method, is_same_property, is_same_event}
 use Rattle.assembly_tree.specs.WellFormedNames.{option_all, all_differ}
 use Rattle.assembly_tree.specs.WellFormedTerms.{is_plain_ref}
-use Rattle.assembly_tree.specs.WellFormedTypes.{is_head, are_members, has_accessors_of_property, has_accessors_of_event, has_its_accessors, members_differ, is_own, is_same_id, are_types, entries}
+use Rattle.assembly_tree.specs.WellFormedTypes.{is_head, are_members, has_accessors_of_property, has_accessors_of_event, has_its_accessors, members_differ, is_own, is_same_id, are_types}
 use Rattle.il_shrink.specs.ShrunkAll.{IsShrunkBody, IsShrunkMethod, AreShrunkMethods, IsShrunkOwn, AreShrunkTypes, none, more, IsShrunkAll}
 use Rattle.il_shrink.proofs.Kept.{body_kept}
 use Rattle.il_shrink.proofs.SameConditions as conditions
@@ -133,7 +130,7 @@ same_ids t u v w h g = ap (λ x. is_id x.id (out-TypeDef w).id) h.same ∙ ap (�
 any_id : (t u : TypeDef) → IsShrunkOwn (out-TypeDef t) (out-TypeDef u) → {ts us : List TypeDef} → AreShrunkTypes ts us →
     list_any (is_same_id u) us ≡ list_any (is_same_id t) ts
 any_id t u h none = refl
-any_id t u h (more {v} {w} {ts} {us} own nested rest) =
+any_id t u h (more {t = v} {u = w} {ts} {us} own nested rest) =
     ap (λ b. b || list_any (is_same_id u) us) (same_ids t u v w h own) ∙ ap (λ b. is_same_id t v || b) (any_id t u h rest)
 
 ids_differ : {ts us : List TypeDef} → AreShrunkTypes ts us → all_differ is_same_id us ≡ all_differ is_same_id ts

@@ -1,18 +1,17 @@
 -- An instruction and its length, in each of its forms.
-use Rattle.std.proofs.Common.{◌≡◌, ◌∙◌, sym, ap, subst, refl, ℕ, ◌+◌, ◌<◌, ◌≤◌, min, Bool, true, nat_lt, IsTrue, arith}
+use Rattle.std.proofs.Common.{◌≡◌, ◌∙◌, sym, ap, refl, ℕ, ◌+◌, ◌<◌, ◌≤◌, min, true, nat_lt, IsTrue, arith}
 use Rattle.std.proofs.lemmas.Bool.Decides.{nat_tests}
 use Rattle.branch_forms.specs.declared.form.Form.{Form}
 use Rattle.branch_forms.specs.declared.form.Form.TheVariants.{Fixed, Short, Long}
 use Rattle.branch_forms.specs.Forms.{width, has_bytes, shortened}
 use Rattle.opcode_table.specs.declared.kind.OperandKind.{OperandKind}
 use Rattle.opcode_table.specs.declared.kind.OperandKind.TheVariants as kind
-use Rattle.opcode_table.specs.declared.op.Op.{Op}
 use Rattle.opcode_table.specs.Opcodes.{kind_of}
 use Rattle.opcode_table.specs.Sizes.{opcode_size}
 use Rattle.assembly_tree.specs.declared.body.Ins.{Ins}
 use Rattle.assembly_tree.specs.declared.body.Operand as operand
 use Rattle.assembly_tree.specs.WellFormedBodies.{operand_kind, operand_size, size_of}
-use Rattle.il_shrink.specs.Branches.{short_form, long_form, is_short, short_kind}
+use Rattle.il_shrink.specs.Branches.{short_form, is_short, short_kind}
 use Rattle.il_shrink.specs.Shrunk.{with_short}
 use Rattle.il_shrink.specs.Forms.{form_in, short_size, form_of, first_form, in_form}
 use Rattle.il_shrink.proofs.OperandKinds.{long_kind, is_short_kind}

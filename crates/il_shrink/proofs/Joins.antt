@@ -1,15 +1,14 @@
 -- Two valid choices make one, and only one is the greatest.
-use Rattle.std.proofs.Common.{◌≡◌, ◌∙◌, sym, ap, subst, refl, ℕ, zero, suc, ◌+◌, ◌≤◌, ◌⊎◌, inl, inr, min, Bool, true, false, cond, List, [], ◌∷◌, map, take, Some, IsTrue, arith}
+use Rattle.std.proofs.Common.{◌≡◌, ◌∙◌, sym, ap, subst, refl, ℕ, zero, suc, ◌+◌, ◌≤◌, ◌⊎◌, inl, inr, min, Bool, true, false, cond, List, [], ◌∷◌, map, Some, arith}
 use Rattle.std.specs.List.{slice_get}
 use Rattle.opcode_table.specs.declared.kind.OperandKind.TheVariants as kind
-use Rattle.assembly_tree.specs.declared.body.Body.{Body}
 use Rattle.assembly_tree.specs.declared.body.Ins.{Ins}
 use Rattle.assembly_tree.specs.declared.body.Operand as operand
 use Rattle.assembly_tree.specs.WellFormedBodies.{operand_kind, size_of, offset_of, is_near, reaches_at, reaches, short_branches_reach}
-use Rattle.il_shrink.specs.Branches.{short_form, long_form, is_short}
-use Rattle.il_shrink.specs.Laws.{IsJoin, ValidChoicesJoin, OneIsShrunk, ShortOnesStay}
-use Rattle.il_shrink.specs.Shrunk.{with_short, IsChoice, IsValid, IsShortAt, IsShrunk}
-use Rattle.il_shrink.proofs.InsForms.{IsBranchTo, short_no_longer}
+use Rattle.il_shrink.specs.Branches.{long_form, is_short}
+use Rattle.il_shrink.specs.Laws.{ValidChoicesJoin, OneIsShrunk, ShortOnesStay}
+use Rattle.il_shrink.specs.Shrunk.{with_short, IsValid, IsShortAt}
+use Rattle.il_shrink.proofs.InsForms.{short_no_longer}
 use Rattle.il_shrink.proofs.Lists.{test_at, test_all}
 use Rattle.il_shrink.proofs.Moves.{AtMost, near_moves}
 use Rattle.il_shrink.proofs.Ops.{short_stays, long_again}

@@ -1,5 +1,5 @@
 -- What a shrunk body keeps.
-use Rattle.std.proofs.Common.{◌≡◌, ◌∙◌, sym, ap, subst, refl, ℕ, ◌+◌, ◌*◌, ◌&&◌, Bool, true, List, [], ◌∷◌, ◌++◌, length, map, Some, None, nat_lt, IsTrue, arith}
+use Rattle.std.proofs.Common.{◌≡◌, ◌∙◌, sym, ap, refl, ℕ, ◌+◌, ◌*◌, ◌&&◌, Bool, List, [], ◌∷◌, ◌++◌, length, map, Some, nat_lt, IsTrue, arith}
 use Rattle.std.specs.List.{list_all, sum_by, flat_map}
 use Rattle.std.proofs.lemmas.List.{length-map}
 use Rattle.std.proofs.lemmas.List.Sums.{sum_by-cons}
@@ -9,7 +9,7 @@ use Rattle.assembly_tree.specs.declared.assembly.Assembly.{Assembly}
 use Rattle.assembly_tree.specs.declared.body.Body.{Body}
 use Rattle.assembly_tree.specs.declared.body.Ins.{Ins}
 use Rattle.assembly_tree.specs.declared.body.Operand as operand
-use Rattle.assembly_tree.specs.Room.{Units, instruction_texts, body_texts}
+use Rattle.assembly_tree.specs.Room.{instruction_texts, body_texts}
 use Rattle.assembly_tree.specs.Weight.{type_weight, instruction_weight, clause_weight, body_weight}
 use Rattle.assembly_tree.specs.WellFormedBodies.{operand_kind, fits_kind, are_targets, is_operand, is_handled, is_instruction, is_clause, has_body_form, names_well, is_body, short_branches_reach}
 use Rattle.assembly_tree.specs.WellFormedTerms.{is_count, is_type}

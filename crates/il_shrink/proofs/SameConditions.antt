@@ -1,34 +1,20 @@
 -- Where names and sizes are the same, so are the conditions on the parts of a tree.
-use Rattle.std.proofs.Common.{◌≡◌, refl, ℕ, zero, suc, ◌==◌, ◌&&◌, ◌||◌, Bool, false, not, nat_lt, nat_le, List, length, Option, is_none}
+use Rattle.std.proofs.Common.{◌≡◌, refl, ℕ, zero, suc, ◌==◌, ◌&&◌, ◌||◌, Bool, false, not, nat_lt, nat_le, length, is_none}
 use Rattle.std.specs.List.{list_all}
 use Rattle.type_terms.specs.Depth.{depth, owner_depth}
-use Rattle.type_terms.specs.declared.reference.FieldRef.{FieldRef}
-use Rattle.type_terms.specs.declared.reference.MethodRef.{MethodRef}
-use Rattle.type_terms.specs.declared.reference.MethodSig.{MethodSig}
-use Rattle.type_terms.specs.declared.term.Owner.{Owner, fold-Owner}
-use Rattle.type_terms.specs.declared.term.SigType.{SigType, fold-SigType}
-use Rattle.type_terms.specs.declared.term.Owner.TheOpen.{Owner-F, SigType-F, Name, Spec, Prim, Class, Value, Inst, Var, MVar, SzArray, Array, ByRef, Pointer, Mod, Pinned}
+use Rattle.type_terms.specs.declared.term.Owner.{fold-Owner}
+use Rattle.type_terms.specs.declared.term.SigType.{fold-SigType}
+use Rattle.type_terms.specs.declared.term.Owner.TheOpen.{Owner-F, SigType-F, Name, Spec, Prim, Class, Value, Inst}
 use Rattle.assembly_tree.specs.DataSize.{size_in_data}
 use Rattle.assembly_tree.specs.declared.assembly.Assembly.{Assembly}
-use Rattle.assembly_tree.specs.declared.assembly.Manifest.{Manifest}
-use Rattle.assembly_tree.specs.declared.body.Body.{Body}
 use Rattle.assembly_tree.specs.declared.body.ClauseKind as handles
 use Rattle.assembly_tree.specs.declared.body.Operand as operand
-use Rattle.assembly_tree.specs.declared.members.Attribute.{Attribute}
-use Rattle.assembly_tree.specs.declared.members.Event.{Event}
-use Rattle.assembly_tree.specs.declared.members.Field.{Field}
-use Rattle.assembly_tree.specs.declared.members.Generic.{Generic}
-use Rattle.assembly_tree.specs.declared.members.Method.{Method}
-use Rattle.assembly_tree.specs.declared.members.Param.{Param}
-use Rattle.assembly_tree.specs.declared.members.Property.{Property}
-use Rattle.assembly_tree.specs.declared.typedef.TypeDef.{TypeDef}
-use Rattle.assembly_tree.specs.declared.typedef.TypeDef.TheOpen.{TypeDef-F}
 use Rattle.assembly_tree.specs.declared.typedef.TypeDef.TheViews.{out-TypeDef}
 use Rattle.assembly_tree.specs.WellFormed.{is_image_base, is_file_alignment, are_cor_flags, is_manifest}
 use Rattle.assembly_tree.specs.WellFormedBodies.{has_body_form, short_branches_reach, is_operand, is_handled, names_well, is_body}
 use Rattle.assembly_tree.specs.WellFormedMembers.{is_clear, is_attribute, is_constant, is_generic, are_params, is_param, is_content, is_field, are_impl_flags, is_method_head, is_method, is_property_accessor, is_event_accessor, is_property, is_event}
 use Rattle.assembly_tree.specs.WellFormedNames.{option_all, rises, all_differ, has_no_zero, is_name, is_type_id, is_type_name}
-use Rattle.assembly_tree.specs.WellFormedTerms.{is_shape, is_variable, owner_step, type_step, is_made_well, is_owner_made_well, is_type, is_owner, is_count, is_explicit_with_this, is_sentinel_inside, is_signature, is_declaration, is_property_signature, are_arguments, is_method_ref, is_plain_ref, is_field_ref}
+use Rattle.assembly_tree.specs.WellFormedTerms.{owner_step, type_step, is_type, is_owner, is_count, is_explicit_with_this, is_sentinel_inside, is_signature, is_declaration, is_property_signature, are_arguments, is_method_ref, is_plain_ref, is_field_ref}
 use Rattle.assembly_tree.specs.WellFormedTypes.{is_layout, is_base, is_owner_before, is_not_module, is_head, are_members, has_its_accessors, members_differ, is_own, is_same_id, are_types}
 use Rattle.il_shrink.proofs.Twins.{SameNames}
 

@@ -1,10 +1,10 @@
 -- The code of the shortest forms is the shrunk code.
-use Rattle.std.proofs.Common.{◌≡◌, ◌∙◌, sym, ap, subst, refl, ℕ, ◌+◌, ◌⊎◌, inl, inr, Bool, true, List, ◌++◌, length, map, take, drop, Some, IsTrue, arith}
+use Rattle.std.proofs.Common.{◌≡◌, ◌∙◌, sym, ap, subst, refl, ℕ, ◌+◌, inl, inr, true, List, ◌++◌, length, map, take, drop, Some, arith}
 use Rattle.std.specs.List.{slice_get}
 use Rattle.std.proofs.Math.Seq.{take-append_seam}
 use Rattle.std.proofs.lemmas.List.{length-map}
 use Rattle.branch_forms.specs.declared.form.Form.{Form}
-use Rattle.branch_forms.specs.declared.form.Form.TheVariants.{Fixed, Short, Long}
+use Rattle.branch_forms.specs.declared.form.Form.TheVariants.{Short, Long}
 use Rattle.branch_forms.specs.Forms.{width, has_bytes, shortened, IsShort, IsShortest}
 use Rattle.branch_forms.specs.Forms as forms
 use Rattle.opcode_table.specs.declared.kind.OperandKind.{OperandKind}

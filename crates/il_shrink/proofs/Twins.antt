@@ -1,16 +1,16 @@
 -- A name means the same type in the assembly and in the one with shrunk bodies, but for bodies.
-use Rattle.std.proofs.Common.{◌≡◌, ◌∙◌, sym, ap, subst, refl, ℕ, ◌&&◌, ◌||◌, Bool, true, false, cond, List, [], ◌∷◌, length, Option, None, Some, is_some, nat_lt}
-use Rattle.std.specs.List.{find, list_all}
+use Rattle.std.proofs.Common.{◌≡◌, sym, ap, subst, refl, ℕ, ◌&&◌, ◌||◌, Bool, true, false, cond, List, [], ◌∷◌, length, Option, None, Some, is_some, nat_lt}
+use Rattle.std.specs.List.{list_all}
 use Rattle.type_terms.specs.declared.name.Scope as scope
 use Rattle.type_terms.specs.declared.name.TypeId.{TypeId}
 use Rattle.type_terms.specs.declared.name.TypeName.{TypeName}
 use Rattle.type_terms.specs.declared.term.SigType.{SigType, fold-SigType}
-use Rattle.type_terms.specs.declared.term.Owner.TheOpen.{Owner-F, SigType-F, Prim, Class, Value, Inst, Var, MVar, SzArray, Array, ByRef, Pointer, Mod, Pinned}
+use Rattle.type_terms.specs.declared.term.Owner.TheOpen.{SigType-F, Prim, Value}
 use Rattle.assembly_tree.specs.declared.assembly.Assembly.{Assembly}
 use Rattle.assembly_tree.specs.declared.typedef.TypeDef.{TypeDef}
 use Rattle.assembly_tree.specs.declared.typedef.TypeDef.TheViews.{out-TypeDef}
 use Rattle.assembly_tree.specs.DataSize.{is_id, has_id, named, with_type, type_below, type_at, declared_in, declared, layout_size, type_size, no_size, size_step, size_in_data}
-use Rattle.assembly_tree.specs.WellFormedNames.{is_type_id, is_module_path, is_declared, is_known_in, is_known, is_short_path, is_type_name}
+use Rattle.assembly_tree.specs.WellFormedNames.{is_type_id, is_module_path, is_known_in, is_short_path, is_type_name}
 use Rattle.il_shrink.specs.ShrunkAll.{IsShrunkOwn, AreShrunkTypes, none, more, IsShrunkAll}
 
 -- a type and the one with shrunk bodies

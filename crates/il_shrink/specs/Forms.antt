@@ -1,5 +1,5 @@
 -- The instructions of a body by their lengths, and the code of a choice of lengths.
-use Rattle.std.specs.Prelude.{ℕ, min, Bool, true, false, List, [], ◌∷◌, map}
+use Rattle.std.specs.Prelude.{ℕ, min, List, [], ◌∷◌}
 use Rattle.branch_forms.specs.declared.form.Form.{Form}
 use Rattle.branch_forms.specs.declared.form.Form.TheVariants.{Fixed, Short, Long}
 use Rattle.branch_forms.specs.Forms.{shortened}

@@ -1,4 +1,4 @@
-use Rattle.std.proofs.Common.{◌≡◌, ◌∙◌, IsTrue}
+use Rattle.std.proofs.Common.{◌≡◌, IsTrue}
 use Rattle.assembly_tree.specs.declared.assembly.Assembly.{Assembly}
 use Rattle.assembly_tree.specs.Room.{room}
 use Rattle.assembly_tree.specs.Weight.{weight_of}

@@ -1,4 +1,4 @@
-use Rattle.std.proofs.Common.{◌≡◌, ◌∙◌, sym, ap, List, map, IsTrue}
+use Rattle.std.proofs.Common.{◌≡◌, ◌∙◌, sym, ap, List, map}
 use Rattle.std.specs.List.{list_all}
 use Rattle.branch_forms.specs.Forms.{has_bytes, shortened}
 use Rattle.assembly_tree.specs.declared.body.Ins.{Ins}

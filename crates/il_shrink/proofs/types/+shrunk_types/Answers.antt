@@ -1,7 +1,5 @@
-use Rattle.std.proofs.Common.{◌≡◌, ◌∙◌, sym, ap, subst, List, [], ◌∷◌, ◌++◌, take}
-use Rattle.std.proofs.lemmas.List.{take_more}
+use Rattle.std.proofs.Common.{sym, subst, List, []}
 use Rattle.assembly_tree.specs.declared.typedef.TypeDef.{TypeDef}
-use Rattle.assembly_tree.specs.declared.typedef.TypeDef.TheViews.{out-TypeDef}
 use Rattle.il_shrink.specs.ShrunkAll.{AreShrunkTypes, none}
 use Rattle.il_shrink.proofs.Pairs.{types_more}
 use Rattle.il_shrink.proofs.types.+shrunk_types.Goals as goal
