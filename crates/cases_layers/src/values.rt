@@ -84,19 +84,23 @@ fn push_word(bytes: &mut Bytes, word: &str) -> Result<(), Fault> {
 }
 
 fn push_pairs(bytes: &mut Bytes, pairs: &str) -> Result<(), Fault> {
-    let mut left = pairs.as_bytes();
-    while let [high, low, more @ ..] = left {
-        let (Some(high), Some(low)) = (digit(*high), digit(*low)) else {
+    let mut first = None;
+    for byte in pairs.as_bytes() {
+        let Some(low) = digit(*byte) else {
             return Err(Fault::Meaningless);
         };
-        bytes.push(high.wrapping_mul(16).wrapping_add(low))?;
-        left = more;
+        match first {
+            None => first = Some(low),
+            Some(high) => {
+                bytes.push(high.wrapping_mul(16).wrapping_add(low))?;
+                first = None;
+            }
+        }
     }
-    if left.is_empty() {
-        Ok(())
-    } else {
-        Err(Fault::Meaningless)
+    if first.is_some() {
+        return Err(Fault::Meaningless);
     }
+    Ok(())
 }
 
 /// Adds bytes as pairs of hexadecimal digits, with blanks between.
