@@ -21,7 +21,7 @@ pub struct Counts {
 }
 
 /// How many types, methods with a body and instructions an assembly of weight at most 2^26 declares. Takes no memory.
-pub fn counts(a: &Assembly) -> Counts
+pub fn count(a: &Assembly) -> Counts
     requires { weight_of a.now ≤ 2 ^ 26 }
     ensures classes { result.classes ≡ class_count a.now }
     ensures methods { result.methods ≡ length (all_methods a.now) }

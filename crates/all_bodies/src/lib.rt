@@ -10,5 +10,5 @@ mod laws;
 mod places;
 
 pub use checking::check_all;
-pub use counting::{Counts, counts};
+pub use counting::{Counts, count};
 pub use laws::each_body_is_listed;

@@ -7,7 +7,7 @@ ghost use Rattle.type_order.specs.Worlds.{IsFit, IsWorldSince};
 use crate::fault::Fault;
 use crate::most::Most;
 use crate::reading::Linked;
-use all_bodies::{check_all, counts};
+use all_bodies::{check_all, count};
 use assembly_tree::{Assembly, Method, MethodPath, TypeDef};
 use assignability::keys_keep_their_types;
 use body_verifier::{Failure, check_method, has_body};
@@ -109,7 +109,7 @@ pub fn show_counts(rt: &HostRuntime, linked: &Linked, w: &mut World) -> Result<(
     requires world { IsWorldSince (sources linked.now.image linked.now.references) w.old }
 {
     let image = &linked.image;
-    let counts = counts(image);
+    let counts = count(image);
     let report = check_all(rt.alloc(), image, w)?;
     print!(rt;
         "  classes {}, methods {}, ",

@@ -4,7 +4,7 @@ use Rattle.assembly_tree.specs.Nesting.{types_in}
 use Rattle.assembly_tree.specs.Weight.{method_weight, typedef_weight}
 use Rattle.all_bodies.specs.Counts.{bodies_in, instructions_in}
 use Rattle.all_bodies.proofs.CountLemmas.{all_listed, bodies_among_low, bodies_low, code_low, instructions_low, parts_light, with_bodies, with_code}
-use Rattle.all_bodies.proofs.counting.counts.Goals as goal
+use Rattle.all_bodies.proofs.counting.count.Goals as goal
 
 pub classes_among-classes-requires : goal.classes_among-classes-requires
 classes_among-classes-requires c = let light = parts_light c.args.a.now in let same = ap (sum_by typedef_weight) c.as_slice-types.ensures in omega (arith, light, same)
