@@ -1,4 +1,0 @@
-pub mod CountLemmas
-pub mod Listed
-pub mod PlaceLemmas
-pub mod ReportLemmas
