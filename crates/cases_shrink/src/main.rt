@@ -3,7 +3,7 @@
 //!
 //! A word is the body's instructions, parted by commas. `nop` is one instruction and `nop*3` are three; `br>7` branches to
 //! instruction 7, counted from 0, and `br>+2` and `br>-2` to the second one behind and before it; `br>+2*3` are three such
-//! branches. A target that can't be told is a number, so a switch to two is `switch>1:2`.
+//! branches. A switch to instructions 1 and 2 is `switch>1:2`.
 //!
 //! The status is 0 where each word was answered, 2 where a word doesn't fit, 4 where a line couldn't be written, and 6 where
 //! there was no memory.

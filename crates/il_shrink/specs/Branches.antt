@@ -1,4 +1,4 @@
--- The branches that have a short form (ECMA-335 III.3.5 to III.3.13, III.3.15, III.3.17, III.3.18, III.3.46): 0x38 to 0x44
+-- The branches that have a short form (ECMA-335 III.3.5 to III.3.15, III.3.17, III.3.18, III.3.46): 0x38 to 0x44
 -- and 0xDD, whose targets stand in four bytes, and 0x2B to 0x37 and 0xDE, whose targets stand in one.
 use Rattle.std.specs.Prelude.{Bool, true, false}
 use Rattle.opcode_table.specs.declared.kind.OperandKind.{OperandKind}

@@ -47,8 +47,9 @@ const CASES: &str = "\
     .class S<T> { .size 4 } .field static valuetype S<int32> X at ^Q .data Q = int8[4]\n\
     .class A.S { .size 4 } .field static valuetype S X at ^Q .field static valuetype A.S Y at ~R .data Q = int8[4] .data R = int8\n\
     .class C { .class D { .data Q = int8[4] .field static int64 X at ~Q } }\n\
-    .class S { .size 4294967296 .field static valuetype S X at ~Q } .data Q = int8[4]\n\
-    .class S { .size 4294967297 .field static valuetype S X at Q } .data Q = int64[536870912]";
+    .class S { .size 4294967295 .field static valuetype S X at ~Q } .data Q = int8[4]\n\
+    .class S { .size 4294967296 .field static valuetype S X at Q } .data Q = int8[4]\n\
+    .class S { .size 4294967295 .field static valuetype S X at Q } .data Q = int64[536870912]";
 
 /// The places of the marked labels, in bytes of the source without marks; None where there is no mark.
 #[derive(Clone, Copy, Debug, PartialEq, Eq)]
