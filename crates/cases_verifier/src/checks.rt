@@ -2,11 +2,12 @@
 
 ghost use Rattle.std.specs.Prelude.{◌≡◌};
 ghost use Rattle.type_hierarchy.specs.Scopes.{sources, Sources};
-ghost use Rattle.type_order.specs.Worlds.{IsWorldSince};
+ghost use Rattle.type_order.specs.Worlds.{IsFit, IsWorldSince};
 
 use crate::fault::Fault;
 use crate::most::Most;
 use crate::reading::Linked;
+use all_bodies::{check_all, count};
 use assembly_tree::{Assembly, Method, MethodPath, TypeDef};
 use assignability::keys_keep_their_types;
 use body_verifier::{Failure, check_method, has_body};
@@ -94,6 +95,31 @@ fn show_report(
     if is_more {
         print!(rt; " takes more")?;
     }
+    rt.println("")?;
+    Ok(())
+}
+
+/// Prints how much the image declares, and the number of failures in all its bodies.
+///
+/// # Errors
+///
+/// The answer couldn't be written, or there was no memory.
+pub fn show_counts(rt: &HostRuntime, linked: &Linked, w: &mut World) -> Result<(), Fault>
+    requires fit { IsFit linked.now.image }
+    requires world { IsWorldSince (sources linked.now.image linked.now.references) w.old }
+{
+    let image = &linked.image;
+    let counts = count(image);
+    let report = check_all(rt.alloc(), image, w)?;
+    print!(rt;
+        "  classes {}, methods {}, ",
+        counts.classes, counts.methods
+    )?;
+    print!(rt;
+        "instructions {}, failures {}",
+        counts.instructions,
+        report.len()
+    )?;
     rt.println("")?;
     Ok(())
 }

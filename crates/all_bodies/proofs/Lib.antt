@@ -1,0 +1,4 @@
+pub mod CountLemmas
+pub mod Listed
+pub mod PlaceLemmas
+pub mod ReportLemmas
