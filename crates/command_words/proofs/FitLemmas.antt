@@ -16,25 +16,27 @@ use Rattle.command_words.specs.declared.slot.Slot.TheVariants as slot
 
 -- each of the first k words is of a kind, and none is there more often than it may be
 pub record AreFitting (shape : Shape) (words : List (List ℕ)) (k : ℕ) : Type 0 where
-  pub all : k ≡ count slot.File (take k words) + count slot.Kind (take k words) + count slot.Output (take k words)
+  pub all : k ≡ count slot.File (take k words) + count slot.Kind (take k words) + count slot.Output (take k words) + count slot.Optimize (take k words)
   pub file : count slot.File (take k words) ≤ most shape slot.File
   pub kind : count slot.Kind (take k words) ≤ most shape slot.Kind
   pub output : count slot.Output (take k words) ≤ most shape slot.Output
+  pub optimize : count slot.Optimize (take k words) ≤ most shape slot.Optimize
 
-few : (shape : Shape) → most shape slot.File + most shape slot.Kind + most shape slot.Output ≤ 3
+few : (shape : Shape) → most shape slot.File + most shape slot.Kind + most shape slot.Output + most shape slot.Optimize ≤ 4
 few Ilasm = omega arith
 
-pub are_few : (shape : Shape) (words : List (List ℕ)) (k : ℕ) → AreFitting shape words k → k ≤ 3
+pub are_few : (shape : Shape) (words : List (List ℕ)) (k : ℕ) → AreFitting shape words k → k ≤ 4
 are_few shape words k fitting =
     let at_most = few shape in
     let all = fitting.all in
     let file = fitting.file in
     let kind = fitting.kind in
     let output = fitting.output in
+    let optimize = fitting.optimize in
     omega arith
 
 pub at_first : (shape : Shape) (words : List (List ℕ)) → AreFitting shape words 0
-at_first shape words = record { all = refl; file = omega arith; kind = omega arith; output = omega arith }
+at_first shape words = record { all = refl; file = omega arith; kind = omega arith; output = omega arith; optimize = omega arith }
 
 module _ (shape : Shape) (words : List (List ℕ)) (k : ℕ) (word : List ℕ) (there : k < length words) (is : word ≡ get_or words k word) where
   of_slot : (s t : Slot) → slot_of word ≡ Some s → is_slot t (get_or words k word) ≡ same_slot s t
@@ -52,19 +54,29 @@ module _ (shape : Shape) (words : List (List ℕ)) (k : ℕ) (word : List ℕ) (
       let file = comes slot.File e refl in
       let kind = stays slot.File slot.Kind e refl in
       let output = stays slot.File slot.Output e refl in
-      record { all = omega arith; file = omega arith; kind = omega (arith, fitting.kind); output = omega (arith, fitting.output) }
+      let optimize = stays slot.File slot.Optimize e refl in
+      record { all = omega arith; file = omega arith; kind = omega (arith, fitting.kind); output = omega (arith, fitting.output); optimize = omega (arith, fitting.optimize) }
   grows_by slot.Kind e room fitting =
       let all = fitting.all in
       let file = stays slot.Kind slot.File e refl in
       let kind = comes slot.Kind e refl in
       let output = stays slot.Kind slot.Output e refl in
-      record { all = omega arith; file = omega (arith, fitting.file); kind = omega arith; output = omega (arith, fitting.output) }
+      let optimize = stays slot.Kind slot.Optimize e refl in
+      record { all = omega arith; file = omega (arith, fitting.file); kind = omega arith; output = omega (arith, fitting.output); optimize = omega (arith, fitting.optimize) }
   grows_by slot.Output e room fitting =
       let all = fitting.all in
       let file = stays slot.Output slot.File e refl in
       let kind = stays slot.Output slot.Kind e refl in
       let output = comes slot.Output e refl in
-      record { all = omega arith; file = omega (arith, fitting.file); kind = omega (arith, fitting.kind); output = omega arith }
+      let optimize = stays slot.Output slot.Optimize e refl in
+      record { all = omega arith; file = omega (arith, fitting.file); kind = omega (arith, fitting.kind); output = omega arith; optimize = omega (arith, fitting.optimize) }
+  grows_by slot.Optimize e room fitting =
+      let all = fitting.all in
+      let file = stays slot.Optimize slot.File e refl in
+      let kind = stays slot.Optimize slot.Kind e refl in
+      let output = stays slot.Optimize slot.Output e refl in
+      let optimize = comes slot.Optimize e refl in
+      record { all = omega arith; file = omega (arith, fitting.file); kind = omega (arith, fitting.kind); output = omega (arith, fitting.output); optimize = omega arith }
 
   -- a word that fits is of a kind for which there is room
   room_for : (o : Option Slot) → option_map_or (λ s. nat_lt (count s (take k words)) (most shape s)) o false ≡ true
@@ -111,18 +123,19 @@ whole_line words word text more shape command are text-is named fits is =
       is ∙ sym (ap (λ (o : Option Shape). command_by (option_map_or (λ s. s) o Ilasm) more) known) ∙ sym (ap command_of are),
     )
 
-by_tests : (a b c d : Bool)
-    → option_map_or (λ found. same_slot found slot.Output) (if a then (if b then Some slot.Kind else (if c && d then Some slot.Output else None)) else Some slot.File) false ≡ true
+by_tests : (a b o c d : Bool)
+    → option_map_or (λ found. same_slot found slot.Output) (if a then (if b then Some slot.Kind else (if o then Some slot.Optimize else (if c && d then Some slot.Output else None))) else Some slot.File) false ≡ true
     → c ≡ true
-by_tests a b true d e = refl
-by_tests false b false d e = absurd cc
-by_tests true true false d e = absurd cc
-by_tests true false false d e = absurd cc
+by_tests a b o true d e = refl
+by_tests false b o false d e = absurd cc
+by_tests true true o false d e = absurd cc
+by_tests true false true false d e = absurd cc
+by_tests true false false false d e = absurd cc
 
 pub output_begins : (word : List ℕ) → is_slot slot.Output word ≡ true → bytes_eq (take 8 word) (codes "-output=") ≡ true
 unfolding slot_of
 output_begins word is =
-    by_tests (slice_index word 0 == 45) (bytes_eq word (codes "-dll") || bytes_eq word (codes "-exe")) (bytes_eq (take 8 word) (codes "-output=")) (nat_lt 8 (length word)) is
+    by_tests (slice_index word 0 == 45) (bytes_eq word (codes "-dll") || bytes_eq word (codes "-exe")) (bytes_eq word (codes "-optimize")) (bytes_eq (take 8 word) (codes "-output=")) (nat_lt 8 (length word)) is
 
 -- the word that is found is of the kind
 pub find_holds : (p : List ℕ → Bool) (words : List (List ℕ)) (word : List ℕ) → find p words ≡ Some word → p word ≡ true

@@ -14,11 +14,13 @@ use Rattle.command_words.specs.declared.slot.Slot.TheVariants as slot
 
 -- ---- words by themselves
 
--- a word that doesn't begin with `-` is a file; `-dll` and `-exe` say the kind; `-output=NAME`, where NAME isn't empty, the output
+-- a word that doesn't begin with `-` is a file; `-dll` and `-exe` say the kind; `-output=NAME`, where NAME isn't empty, the output;
+-- `-optimize` asks for short branches
 unfoldable pub slot_of : List ℕ → Option Slot
 slot_of word =
     if slice_index word 0 == 45 then
     if bytes_eq word (codes "-dll") || bytes_eq word (codes "-exe") then Some slot.Kind
+    else if bytes_eq word (codes "-optimize") then Some slot.Optimize
     else if bytes_eq (take 8 word) (codes "-output=") && nat_lt 8 (length word) then Some slot.Output else None
     else Some slot.File
 
@@ -26,6 +28,7 @@ abbrev pub same_slot : Slot → Slot → Bool
 same_slot slot.File slot.File = true
 same_slot slot.Kind slot.Kind = true
 same_slot slot.Output slot.Output = true
+same_slot slot.Optimize slot.Optimize = true
 same_slot _ _ = false
 
 abbrev pub is_slot : Slot → List ℕ → Bool
@@ -42,12 +45,14 @@ abbrev pub least : Shape → Slot → ℕ
 least Ilasm slot.File = 1
 least Ilasm slot.Kind = 0
 least Ilasm slot.Output = 0
+least Ilasm slot.Optimize = 0
 
 -- and at most
 abbrev pub most : Shape → Slot → ℕ
 most Ilasm slot.File = 1
 most Ilasm slot.Kind = 1
 most Ilasm slot.Output = 1
+most Ilasm slot.Optimize = 1
 
 -- ---- words behind a command
 
@@ -63,7 +68,7 @@ fits_behind shape before word = option_map_or (λ slot. nat_lt (count slot befor
 abbrev pub lacks : Shape → List (List ℕ) → Bool
 lacks shape words =
     nat_lt (count slot.File words) (least shape slot.File) || nat_lt (count slot.Kind words) (least shape slot.Kind)
-    || nat_lt (count slot.Output words) (least shape slot.Output)
+    || nat_lt (count slot.Output words) (least shape slot.Output) || nat_lt (count slot.Optimize words) (least shape slot.Optimize)
 
 -- The number of the first word that doesn't fit behind those before it; the words count from n. Where all fit and one is missing,
 -- the number behind the last.
@@ -92,6 +97,10 @@ kind_said word = if bytes_eq word (codes "-dll") then Dll else Exe
 abbrev pub kind_among : List (List ℕ) → Kind
 kind_among words = option_map_or kind_said (first_of slot.Kind words) Exe
 
+-- whether short branches are asked for
+abbrev pub optimize_among : List (List ℕ) → Bool
+optimize_among words = option_map_or (λ word. true) (first_of slot.Optimize words) false
+
 -- a name without its last `.il`
 abbrev pub stem_of : List ℕ → List ℕ
 stem_of name = if bytes_eq (drop (length name - 3) name) (codes ".il") then take (length name - 3) name else name
@@ -107,7 +116,7 @@ output_among words =
 
 -- what words behind a command ask for, where they fit
 abbrev pub command_by : Shape → List (List ℕ) → Command
-command_by Ilasm words = command.Ilasm (file_among words) (kind_among words) (output_among words)
+command_by Ilasm words = command.Ilasm (file_among words) (kind_among words) (optimize_among words) (output_among words)
 
 -- what the words of a line ask for, where they fit (where the first names no command, what stands here is of no account)
 unfoldable pub command_of : List (List ℕ) → Command

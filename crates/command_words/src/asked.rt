@@ -2,7 +2,7 @@
 ghost use Rattle.std.specs.Prelude.{◌≡◌, ◌++◌, true, take, drop, codes, IfOk};
 ghost use Rattle.std.specs.Str.{bytes_eq};
 ghost use Rattle.std.specs.Option.{option_copied};
-ghost use Rattle.command_words.specs.Words.{first_of, command_by, file_among, kind_among, output_among, extension_of, stem_of};
+ghost use Rattle.command_words.specs.Words.{first_of, command_by, file_among, kind_among, optimize_among, output_among, extension_of, stem_of};
 
 use crate::command::Command;
 use crate::shape::Shape;
@@ -29,6 +29,7 @@ fn ilasm(alloc: Global, words: &[Text]) -> Result<Command, NoMemory>
     Ok(Command::Ilasm {
         file,
         kind: kind_among(words),
+        optimize: optimize_among(words),
         output,
     })
 }
@@ -64,6 +65,13 @@ fn kind_among(words: &[Text]) -> Kind
         }
         None => Kind::Exe,
     }
+}
+
+/// Whether short branches are asked for.
+fn optimize_among(words: &[Text]) -> bool
+    ensures { result ≡ optimize_among words.now }
+{
+    first_of(Slot::Optimize, words).is_some()
 }
 
 /// The name of the output: NAME of `-output=NAME`, else FILE with another extension.

@@ -10,6 +10,8 @@ pub enum Command {
         file: Text,
         /// Whether a program or a library is made.
         kind: Kind,
+        /// Whether branches are short wherever they can be.
+        optimize: bool,
         /// The name of the image.
         output: Text,
     },

@@ -33,6 +33,7 @@ fn lacks(shape: Shape, words: &[Text]) -> bool
     count(Slot::File, words) < least(shape, Slot::File)
         || count(Slot::Kind, words) < least(shape, Slot::Kind)
         || count(Slot::Output, words) < least(shape, Slot::Output)
+        || count(Slot::Optimize, words) < least(shape, Slot::Optimize)
 }
 
 /// The number of the first word that doesn't fit, where the command is word 1; or, where all fit and one is missing, the

@@ -7,7 +7,7 @@ use crate::slot::Slot;
 /// A command, by what may stand behind it.
 #[derive(Clone, Copy)]
 pub(crate) enum Shape {
-    /// `ilasm FILE [-dll or -exe] [-output=NAME]`
+    /// `ilasm FILE [-dll or -exe] [-output=NAME] [-optimize]`
     Ilasm,
 }
 
@@ -28,7 +28,7 @@ pub(crate) fn least(shape: Shape, slot: Slot) -> usize
     match shape {
         Shape::Ilasm => match slot {
             Slot::File => 1,
-            Slot::Kind | Slot::Output => 0,
+            Slot::Kind | Slot::Output | Slot::Optimize => 0,
         },
     }
 }
@@ -39,7 +39,7 @@ pub(crate) fn most(shape: Shape, slot: Slot) -> usize
 {
     match shape {
         Shape::Ilasm => match slot {
-            Slot::File | Slot::Kind | Slot::Output => 1,
+            Slot::File | Slot::Kind | Slot::Output | Slot::Optimize => 1,
         },
     }
 }

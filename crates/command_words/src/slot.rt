@@ -12,6 +12,8 @@ pub(crate) enum Slot {
     Kind,
     /// `-output=NAME`.
     Output,
+    /// `-optimize`.
+    Optimize,
 }
 
 /// What a word is, where it is something.
@@ -28,15 +30,19 @@ pub(crate) fn slot_of(word: &str) -> Option<Slot>
     if word == "-exe" {
         return Some(Slot::Kind);
     }
+    if word == "-optimize" {
+        return Some(Slot::Optimize);
+    }
     output_named(word)
 }
 
-/// What a word is that begins with `-` and says no kind.
+/// What a word is that begins with `-`, says no kind and asks for no short branches.
 #[tactic(auto, unfolding(crate::specs::Words::slot_of))]
 fn output_named(word: &str) -> Option<Slot>
     requires begins { slice_index word.now 0 ≡ 45 }
     requires no_dll { bytes_eq word.now (codes "-dll") ≡ false }
     requires no_exe { bytes_eq word.now (codes "-exe") ≡ false }
+    requires no_optimize { bytes_eq word.now (codes "-optimize") ≡ false }
     ensures { result ≡ slot_of word.now }
 {
     match word.strip_prefix("-output=") {
@@ -69,5 +75,6 @@ fn same_slot(a: Slot, b: Slot) -> bool
         Slot::File => matches!(b, Slot::File),
         Slot::Kind => matches!(b, Slot::Kind),
         Slot::Output => matches!(b, Slot::Output),
+        Slot::Optimize => matches!(b, Slot::Optimize),
     }
 }

@@ -36,36 +36,36 @@ no_fault one source a (content.Source fault) denoted fits f = one.apart source a
 no_fault one source a content.TooLarge denoted fits f =
     too_much a fits (subst (λ (b : Assembly). (2 ^ 26 < weight_of b) ⊎ (2 ^ 24 < room b)) (one.assembly source f.0 a f.1 denoted) f.2)
 
-module _ (one : OneReading) (file : List ℕ) (kind : Kind) (output source : List ℕ) (e : Ending) where
-  pub due_to_image : GivesImage file kind output source e → (m : ℕ) → MeritsImage source m → e.number ≡ m
+module _ (one : OneReading) (file : List ℕ) (kind : Kind) (optimize : Bool) (output source : List ℕ) (e : Ending) where
+  pub due_to_image : GivesImage file kind optimize output source e → (m : ℕ) → MeritsImage source m → e.number ≡ m
   due_to_image (an_image image is made) m (fitting a denoted fits due) = ap (λ (x : Ending). x.number) made ∙ sym due
   due_to_image (an_image image is made) m (faulty fault found due) = absurd (no_fault one source is.meant fault is.denoted is.fits found)
   due_to_image (a_fault fault found said) m (fitting a denoted fits due) = absurd (no_fault one source a fault denoted fits found)
   due_to_image (a_fault fault found said) m (faulty other also due) = ap (λ (x : Ending). x.number) said ∙ sym due
 
   -- what is made or said is given
-  pub image_given : (image bytes : List ℕ) → IsImageOf source kind image → bytes ≡ image → e ≡ makes_only output bytes → GivesImage file kind output source e
+  pub image_given : (image bytes : List ℕ) → IsImageOf source kind optimize image → bytes ≡ image → e ≡ makes_only output bytes → GivesImage file kind optimize output source e
   image_given image bytes is same made = an_image image is (made ∙ ap (λ (b : List ℕ). makes_only output b) same)
 
 -- ---- commands: a file is made with 0 alone
 
-image_low : (file : List ℕ) (kind : Kind) (output source : List ℕ) (e : Ending) → GivesImage file kind output source e → e.number ≤ 1
-image_low file kind output source e (an_image image is made) = let zero-is : e.number ≡ 0 = ap (λ (x : Ending). x.number) made in omega arith
-image_low file kind output source e (a_fault fault found said) = let one-is : e.number ≡ 1 = ap (λ (x : Ending). x.number) said in omega arith
+image_low : (file : List ℕ) (kind : Kind) (optimize : Bool) (output source : List ℕ) (e : Ending) → GivesImage file kind optimize output source e → e.number ≤ 1
+image_low file kind optimize output source e (an_image image is made) = let zero-is : e.number ≡ 0 = ap (λ (x : Ending). x.number) made in omega arith
+image_low file kind optimize output source e (a_fault fault found said) = let one-is : e.number ≡ 1 = ap (λ (x : Ending). x.number) said in omega arith
 
-image_makes : (file : List ℕ) (kind : Kind) (output source : List ℕ) (e : Ending) → GivesImage file kind output source e → (made : Made) → e.file ≡ Some made → e.number ≡ 0
-image_makes file kind output source e (an_image image is made) m m-is = ap (λ (x : Ending). x.number) made
-image_makes file kind output source e (a_fault fault found said) m m-is = let none : e.file ≡ None = ap (λ (x : Ending). x.file) said in absurd cc
+image_makes : (file : List ℕ) (kind : Kind) (optimize : Bool) (output source : List ℕ) (e : Ending) → GivesImage file kind optimize output source e → (made : Made) → e.file ≡ Some made → e.number ≡ 0
+image_makes file kind optimize output source e (an_image image is made) m m-is = ap (λ (x : Ending). x.number) made
+image_makes file kind optimize output source e (a_fault fault found said) m m-is = let none : e.file ≡ None = ap (λ (x : Ending). x.file) said in absurd cc
 
 gives_low : (command : Command) (given : List (List ℕ)) (e : Ending) → Gives command given e → e.number ≤ 1
-gives_low (Ilasm file kind output) [] e gives = absurd gives
-gives_low (Ilasm file kind output) (source ∷ []) e gives = image_low file kind output source e gives
-gives_low (Ilasm file kind output) (source ∷ other ∷ more) e gives = absurd gives
+gives_low (Ilasm file kind optimize output) [] e gives = absurd gives
+gives_low (Ilasm file kind optimize output) (source ∷ []) e gives = image_low file kind optimize output source e gives
+gives_low (Ilasm file kind optimize output) (source ∷ other ∷ more) e gives = absurd gives
 
 gives_makes : (command : Command) (given : List (List ℕ)) (e : Ending) → Gives command given e → (made : Made) → e.file ≡ Some made → e.number ≡ 0
-gives_makes (Ilasm file kind output) [] e gives = absurd gives
-gives_makes (Ilasm file kind output) (source ∷ []) e gives = image_makes file kind output source e gives
-gives_makes (Ilasm file kind output) (source ∷ other ∷ more) e gives = absurd gives
+gives_makes (Ilasm file kind optimize output) [] e gives = absurd gives
+gives_makes (Ilasm file kind optimize output) (source ∷ []) e gives = image_makes file kind optimize output source e gives
+gives_makes (Ilasm file kind optimize output) (source ∷ other ∷ more) e gives = absurd gives
 
 -- ---- what is read is given on
 
@@ -76,8 +76,8 @@ within_limits tells files (input ∷ inputs) [] are = absurd are
 within_limits tells files (input ∷ inputs) (bytes ∷ given) are = (are.0.within, within_limits tells files inputs given are.1)
 
 -- of a command with one input there is one text, the first
-module _ (command : Command) (file : List ℕ) (kind : Kind) (output : List ℕ) (given : List (List ℕ)) (is : command ≡ Ilasm file kind output) (within : AreWithin (inputs_of command) given) where
-  one_within : (given : List (List ℕ)) → AreWithin (inputs_of (Ilasm file kind output)) given → (d : List ℕ)
+module _ (command : Command) (file : List ℕ) (kind : Kind) (optimize : Bool) (output : List ℕ) (given : List (List ℕ)) (is : command ≡ Ilasm file kind optimize output) (within : AreWithin (inputs_of command) given) where
+  one_within : (given : List (List ℕ)) → AreWithin (inputs_of (Ilasm file kind optimize output)) given → (d : List ℕ)
       → (given ≡ get_or given 0 d ∷ []) × (length (get_or given 0 d) ≤ 2 ^ 27)
   one_within [] w d = absurd w
   one_within (source ∷ []) w d = (refl, w.0)
@@ -89,7 +89,7 @@ module _ (command : Command) (file : List ℕ) (kind : Kind) (output : List ℕ)
   pub there_is : 0 < length given
   there_is = let one : length given ≡ 1 = ap (λ (g : List (List ℕ)). length g) (the_source []).0 in omega arith
 
-  pub gives_image : (source : List ℕ) (e : Ending) → given ≡ source ∷ [] → GivesImage file kind output source e → Gives command given e
+  pub gives_image : (source : List ℕ) (e : Ending) → given ≡ source ∷ [] → GivesImage file kind optimize output source e → Gives command given e
   gives_image source e given-is gives = subst (λ (g : List (List ℕ)). Gives command g e) (sym given-is) (subst (λ (c : Command). Gives c (source ∷ []) e) (sym is) gives)
 
   pub merits_image : (source : List ℕ) (m : ℕ) → given ≡ source ∷ [] → MeritsOf command given m → MeritsImage source m
@@ -102,23 +102,23 @@ module _ (command : Command) (file : List ℕ) (kind : Kind) (output : List ℕ)
   source_alone : (d lent : List ℕ) → lent ≡ get_or given 0 d → given ≡ lent ∷ []
   source_alone d lent same = (the_source d).0 ∙ ap (λ (xs : List ℕ). xs ∷ []) (sym same)
 
-  pub plan_gives : (d lent lent-file : List ℕ) (e : Ending) → lent ≡ get_or given 0 d → lent-file ≡ file → GivesImage lent-file kind output lent e → Gives command given e
+  pub plan_gives : (d lent lent-file : List ℕ) (e : Ending) → lent ≡ get_or given 0 d → lent-file ≡ file → GivesImage lent-file kind optimize output lent e → Gives command given e
   plan_gives d lent lent-file e same same-file gives =
-      gives_image lent e (source_alone d lent same) (subst (λ (f : List ℕ). GivesImage f kind output lent e) same-file gives)
+      gives_image lent e (source_alone d lent same) (subst (λ (f : List ℕ). GivesImage f kind optimize output lent e) same-file gives)
 
   pub plan_merits : (d lent : List ℕ) (e : Ending) → lent ≡ get_or given 0 d → ((m : ℕ) → MeritsImage lent m → e.number ≡ m) → (m : ℕ) → MeritsOf command given m → e.number ≡ m
   plan_merits d lent e same only m merits = only m (merits_image lent m (source_alone d lent same) merits)
 
 -- a command that reads has something given
 pub some_given : (command : Command) (given : List (List ℕ)) → AreWithin (inputs_of command) given → 0 < length given
-some_given (Ilasm file kind output) given within = there_is (Ilasm file kind output) file kind output given refl within
+some_given (Ilasm file kind optimize output) given within = there_is (Ilasm file kind optimize output) file kind optimize output given refl within
 
 pub given_within : (command : Command) (given : List (List ℕ)) → AreWithin (inputs_of command) given → (d lent : List ℕ) → lent ≡ get_or given 0 d → length lent ≤ 2 ^ 27
-given_within (Ilasm file kind output) given within = source_within (Ilasm file kind output) file kind output given refl within
+given_within (Ilasm file kind optimize output) given within = source_within (Ilasm file kind optimize output) file kind optimize output given refl within
 
 pub given_merits : (command : Command) (given : List (List ℕ)) → AreWithin (inputs_of command) given → (d lent : List ℕ) (e : Ending) → lent ≡ get_or given 0 d
     → ((m : ℕ) → MeritsImage lent m → e.number ≡ m) → (m : ℕ) → MeritsOf command given m → e.number ≡ m
-given_merits (Ilasm file kind output) given within = plan_merits (Ilasm file kind output) file kind output given refl within
+given_merits (Ilasm file kind optimize output) given within = plan_merits (Ilasm file kind optimize output) file kind optimize output given refl within
 
 -- ---- plans
 

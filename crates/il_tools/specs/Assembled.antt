@@ -1,9 +1,10 @@
 -- What a source gives: an image, or a fault.
-use Rattle.std.specs.Prelude.{ℕ, ◌^◌, ◌<◌, ◌≤◌, ◌⊎◌, List, length, take}
+use Rattle.std.specs.Prelude.{◌≡◌, ℕ, ◌^◌, ◌<◌, ◌≤◌, ◌⊎◌, Bool, true, false, List, length, take}
 use Rattle.assembly_tree.specs.Fits.{Fits}
 use Rattle.assembly_tree.specs.Room.{room as room_in}
 use Rattle.assembly_tree.specs.Weight.{weight_of}
 use Rattle.assembly_tree.specs.declared.assembly.Assembly.{Assembly}
+use Rattle.il_shrink.specs.ShrunkAll.{IsShrunkAll}
 use Rattle.image_model.specs.Faults.{Reads}
 use Rattle.image_model.specs.Tidy.{IsTidy}
 use Rattle.pe_layout.specs.declared.parts.Kind.{Kind}
@@ -18,12 +19,20 @@ use Rattle.il_tools.specs.declared.fault.ImageFault.TheVariants as fault
 abbrev pub identifier_of : List ℕ → List ℕ
 identifier_of source = take 16 (sha256 source)
 
--- the image reads as the assembly that the source denotes, is tidy, and has at most as many bytes as the assembly weighs
-pub record IsImageOf (source : List ℕ) (kind : Kind) (image : List ℕ) : Type 0 where
+-- what is written of an assembly: itself, or the one whose bodies have the most short branches
+abbrev pub IsChosen : Bool → Assembly → Assembly → Type 0
+IsChosen false meant written = written ≡ meant
+IsChosen true meant written = IsShrunkAll meant written
+
+-- the image reads as the assembly that the source denotes, or as that with short branches where they are asked for; it is tidy, and
+-- has at most as many bytes as the assembly weighs
+pub record IsImageOf (source : List ℕ) (kind : Kind) (optimize : Bool) (image : List ℕ) : Type 0 where
   pub meant : Assembly
   pub denoted : IsAssemblyOf source meant
   pub fits : Fits meant
-  pub reads : Reads image meant
+  pub written : Assembly
+  pub chosen : IsChosen optimize meant written
+  pub reads : Reads image written
   pub tidy : IsTidy image kind (identifier_of source)
   pub short : length image ≤ weight_of meant
 

@@ -2,7 +2,9 @@
 ghost use Rattle.std.specs.Prelude.{◌≡◌, ℕ, ◌≤◌, ◌^◌, length, IsTrue, IfOk, IfErr};
 ghost use Rattle.assembly_tree.specs.WellFormed.{is_well_formed};
 ghost use Rattle.source_assembly.specs.Reading.{IsAssemblyOf};
-ghost use Rattle.il_tools.specs.Assembled.{identifier_of, IsImageOf, IsRefused};
+ghost use Rattle.assembly_tree.specs.Room.{room};
+ghost use Rattle.assembly_tree.specs.Weight.{weight_of};
+ghost use Rattle.il_tools.specs.Assembled.{identifier_of, IsChosen, IsImageOf, IsRefused};
 ghost use Rattle.il_tools.specs.Commands.{GivesImage, MeritsImage};
 ghost use Rattle.il_tools.specs.Texts.{content_text};
 ghost use Rattle.run_endings.specs.Ends.{says_only};
@@ -12,6 +14,7 @@ use crate::kept::KeptTree;
 use crate::texts::content_message;
 use assembly_tree::Assembly;
 use il_base::{Bytes, NoMemory, Text};
+use il_shrink::shrink_all;
 use image_writer::{WriteFault, write};
 use pe_layout::Kind;
 use run_endings::{Ending, Written, makes, says};
@@ -24,16 +27,17 @@ pub(crate) fn assembled(
     alloc: Global,
     file: &str,
     kind: Kind,
+    optimize: bool,
     output: Text,
     source: &[u8],
     kept: &mut KeptTree,
 ) -> Result<Ending, NoMemory>
     requires { length source.now ≤ 2 ^ 27 }
-    ensures gives { IfOk result (GivesImage file.now kind output source.now) }
+    ensures gives { IfOk result (GivesImage file.now kind optimize output source.now) }
     ensures merits { (m : ℕ) → MeritsImage source.now m → IfOk result (λ e. e.number ≡ m) }
 {
     one_reading();
-    match image_of(alloc, source, kind, kept) {
+    match image_of(alloc, source, kind, optimize, kept) {
         Ok(image) => {
             let ending = makes(alloc, output, Written::from_bytes(image))?;
             Ok(ending)
@@ -60,15 +64,16 @@ fn image_of(
     alloc: Global,
     source: &[u8],
     kind: Kind,
+    optimize: bool,
     kept: &mut KeptTree,
 ) -> Result<Bytes, ImageFault>
     requires { length source.now ≤ 2 ^ 27 }
-    ensures image { IfOk result (IsImageOf source.now kind) }
+    ensures image { IfOk result (IsImageOf source.now kind optimize) }
     ensures fault { IfErr result (IsRefused source.now) }
 {
     match assembly_of(alloc, source) {
         Ok(assembly) => {
-            let image = image_of_assembly(alloc, source, &assembly, kind);
+            let image = image_of_meant(alloc, source, &assembly, kind, optimize);
             kept.keep(assembly);
             image
         }
@@ -77,19 +82,47 @@ fn image_of(
     }
 }
 
-/// The image of the assembly that a source denotes. Its identifier is the front of the source's SHA-256.
+/// The image of the assembly that a source denotes, with short branches where they are asked for.
+fn image_of_meant(
+    alloc: Global,
+    source: &[u8],
+    meant: &Assembly,
+    kind: Kind,
+    optimize: bool,
+) -> Result<Bytes, ImageFault>
+    requires denoted { IsAssemblyOf source.now meant.now }
+    requires formed { IsTrue (is_well_formed meant.now) }
+    ensures image { IfOk result (IsImageOf source.now kind optimize) }
+    ensures fault { IfErr result (IsRefused source.now) }
+{
+    if optimize {
+        match shrink_all(alloc, meant) {
+            Ok(shrunk) => image_of_assembly(alloc, source, meant, &shrunk, kind, true),
+            Err(NoMemory) => Err(ImageFault::NoMemory),
+        }
+    } else {
+        image_of_assembly(alloc, source, meant, meant, kind, false)
+    }
+}
+
+/// The image of what is written of the assembly that a source denotes. Its identifier is the front of the source's SHA-256.
 fn image_of_assembly(
     alloc: Global,
     source: &[u8],
-    assembly: &Assembly,
+    meant: &Assembly,
+    written: &Assembly,
     kind: Kind,
+    optimize: bool,
 ) -> Result<Bytes, ImageFault>
-    requires denoted { IsAssemblyOf source.now assembly.now }
-    requires formed { IsTrue (is_well_formed assembly.now) }
-    ensures image { IfOk result (IsImageOf source.now kind) }
+    requires denoted { IsAssemblyOf source.now meant.now }
+    requires formed { IsTrue (is_well_formed written.now) }
+    requires chosen { IsChosen optimize meant.now written.now }
+    requires weight { weight_of written.now ≡ weight_of meant.now }
+    requires room { room written.now ≡ room meant.now }
+    ensures image { IfOk result (IsImageOf source.now kind optimize) }
     ensures fault { IfErr result (IsRefused source.now) }
 {
-    match write(alloc, assembly, identifier_of(source), kind) {
+    match write(alloc, written, identifier_of(source), kind) {
         Ok(image) => Ok(image),
         Err(WriteFault::TooLarge { .. } | WriteFault::StringsFull { .. }) => {
             Err(ImageFault::Content(ContentFault::TooLarge))

@@ -76,11 +76,17 @@ fn plan(
     ensures merits { (m : ℕ) → MeritsOf command given.now m → IfOk result (λ e. e.number ≡ m) }
 {
     match command {
-        Command::Ilasm { file, kind, output } => {
+        Command::Ilasm {
+            file,
+            kind,
+            optimize,
+            output,
+        } => {
             let ending = assembled(
                 alloc,
                 file.as_str(),
                 kind,
+                optimize,
                 output,
                 given[0].as_slice(),
                 kept,

@@ -13,7 +13,7 @@ use thiserror::Error;
 const HELP: &str = "\
 iltool: tools for .NET's intermediate language
 
-  iltool ilasm FILE [-dll or -exe] [-output=NAME]
+  iltool ilasm FILE [-dll or -exe] [-output=NAME] [-optimize]
                             assembles FILE to a program, or with -dll to a library
   iltool COMMAND --help     prints what a command does
   iltool --help             prints this text
@@ -24,7 +24,7 @@ written, 5 a file is too long, 6 no memory.
 ";
 
 const ILASM_HELP: &str = "\
-iltool ilasm FILE [-dll or -exe] [-output=NAME]
+iltool ilasm FILE [-dll or -exe] [-output=NAME] [-optimize]
 
 Assembles the source FILE, in the language of ECMA-335, to a PE32 image. Options stand before or
 behind FILE, each at most once.
@@ -32,6 +32,7 @@ behind FILE, each at most once.
   -exe            the image is a program (so it is where nothing is said)
   -dll            the image is a library
   -output=NAME    the image is named NAME, or else as FILE with .exe or .dll in place of .il
+  -optimize       each branch is short where it can be, whatever form the source gives it
 
 Status, and what is said on standard error:
   0   the image is written; nothing is said

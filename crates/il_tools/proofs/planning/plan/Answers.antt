@@ -10,7 +10,7 @@ assembled-requires c = given_within c.args.command c.args.given.now c.requires c
 
 pub returns-clause-gives : goal.returns-clause-gives
 returns-clause-gives c =
-    plan_gives c.args.command _ _ _ c.args.given.now (search rules) c.requires
+    plan_gives c.args.command _ _ _ _ c.args.given.now (search rules) c.requires
     c.index-given-0.result c.as_slice.result.now c.as_str.result.now c.in_ok-ending.ending (c.as_slice.ensures ∙ c.index-given-0.is) c.as_str.ensures c.in_ok-ending.ensures.gives
 
 pub returns-clause-merits : goal.returns-clause-merits
