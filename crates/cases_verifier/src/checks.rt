@@ -105,8 +105,10 @@ fn show_report(
 ///
 /// The answer couldn't be written, or there was no memory.
 pub fn show_counts(rt: &HostRuntime, linked: &Linked, w: &mut World) -> Result<(), Fault>
+    ghost sources: { Sources }
     requires fit { IsFit linked.now.image }
-    requires world { IsWorldSince (sources linked.now.image linked.now.references) w.old }
+    requires image { sources.image ≡ linked.now.image }
+    requires world { IsWorldSince sources w.old }
 {
     let image = &linked.image;
     let counts = count(image);

@@ -1,5 +1,4 @@
-use Rattle.type_hierarchy.specs.Scopes.{sources}
 use Rattle.cases_verifier.proofs.checks.show_counts.Given as goal
 
 abbrev pub ghost-check_all : goal.ghost-check_all
-ghost-check_all a = sources a.linked.now.image a.linked.now.references
+ghost-check_all g a = g.sources
