@@ -17,7 +17,7 @@ use Rattle.pe_layout.specs.Fields.{round_up}
 use Rattle.image_layout.specs.Indexes.{IsHeapIndex, NamesRow, IsIndexIn, HasIndexesIn}
 use Rattle.image_layout.specs.Sizes.{heap_bytes, is_wide, flags_of, heap_flags}
 use Rattle.image_tokens.specs.declared.references.References.{References}
-use Rattle.image_rows.specs.Pushing.{Tables}
+use Rattle.image_members.specs.Pushing.{Tables}
 
 -- ---- the byte of heap sizes
 

@@ -11,7 +11,7 @@ use Rattle.pe_layout.specs.Fields.{round_up}
 use Rattle.image_layout.specs.Laws.{ReadsTables, TablesAreRead}
 use Rattle.image_layout.specs.Sizes.{heap_flags}
 use Rattle.image_tokens.specs.declared.references.References.{References}
-use Rattle.image_rows.specs.Pushing.{Tables}
+use Rattle.image_members.specs.Pushing.{Tables}
 
 -- what fills a stream up
 pub filling : List ℕ → List ℕ

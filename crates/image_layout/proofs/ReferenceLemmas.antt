@@ -10,7 +10,7 @@ use Rattle.image_layout.specs.Referred.{first_cells, LacksReferences, KeepsOther
 use Rattle.image_tokens.specs.declared.references.References.{References}
 use Rattle.image_tokens.specs.declared.row_set.Cells.{Cells}
 use Rattle.image_rows.specs.Filled.{HoldsReferences}
-use Rattle.image_rows.specs.Pushing.{Tables, AddsRows}
+use Rattle.image_members.specs.Pushing.{Tables, AddsRows}
 
 -- ---- one table
 

@@ -16,7 +16,7 @@ use Rattle.pe_layout.specs.CliHeader.{metadata_of, metadata_size_of}
 use Rattle.pe_layout.specs.Fields.{round_up}
 use Rattle.image_layout.specs.LaidOut.{HoldsMetadata, HoldsParts}
 use Rattle.image_tokens.specs.declared.references.References.{References}
-use Rattle.image_rows.specs.Pushing.{Tables}
+use Rattle.image_members.specs.Pushing.{Tables}
 
 -- ---- the stream with a name
 

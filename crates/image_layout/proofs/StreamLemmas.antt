@@ -14,7 +14,7 @@ use Rattle.metadata_tables.specs.Stream.{heap_sizes, row_count, width, columns_s
 use Rattle.metadata_tables.specs.declared.schema.Column.{Column}
 use Rattle.metadata_tables.specs.declared.schema.Column.TheVariants.{Number, Strings, Guids, Blobs, Row, Run, Tagged}
 use Rattle.image_layout.specs.Sizes.{widest, widest_row, rows_bytes, stream_bytes}
-use Rattle.image_rows.specs.Pushing.{Tables}
+use Rattle.image_members.specs.Pushing.{Tables}
 
 four_or_two : (b : Bool) → cond b 4 2 ≤ 4
 four_or_two true = omega arith

@@ -9,7 +9,7 @@ use Rattle.metadata_tables.specs.declared.coded.Coded.{Coded}
 use Rattle.metadata_tables.specs.declared.schema.Column.{Column}
 use Rattle.metadata_tables.specs.declared.schema.Column.TheVariants.{Number, Strings, Guids, Blobs, Row, Run, Tagged}
 use Rattle.image_tokens.specs.declared.references.References.{References}
-use Rattle.image_rows.specs.Pushing.{Tables}
+use Rattle.image_members.specs.Pushing.{Tables}
 
 -- an index of a heap: 0, where each heap has its empty entry, or one inside its bytes (II.24.2.3, II.24.2.4)
 abbrev pub IsHeapIndex : List ℕ → ℕ → Type 0

@@ -16,7 +16,7 @@ use Rattle.pe_layout.specs.declared.parts.Kind.{Kind}
 use Rattle.pe_layout.specs.declared.parts.ManifestNumbers.{ManifestNumbers}
 use Rattle.image_tokens.specs.declared.references.References.{References}
 use Rattle.image_layout.specs.Sizes.{heap_flags}
-use Rattle.image_rows.specs.Pushing.{Tables}
+use Rattle.image_members.specs.Pushing.{Tables}
 
 -- the metadata with the streams of these rows and of the heaps of these references, and with one identifier
 pub record HoldsParts (r : References) (tables : Tables) (id metadata : List ℕ) : Type 0 where

@@ -10,7 +10,7 @@ use Rattle.metadata_tables.specs.Stream.{heap_sizes, row_count, cell}
 use Rattle.image_tokens.specs.declared.references.References.{References}
 use Rattle.image_layout.specs.LaidOut.{HoldsMetadata}
 use Rattle.image_layout.specs.Sizes.{heap_flags}
-use Rattle.image_rows.specs.Pushing.{Tables}
+use Rattle.image_members.specs.Pushing.{Tables}
 
 -- the stream of tables has these rows, and no others
 pub record ReadsTables (r : References) (tables : Tables) (image : List ℕ) : Type 0 where

@@ -4,7 +4,7 @@ use Rattle.std.specs.Prelude.{◌≡◌, ◌≢◌, ℕ, List, [], take}
 use Rattle.metadata_tables.specs.Encoding.{rows_of}
 use Rattle.image_tokens.specs.declared.row_set.Cells.{Cells}
 use Rattle.image_rows.specs.Filled.{three_cells}
-use Rattle.image_rows.specs.Pushing.{Tables}
+use Rattle.image_members.specs.Pushing.{Tables}
 
 -- as many cells of a row as its table has columns
 abbrev pub first_cells : ℕ → Cells → List ℕ

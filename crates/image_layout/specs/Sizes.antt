@@ -7,7 +7,7 @@ use Rattle.metadata_tables.specs.Schema.{columns_of}
 use Rattle.metadata_tables.specs.declared.schema.Column.{Column}
 use Rattle.metadata_tables.specs.declared.schema.Column.TheVariants.{Number, Strings, Guids, Blobs, Row, Run, Tagged}
 use Rattle.image_tokens.specs.declared.references.References.{References}
-use Rattle.image_rows.specs.Pushing.{Tables}
+use Rattle.image_members.specs.Pushing.{Tables}
 
 -- the heaps of texts, blobs and user strings
 unfoldable pub heap_bytes : References → ℕ

@@ -5,7 +5,7 @@ ghost use Rattle.metadata_tables.specs.Encoding.{rows_of, IsRowOf};
 ghost use Rattle.image_tokens.specs.declared.row_set.Cells.{Cells};
 ghost use Rattle.image_layout.specs.Referred.{first_cells, LacksReferences, KeepsOthers};
 ghost use Rattle.image_rows.specs.Filled.{HoldsReferences};
-ghost use Rattle.image_rows.specs.Pushing.{AddsRows};
+ghost use Rattle.image_members.specs.Pushing.{AddsRows};
 
 use il_base::NoMemory;
 use image_tokens::references::References;

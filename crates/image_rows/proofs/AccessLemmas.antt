@@ -3,13 +3,13 @@ use Rattle.std.proofs.Common.{◌≡◌, ap, ◌∙◌, refl, ℕ, ◌+◌, List
 use Rattle.std.proofs.lemmas.List.Sums.{sum_by-cons}
 use Rattle.assembly_tree.specs.declared.assembly.Assembly.{Assembly}
 use Rattle.assembly_tree.specs.declared.members.Accessor.{Accessor}
-use Rattle.image_rows.specs.DeclaredMembers.{class_methods}
-use Rattle.image_rows.specs.Lists.{access_of, access_from, event_access, property_access, accessor_lists}
+use Rattle.image_members.specs.DeclaredMembers.{class_methods}
+use Rattle.image_members.specs.Lists.{access_of, access_from, event_access, property_access, accessor_lists}
 use Rattle.image_rows.specs.SemanticsRows.{methods_of, with_methods}
-use Rattle.image_rows.specs.declared.classes.Class.{Class}
+use Rattle.image_members.specs.declared.classes.Class.{Class}
 use Rattle.image_rows.specs.declared.semantics_rows.Access.{Access}
 use Rattle.image_rows.specs.declared.semantics_rows.Accessing.{Accessing}
-use Rattle.image_rows.proofs.PlaceLemmas.{FilledTo, filled_begin, filled_on, filled_end}
+use Rattle.image_members.proofs.PlaceLemmas.{FilledTo, filled_begin, filled_on, filled_end}
 
 abbrev pub access_by : {X : Type 0} → (X → List Accessor) → ℕ → X → List (ℕ × ℕ)
 access_by of first x = access_of first (of x)

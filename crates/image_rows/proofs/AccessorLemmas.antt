@@ -9,13 +9,13 @@ use Rattle.metadata_tables.specs.Laws.{RowOfColumns}
 use Rattle.metadata_tables.specs.Schema.{schema}
 use Rattle.metadata_tables.specs.declared.coded.Coded.TheVariants.{HasSemantics}
 use Rattle.assembly_tree.specs.declared.members.Accessor.{Accessor}
-use Rattle.image_rows.specs.ByNumber.{or_none, owned_in}
+use Rattle.image_members.specs.ByNumber.{or_none, owned_in}
 use Rattle.image_tokens.specs.Indexes.{index_of}
-use Rattle.image_rows.specs.Pushing.{Tables, AddsRows}
+use Rattle.image_members.specs.Pushing.{Tables, AddsRows}
 use Rattle.image_rows.specs.SemanticsRows.{accessors_with, methods_of, accessors_in, semantics_row, CanAddAccessors}
 use Rattle.image_rows.specs.declared.semantics_rows.Access.{Access}
 use Rattle.image_rows.specs.declared.semantics_rows.Accessing.{Accessing}
-use Rattle.image_rows.proofs.PushLemmas.{rows_none, rows_one, rows_both, all_front, all_back}
+use Rattle.image_members.proofs.PushLemmas.{rows_none, rows_one, rows_both, all_front, all_back}
 
 pub semantics_cells : RowOfColumns → (kind method association : ℕ) → kind < 2 ^ 16 → IsRowOf 0x18 (kind ∷ method ∷ association ∷ [])
 unfolding schema

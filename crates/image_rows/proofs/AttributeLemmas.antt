@@ -11,13 +11,13 @@ use Rattle.image_tokens.specs.Blobs.{HoldsBlob}
 use Rattle.image_tokens.specs.Indexes.{index_of_token}
 use Rattle.image_tokens.specs.KnownTokens.{methods_apart}
 use Rattle.image_tokens.specs.Members.{Leaves, HasMethod}
-use Rattle.image_rows.specs.Pushing.{Tables, Pushes}
+use Rattle.image_members.specs.Pushing.{Tables, Pushes}
 use Rattle.image_tokens.specs.References.{Grows, Goes, size}
 use Rattle.image_tokens.specs.declared.references.References.{References}
 use Rattle.image_tokens.proofs.BodyLemmas.{method_can}
 use Rattle.image_tokens.proofs.GrowthLemmas.{grows_trans, token_kept}
-use Rattle.image_rows.proofs.KindLemmas.{RowKind, one_pushed}
-use Rattle.image_rows.proofs.ManifestLemmas.{blob_kept}
+use Rattle.image_members.proofs.KindLemmas.{RowKind, one_pushed}
+use Rattle.image_members.proofs.ManifestLemmas.{blob_kept}
 
 pub attribute_cells : RowOfColumns → (parent constructor value : ℕ) → IsRowOf 0x0C (parent ∷ constructor ∷ value ∷ [])
 unfolding schema

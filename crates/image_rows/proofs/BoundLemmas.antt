@@ -7,15 +7,15 @@ use Rattle.metadata_tables.specs.Schema.{schema}
 use Rattle.assembly_tree.specs.Weight.{owner_weight}
 use Rattle.assembly_tree.specs.declared.members.Generic.{Generic}
 use Rattle.type_terms.specs.declared.term.Owner.{Owner}
-use Rattle.image_rows.specs.GenericRows.{bounds_with, bounds_from, bound_bytes, IsBoundRow, CanPushBound}
+use Rattle.image_members.specs.GenericRows.{bounds_with, bounds_from, bound_bytes, IsBoundRow, CanPushBound}
 use Rattle.image_tokens.specs.Members.{Leaves}
-use Rattle.image_rows.specs.Places.{lent}
-use Rattle.image_rows.specs.Pushing.{Tables, Pushes, CanPush}
+use Rattle.image_members.specs.Places.{lent}
+use Rattle.image_members.specs.Pushing.{Tables, Pushes, CanPush}
 use Rattle.image_tokens.specs.References.{Grows}
-use Rattle.image_rows.specs.TypeIndexes.{IsTypeIndex}
+use Rattle.image_members.specs.TypeIndexes.{IsTypeIndex}
 use Rattle.image_tokens.specs.declared.references.References.{References}
 use Rattle.image_rows.proofs.EventLemmas.{type_index_kept}
-use Rattle.image_rows.proofs.KindLemmas.{RowKind, Pushing, begin, front, go_on, end, one_pushed}
+use Rattle.image_members.proofs.KindLemmas.{RowKind, Pushing, begin, front, go_on, end, one_pushed}
 use Rattle.image_tokens.proofs.WritableLemmas.{still_writable_owner}
 
 pub bound_cells : RowOfColumns → (row type : ℕ) → IsRowOf 0x2C (row ∷ type ∷ [])

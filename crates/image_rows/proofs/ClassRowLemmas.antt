@@ -11,10 +11,10 @@ use Rattle.assembly_tree.specs.declared.typedef.Layout.{Layout}
 use Rattle.assembly_tree.specs.declared.typedef.TypeDef.TheViews.{out-TypeDef}
 use Rattle.image_rows.specs.FieldRows.{stated_offset, offset_rows}
 use Rattle.image_rows.specs.ClassRows.{encloser_rows, stated_rows, nested_rows, layout_rows}
-use Rattle.image_rows.specs.Places.{lent}
-use Rattle.image_rows.specs.Pushing.{Tables, AddsRows}
-use Rattle.image_rows.specs.declared.classes.Class.{Class}
-use Rattle.image_rows.proofs.PushLemmas.{rows_none, rows_one, rows_both}
+use Rattle.image_members.specs.Places.{lent}
+use Rattle.image_members.specs.Pushing.{Tables, AddsRows}
+use Rattle.image_members.specs.declared.classes.Class.{Class}
+use Rattle.image_members.proofs.PushLemmas.{rows_none, rows_one, rows_both}
 
 pub nested_cells : RowOfColumns → (row encloser : ℕ) → IsRowOf 0x29 (row ∷ encloser ∷ [])
 unfolding schema

@@ -15,11 +15,11 @@ use Rattle.assembly_tree.specs.declared.members.Property.{Property}
 use Rattle.assembly_tree.specs.declared.typedef.TypeDef.{TypeDef}
 use Rattle.assembly_tree.specs.declared.typedef.TypeDef.TheViews.{out-TypeDef}
 use Rattle.assembly_tree.specs.declared.typedef.TypeDef.TheFolds.{fold_out-TypeDef}
-use Rattle.image_rows.specs.Classes.{AreClasses, none, more}
+use Rattle.image_members.specs.Classes.{AreClasses, none, more}
 use Rattle.image_rows.specs.Counts.{declared_rows}
-use Rattle.image_rows.specs.DeclaredMembers.{class_fields, class_methods}
-use Rattle.image_rows.specs.Places.{all_fields, all_methods, class_properties, class_events, params_of}
-use Rattle.image_rows.specs.declared.classes.Class.{Class}
+use Rattle.image_members.specs.DeclaredMembers.{class_fields, class_methods}
+use Rattle.image_members.specs.Places.{all_fields, all_methods, class_properties, class_events, params_of}
+use Rattle.image_members.specs.declared.classes.Class.{Class}
 
 -- ---- items of 64 each
 

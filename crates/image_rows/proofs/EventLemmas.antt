@@ -8,12 +8,12 @@ use Rattle.assembly_tree.specs.declared.members.Event.{Event}
 use Rattle.type_terms.specs.declared.term.Owner.{Owner}
 use Rattle.image_rows.specs.EventRows.{event_bytes, IsEventRow, CanPushEvent}
 use Rattle.image_tokens.specs.Members.{Leaves, IsTextAt}
-use Rattle.image_rows.specs.Pushing.{Tables, Pushes}
+use Rattle.image_members.specs.Pushing.{Tables, Pushes}
 use Rattle.image_tokens.specs.References.{Grows, size}
-use Rattle.image_rows.specs.TypeIndexes.{IsTypeIndex}
+use Rattle.image_members.specs.TypeIndexes.{IsTypeIndex}
 use Rattle.image_tokens.specs.declared.references.References.{References}
 use Rattle.image_tokens.proofs.GrowthLemmas.{grows_trans, tokens_kept}
-use Rattle.image_rows.proofs.KindLemmas.{RowKind, one_pushed}
+use Rattle.image_members.proofs.KindLemmas.{RowKind, one_pushed}
 use Rattle.image_tokens.proofs.PathLemmas.{text_kept}
 use Rattle.image_tokens.proofs.WritableLemmas.{still_writable_owner}
 

@@ -10,13 +10,13 @@ use Rattle.metadata_tables.specs.Laws.{RowOfColumns}
 use Rattle.metadata_tables.specs.Schema.{schema}
 use Rattle.assembly_tree.specs.declared.members.Field.{Field}
 use Rattle.image_rows.specs.FieldRows.{field_flags, IsFieldRow, IsFieldAt, AddsItems}
-use Rattle.image_rows.specs.Places.{lent}
-use Rattle.image_rows.specs.Pushing.{Tables, AddsRows}
+use Rattle.image_members.specs.Places.{lent}
+use Rattle.image_members.specs.Pushing.{Tables, AddsRows}
 use Rattle.image_tokens.specs.declared.references.References.{References}
 use Rattle.image_tokens.specs.declared.row_set.Cells.{Cells}
-use Rattle.image_rows.proofs.PushLemmas.{rows_none, rows_both}
+use Rattle.image_members.proofs.PushLemmas.{rows_none, rows_both}
 use Rattle.image_tokens.proofs.RowLemmas.{at_index}
-use Rattle.image_rows.proofs.ZipLemmas.{zip_both, zip_long}
+use Rattle.image_members.proofs.ZipLemmas.{zip_both, zip_long}
 
 pub field_cells : RowOfColumns → (flags name signature : ℕ) → flags < 2 ^ 16 → IsRowOf 0x04 (flags ∷ name ∷ signature ∷ [])
 unfolding schema

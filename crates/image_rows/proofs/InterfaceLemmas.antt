@@ -13,18 +13,18 @@ use Rattle.assembly_tree.specs.Weight.{owner_weight}
 use Rattle.type_terms.specs.declared.term.Owner.{Owner}
 use Rattle.image_rows.specs.InterfaceRows.{class_interfaces, interfaces_from, count_interfaces, interface_bytes, joined, AreIndexes, AreInterfaceRows, PushesInterfaces, FindsIndexes, IsRising, CanPushInterfaces}
 use Rattle.image_tokens.specs.Members.{Leaves}
-use Rattle.image_rows.specs.Pushing.{Tables, AddsRows}
+use Rattle.image_members.specs.Pushing.{Tables, AddsRows}
 use Rattle.image_tokens.specs.References.{size, Grows, AreKnown}
-use Rattle.image_rows.specs.TypeIndexes.{IsTypeIndex}
+use Rattle.image_members.specs.TypeIndexes.{IsTypeIndex}
 use Rattle.image_tokens.specs.Writable.{IsOwnerWritable}
-use Rattle.image_rows.specs.declared.classes.Class.{Class}
+use Rattle.image_members.specs.declared.classes.Class.{Class}
 use Rattle.image_tokens.specs.declared.references.References.{References}
 use Rattle.image_rows.proofs.EventLemmas.{type_index_kept}
 use Rattle.image_tokens.proofs.GrowthLemmas.{grows_refl, grows_trans}
 use Rattle.image_tokens.proofs.NameLemmas.{all_weaker}
-use Rattle.image_rows.proofs.PushLemmas.{rows_none, rows_one, rows_both}
+use Rattle.image_members.proofs.PushLemmas.{rows_none, rows_one, rows_both}
 use Rattle.image_tokens.proofs.WritableLemmas.{still_writable_owner}
-use Rattle.image_rows.proofs.ZipLemmas.{zip_both, zip_long, zip_later}
+use Rattle.image_members.proofs.ZipLemmas.{zip_both, zip_long, zip_later}
 
 pub interface_cells : RowOfColumns → (type index : ℕ) → IsRowOf 0x09 (type ∷ index ∷ [])
 unfolding schema

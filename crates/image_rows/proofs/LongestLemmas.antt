@@ -1,6 +1,6 @@
 -- The longest of some tables.
 use Rattle.std.proofs.Common.{◌≡◌, ap, ℕ, List, [], ◌∷◌, length, max, arith}
-use Rattle.image_rows.specs.Lists.{Owned, longest_of}
+use Rattle.image_members.specs.Lists.{Owned, longest_of}
 
 -- that of all tables is the longest so far or among the rest
 pub record LongestTo {X : Type 0} (longest : ℕ) (all rest : List (Owned X)) : Type 0 where

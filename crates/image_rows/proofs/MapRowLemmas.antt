@@ -9,10 +9,10 @@ use Rattle.metadata_tables.specs.Indexes.{run_cell}
 use Rattle.metadata_tables.specs.Laws.{RowOfColumns}
 use Rattle.metadata_tables.specs.Schema.{schema}
 use Rattle.image_rows.specs.MapRows.{run_rows, map_rows}
-use Rattle.image_rows.specs.Pushing.{Tables, AddsRows}
-use Rattle.image_rows.specs.declared.classes.Class.{Class}
-use Rattle.image_rows.proofs.EmptinessLemmas.{no_front, no_back}
-use Rattle.image_rows.proofs.PushLemmas.{rows_none, rows_one, rows_both}
+use Rattle.image_members.specs.Pushing.{Tables, AddsRows}
+use Rattle.image_members.specs.declared.classes.Class.{Class}
+use Rattle.image_members.proofs.EmptinessLemmas.{no_front, no_back}
+use Rattle.image_members.proofs.PushLemmas.{rows_none, rows_one, rows_both}
 
 pub event_map_cells : RowOfColumns → (row cell : ℕ) → IsRowOf 0x12 (row ∷ cell ∷ [])
 unfolding schema

@@ -11,12 +11,12 @@ use Rattle.metadata_tables.specs.Schema.{schema}
 use Rattle.assembly_tree.specs.declared.members.Method.{Method}
 use Rattle.image_rows.specs.FieldRows.{AddsItems}
 use Rattle.image_rows.specs.MethodRows.{PlacedMethod, placed_methods, method_cells, IsMethodRow, IsMethodAt}
-use Rattle.image_rows.specs.Places.{lent, params_of}
-use Rattle.image_rows.specs.Pushing.{Tables, AddsRows}
+use Rattle.image_members.specs.Places.{lent, params_of}
+use Rattle.image_members.specs.Pushing.{Tables, AddsRows}
 use Rattle.image_tokens.specs.declared.references.References.{References}
 use Rattle.image_tokens.specs.declared.row_set.Cells.{Cells}
 use Rattle.image_rows.proofs.FieldLemmas.{drop_at, lent_long, items_none, items_both}
-use Rattle.image_rows.proofs.ZipLemmas.{zip_long}
+use Rattle.image_members.proofs.ZipLemmas.{zip_long}
 
 pub method_row : RowOfColumns → (rva impl flags name signature run : ℕ) → rva < 2 ^ 32 → impl < 2 ^ 16 → flags < 2 ^ 16 → IsRowOf 0x06 (rva ∷ impl ∷ flags ∷ name ∷ signature ∷ run ∷ [])
 unfolding schema

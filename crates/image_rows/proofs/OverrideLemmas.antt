@@ -13,8 +13,8 @@ use Rattle.image_tokens.specs.Indexes.{index_of, index_of_token}
 use Rattle.image_tokens.specs.KnownTokens.{methods_apart}
 use Rattle.image_tokens.specs.Members.{Leaves, HasMethod}
 use Rattle.image_rows.specs.OverrideRows.{Override, overrides, overrides_from, override_bytes, IsOverrideRow, CanPushOverride}
-use Rattle.image_rows.specs.Places.{lent}
-use Rattle.image_rows.specs.Pushing.{Tables, Pushes, CanPush}
+use Rattle.image_members.specs.Places.{lent}
+use Rattle.image_members.specs.Pushing.{Tables, Pushes, CanPush}
 use Rattle.image_tokens.specs.References.{Grows}
 use Rattle.image_tokens.specs.declared.references.Declared.{Declared}
 use Rattle.image_tokens.specs.declared.references.References.{References}
@@ -22,7 +22,7 @@ use Rattle.image_tokens.specs.declared.row_set.Cells.{Cells}
 use Rattle.image_tokens.proofs.BodyLemmas.{method_can}
 use Rattle.image_rows.proofs.FieldLemmas.{drop_at}
 use Rattle.image_tokens.proofs.GrowthLemmas.{token_kept}
-use Rattle.image_rows.proofs.KindLemmas.{RowKind, Pushing, begin, front, go_on, end, one_pushed}
+use Rattle.image_members.proofs.KindLemmas.{RowKind, Pushing, begin, front, go_on, end, one_pushed}
 
 pub override_cells : RowOfColumns → (type body of : ℕ) → IsRowOf 0x19 (type ∷ body ∷ of ∷ [])
 unfolding schema

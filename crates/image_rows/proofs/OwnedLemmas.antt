@@ -14,16 +14,16 @@ use Rattle.assembly_tree.specs.declared.members.Param.{Param}
 use Rattle.assembly_tree.specs.declared.members.Property.{Property}
 use Rattle.assembly_tree.specs.declared.typedef.TypeDef.{TypeDef}
 use Rattle.image_rows.specs.AttributeRows.{tables_of}
-use Rattle.image_rows.specs.ConstantRows.{stated_constant, with_constants}
-use Rattle.image_rows.specs.GenericRows.{counted}
-use Rattle.image_rows.specs.Lists.{Owned, type_attributes, type_generics, class_generics, attribute_lists, constant_lists, generic_lists, generics_in}
-use Rattle.image_rows.specs.Ordered.{IsOrdered}
-use Rattle.image_rows.specs.Places.{lent, type_of}
+use Rattle.image_members.specs.ConstantRows.{stated_constant, with_constants}
+use Rattle.image_members.specs.GenericRows.{counted}
+use Rattle.image_members.specs.Lists.{Owned, type_attributes, type_generics, class_generics, attribute_lists, constant_lists, generic_lists, generics_in}
+use Rattle.image_members.specs.Ordered.{IsOrdered}
+use Rattle.image_members.specs.Places.{lent, type_of}
 use Rattle.image_rows.specs.declared.attribute_rows.Attributed.{Attributed}
-use Rattle.image_rows.specs.declared.classes.Class.{Class}
-use Rattle.image_rows.specs.declared.constant_rows.Valued.{Valued}
-use Rattle.image_rows.specs.declared.generic_rows.Parametric.{Parametric}
-use Rattle.image_rows.specs.declared.order.Ordered.{Ordered}
+use Rattle.image_members.specs.declared.classes.Class.{Class}
+use Rattle.image_members.specs.declared.constant_rows.Valued.{Valued}
+use Rattle.image_members.specs.declared.generic_rows.Parametric.{Parametric}
+use Rattle.image_members.specs.declared.order.Ordered.{Ordered}
 
 -- ---- tables one by one
 

@@ -6,11 +6,11 @@ use Rattle.metadata_tables.specs.Schema.{schema}
 use Rattle.assembly_tree.specs.declared.members.Param.{Param}
 use Rattle.image_tokens.specs.Members.{Leaves, IsTextAt}
 use Rattle.image_rows.specs.ParamRows.{param_flags, IsParamRow, param_bytes, IsPlainParam}
-use Rattle.image_rows.specs.Pushing.{Tables, Pushes}
+use Rattle.image_members.specs.Pushing.{Tables, Pushes}
 use Rattle.image_tokens.specs.References.{Grows, size}
 use Rattle.image_tokens.specs.declared.references.References.{References}
 use Rattle.image_tokens.proofs.PathLemmas.{text_kept}
-use Rattle.image_rows.proofs.PushLemmas.{pushes_one}
+use Rattle.image_members.proofs.PushLemmas.{pushes_one}
 
 pub param_cells : RowOfColumns → (flags number name : ℕ) → flags < 2 ^ 16 → number < 2 ^ 16 → IsRowOf 0x08 (flags ∷ number ∷ name ∷ [])
 unfolding schema

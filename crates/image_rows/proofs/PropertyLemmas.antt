@@ -10,12 +10,12 @@ use Rattle.type_terms.specs.declared.reference.MethodSig.{MethodSig}
 use Rattle.image_tokens.specs.Members.{Leaves, IsTextAt}
 use Rattle.image_tokens.specs.Noted.{IsSigned}
 use Rattle.image_rows.specs.PropertyRows.{property_flags, property_bytes, IsPropertyRow, CanPushProperty}
-use Rattle.image_rows.specs.Pushing.{Tables, Pushes}
+use Rattle.image_members.specs.Pushing.{Tables, Pushes}
 use Rattle.image_tokens.specs.References.{Grows, size}
 use Rattle.image_tokens.specs.Writable.{IsPropertyWritable}
 use Rattle.image_tokens.specs.declared.references.References.{References}
 use Rattle.image_tokens.proofs.GrowthLemmas.{grows_trans, signature_kept}
-use Rattle.image_rows.proofs.KindLemmas.{RowKind, one_pushed}
+use Rattle.image_members.proofs.KindLemmas.{RowKind, one_pushed}
 use Rattle.image_tokens.proofs.PathLemmas.{text_kept}
 use Rattle.image_tokens.proofs.WritableLemmas.{still_writable, still_writable_each}
 

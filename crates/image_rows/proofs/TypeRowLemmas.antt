@@ -11,26 +11,26 @@ use Rattle.metadata_tables.specs.Schema.{schema}
 use Rattle.metadata_tables.specs.declared.coded.Coded.TheVariants.{TypeDefOrRef}
 use Rattle.assembly_tree.specs.declared.typedef.TypeDef.TheViews.{out-TypeDef}
 use Rattle.type_terms.specs.declared.term.Owner.{Owner}
-use Rattle.image_rows.specs.Declaring.{Place, module_place, class_id, class_place, places, HoldsPlace, AreDeclared}
-use Rattle.image_rows.specs.DeclaredMembers.{class_fields, class_methods}
+use Rattle.image_members.specs.Declaring.{Place, module_place, class_id, class_place, places, HoldsPlace, AreDeclared}
+use Rattle.image_members.specs.DeclaredMembers.{class_fields, class_methods}
 use Rattle.image_tokens.specs.Indexes.{index_of_token}
 use Rattle.image_tokens.specs.Noted.{IsOwned}
-use Rattle.image_rows.specs.Pushing.{Tables, Pushes}
+use Rattle.image_members.specs.Pushing.{Tables, Pushes}
 use Rattle.image_tokens.specs.References.{size, tokens_of, Grows, AreKnown}
 use Rattle.image_rows.specs.TypeRows.{Numbered, numbered, base_of, IsBase, IsTypeDefRow, AddsModuleType, StandsAt, CanBeBase, base_weight, numbered_weight, Refers}
 use Rattle.image_tokens.specs.Writable.{IsOwnerWritable}
-use Rattle.image_rows.specs.declared.classes.Class.{Class}
+use Rattle.image_members.specs.declared.classes.Class.{Class}
 use Rattle.image_tokens.specs.declared.references.Declared.{Declared}
 use Rattle.image_tokens.specs.declared.references.References.{References}
 use Rattle.image_tokens.specs.declared.row_set.Cells.{Cells}
-use Rattle.image_rows.proofs.DeclaringLemmas.{place_kept}
+use Rattle.image_members.proofs.DeclaringLemmas.{place_kept}
 use Rattle.image_tokens.proofs.FoundLemmas.{at_map}
 use Rattle.image_tokens.proofs.GrowthLemmas.{grows_refl, tokens_kept}
 use Rattle.image_tokens.proofs.NameLemmas.{all_weaker}
 use Rattle.image_tokens.proofs.PathLemmas.{text_kept}
-use Rattle.image_rows.proofs.PushLemmas.{rows_one, pushes_none, pushes_one, pushes_both, pushes_count}
+use Rattle.image_members.proofs.PushLemmas.{rows_one, pushes_none, pushes_one, pushes_both, pushes_count}
 use Rattle.image_tokens.proofs.WritableLemmas.{still_writable_owner}
-use Rattle.image_rows.proofs.ZipLemmas.{zip_from, zip_later}
+use Rattle.image_members.proofs.ZipLemmas.{zip_from, zip_later}
 
 pub type_cells : RowOfColumns → (flags name space base field method : ℕ) → flags < 2 ^ 32 → IsRowOf 0x02 (flags ∷ name ∷ space ∷ base ∷ field ∷ method ∷ [])
 unfolding schema

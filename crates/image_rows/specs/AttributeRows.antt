@@ -4,10 +4,10 @@ use Rattle.assembly_tree.specs.Weight.{method_ref_weight}
 use Rattle.assembly_tree.specs.declared.members.Attribute.{Attribute}
 use Rattle.metadata_tables.specs.declared.coded.Coded.TheVariants.{HasCustomAttribute, CustomAttributeType}
 use Rattle.image_tokens.specs.Blobs.{HoldsBlob}
-use Rattle.image_rows.specs.ByNumber.{owned_in, owned_at, by_number}
+use Rattle.image_members.specs.ByNumber.{owned_in, owned_at, by_number}
 use Rattle.image_tokens.specs.Indexes.{index_of_token}
 use Rattle.image_tokens.specs.Members.{HasMethod}
-use Rattle.image_rows.specs.Places.{lent}
+use Rattle.image_members.specs.Places.{lent}
 use Rattle.image_tokens.specs.Writable.{IsMethodRefWritable}
 use Rattle.image_rows.specs.declared.attribute_rows.Attributed.{Attributed}
 use Rattle.image_tokens.specs.declared.references.References.{References}

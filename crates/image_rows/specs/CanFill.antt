@@ -5,20 +5,20 @@ use Rattle.assembly_tree.specs.declared.assembly.Assembly.{Assembly}
 use Rattle.image_tokens.specs.Writable.{IsOwnerWritable, IsMethodRefWritable}
 use Rattle.image_tokens.specs.declared.references.References.{References}
 use Rattle.image_rows.specs.AttributeRows.{CanPushAttribute}
-use Rattle.image_rows.specs.CodeBytes.{body_of, CanPushStated}
-use Rattle.image_rows.specs.ConstantRows.{CanPushConstant}
-use Rattle.image_rows.specs.DeclaredMembers.{IsFieldDeclarable, IsMethodDeclarable}
-use Rattle.image_rows.specs.Declaring.{places, class_id, AreApart}
+use Rattle.image_members.specs.CodeBytes.{body_of, CanPushStated}
+use Rattle.image_members.specs.ConstantRows.{CanPushConstant}
+use Rattle.image_members.specs.DeclaredMembers.{IsFieldDeclarable, IsMethodDeclarable}
+use Rattle.image_members.specs.Declaring.{places, class_id, AreApart}
 use Rattle.image_rows.specs.EventRows.{CanPushEvent}
-use Rattle.image_rows.specs.GenericRows.{bounds_from, CanPushBound, CanPushGeneric}
+use Rattle.image_members.specs.GenericRows.{bounds_from, CanPushBound, CanPushGeneric}
 use Rattle.image_rows.specs.InterfaceRows.{interfaces_from}
-use Rattle.image_rows.specs.Lists.{attribute_items, accessor_items, constant_items, generic_items, generics_in, params_in, properties_in, events_in}
-use Rattle.image_rows.specs.ManifestRows.{IsPlainManifest, IsPlainExtern}
+use Rattle.image_members.specs.Lists.{attribute_items, accessor_items, constant_items, generic_items, generics_in, params_in, properties_in, events_in}
+use Rattle.image_members.specs.ManifestRows.{IsPlainManifest, IsPlainExtern}
 use Rattle.image_rows.specs.ParamRows.{IsPlainParam}
-use Rattle.image_rows.specs.Places.{all_fields, all_methods}
+use Rattle.image_members.specs.Places.{all_fields, all_methods}
 use Rattle.image_rows.specs.PropertyRows.{CanPushProperty}
 use Rattle.image_rows.specs.TypeRows.{base_of, CanBeBase}
-use Rattle.image_rows.specs.declared.classes.Class.{Class}
+use Rattle.image_members.specs.declared.classes.Class.{Class}
 use Rattle.image_tokens.specs.Texts.{IsPlainId}
 
 -- the types of an assembly can be declared

@@ -4,7 +4,7 @@ use Rattle.std.specs.Prelude.{ℕ, ◌==◌, if◌then◌else◌, List, [], ◌�
 use Rattle.std.specs.List.{flat_map, enumerate_from}
 use Rattle.assembly_tree.specs.declared.typedef.Layout.{Layout}
 use Rattle.assembly_tree.specs.declared.typedef.TypeDef.TheViews.{out-TypeDef}
-use Rattle.image_rows.specs.declared.classes.Class.{Class}
+use Rattle.image_members.specs.declared.classes.Class.{Class}
 
 -- those of each type in turn, by its row and the type
 abbrev pub class_rows : (ℕ × Class → List (List ℕ)) → List Class → List (List ℕ)

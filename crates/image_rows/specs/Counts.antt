@@ -3,9 +3,9 @@ use Rattle.std.specs.Prelude.{ℕ, ◌+◌, ◌*◌, ◌≤◌, List, length}
 use Rattle.std.specs.List.{flat_map}
 use Rattle.assembly_tree.specs.Weight.{weight_of}
 use Rattle.assembly_tree.specs.declared.assembly.Assembly.{Assembly}
-use Rattle.image_rows.specs.Classes.{AreClasses}
-use Rattle.image_rows.specs.Places.{all_fields, all_methods, class_properties, class_events, params_of}
-use Rattle.image_rows.specs.declared.classes.Class.{Class}
+use Rattle.image_members.specs.Classes.{AreClasses}
+use Rattle.image_members.specs.Places.{all_fields, all_methods, class_properties, class_events, params_of}
+use Rattle.image_members.specs.declared.classes.Class.{Class}
 
 -- types, fields, methods, parameters, properties and events
 abbrev pub declared_rows : Assembly → List Class → ℕ

@@ -3,7 +3,7 @@ use Rattle.std.specs.Prelude.{◌≡◌, ℕ, ◌+◌, List, [], ◌∷◌, leng
 use Rattle.assembly_tree.specs.Weight.{owner_weight}
 use Rattle.assembly_tree.specs.declared.members.Event.{Event}
 use Rattle.image_tokens.specs.Texts.{HasNoZero, HoldsText}
-use Rattle.image_rows.specs.TypeIndexes.{IsTypeIndex}
+use Rattle.image_members.specs.TypeIndexes.{IsTypeIndex}
 use Rattle.image_tokens.specs.Writable.{IsOwnerWritable}
 use Rattle.image_tokens.specs.declared.references.References.{References}
 

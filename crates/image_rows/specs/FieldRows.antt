@@ -3,8 +3,8 @@ use Rattle.std.specs.Prelude.{◌≡◌, ℕ, List, [], ◌∷◌, bit_or, Optio
 use Rattle.std.specs.List.{AllZip}
 use Rattle.assembly_tree.specs.declared.members.Field.{Field}
 use Rattle.sig_codec.specs.Signature.{SpellsField}
-use Rattle.image_rows.specs.DeclaredMembers.{IsFieldOf}
-use Rattle.image_rows.specs.Pushing.{Tables, AddsRows}
+use Rattle.image_members.specs.DeclaredMembers.{IsFieldOf}
+use Rattle.image_members.specs.Pushing.{Tables, AddsRows}
 use Rattle.image_tokens.specs.References.{HasSignature}
 use Rattle.image_tokens.specs.Texts.{HoldsText}
 use Rattle.image_tokens.specs.declared.references.References.{References}

@@ -10,28 +10,28 @@ use Rattle.image_tokens.specs.declared.references.References.{References}
 use Rattle.image_tokens.specs.declared.row_set.Cells.{Cells}
 use Rattle.image_rows.specs.AttributeRows.{IsAttributeRow}
 use Rattle.image_rows.specs.ClassRows.{class_rows, nested_rows, layout_rows}
-use Rattle.image_rows.specs.Classes.{AreClasses}
-use Rattle.image_rows.specs.CodeBytes.{body_of, HasBody}
-use Rattle.image_rows.specs.ConstantRows.{IsConstantRow}
-use Rattle.image_rows.specs.DataRows.{all_data, IsDataRow}
-use Rattle.image_rows.specs.DeclaredMembers.{owned, class_fields, class_methods, IsFieldOf, IsMethodOf}
-use Rattle.image_rows.specs.Declaring.{places, AreDeclared}
+use Rattle.image_members.specs.Classes.{AreClasses}
+use Rattle.image_members.specs.CodeBytes.{body_of, HasBody}
+use Rattle.image_members.specs.ConstantRows.{IsConstantRow}
+use Rattle.image_members.specs.DataRows.{all_data, IsDataRow}
+use Rattle.image_members.specs.DeclaredMembers.{owned, class_fields, class_methods, IsFieldOf, IsMethodOf}
+use Rattle.image_members.specs.Declaring.{places, AreDeclared}
 use Rattle.image_rows.specs.EventRows.{IsEventRow}
 use Rattle.image_rows.specs.FieldRows.{IsFieldRow, offset_rows}
-use Rattle.image_rows.specs.GenericRows.{bounds_from, IsBoundRow, IsGenericRow}
+use Rattle.image_members.specs.GenericRows.{bounds_from, IsBoundRow, IsGenericRow}
 use Rattle.image_rows.specs.InterfaceRows.{interfaces_from, joined, AreInterfaceRows}
-use Rattle.image_rows.specs.Lists.{attribute_items, constant_items, accessor_items, generic_items, generics_in, params_in, properties_in, events_in}
-use Rattle.image_rows.specs.ManifestRows.{IsModuleRow, IsAssemblyRow, IsExternRow}
+use Rattle.image_members.specs.Lists.{attribute_items, constant_items, accessor_items, generic_items, generics_in, params_in, properties_in, events_in}
+use Rattle.image_members.specs.ManifestRows.{IsModuleRow, IsAssemblyRow, IsExternRow}
 use Rattle.image_rows.specs.MapRows.{map_rows, event_count, property_count}
 use Rattle.image_rows.specs.MethodRows.{placed_methods, IsMethodRow}
 use Rattle.image_rows.specs.OverrideRows.{overrides_from, IsOverrideRow}
 use Rattle.image_rows.specs.ParamRows.{IsParamRow}
-use Rattle.image_rows.specs.Places.{all_fields, all_methods}
+use Rattle.image_members.specs.Places.{all_fields, all_methods}
 use Rattle.image_rows.specs.PropertyRows.{IsPropertyRow}
-use Rattle.image_rows.specs.Pushing.{Tables}
+use Rattle.image_members.specs.Pushing.{Tables}
 use Rattle.image_rows.specs.SemanticsRows.{semantics_row}
 use Rattle.image_rows.specs.TypeRows.{numbered, IsModuleType, IsTypeDefRow}
-use Rattle.image_rows.specs.declared.classes.Class.{Class}
+use Rattle.image_members.specs.declared.classes.Class.{Class}
 
 -- a table has a row for each of these items, in order, and no others
 abbrev pub HoldsItems : {X : Type 0} → ℕ → (References → List ℕ → X → Type 0) → List X → References → Tables → Type 0

@@ -6,11 +6,11 @@ use Rattle.assembly_tree.specs.Weight.{owner_weight}
 use Rattle.assembly_tree.specs.declared.typedef.TypeDef.TheViews.{out-TypeDef}
 use Rattle.metadata_tables.specs.Encoding.{rows_in}
 use Rattle.type_terms.specs.declared.term.Owner.{Owner}
-use Rattle.image_rows.specs.Pushing.{Tables, AddsRows}
+use Rattle.image_members.specs.Pushing.{Tables, AddsRows}
 use Rattle.image_tokens.specs.References.{size, Grows, AreKnown}
-use Rattle.image_rows.specs.TypeIndexes.{IsTypeIndex}
+use Rattle.image_members.specs.TypeIndexes.{IsTypeIndex}
 use Rattle.image_tokens.specs.Writable.{IsOwnerWritable}
-use Rattle.image_rows.specs.declared.classes.Class.{Class}
+use Rattle.image_members.specs.declared.classes.Class.{Class}
 use Rattle.image_tokens.specs.declared.references.References.{References}
 
 abbrev pub class_interfaces : Class → List Owner

@@ -2,8 +2,8 @@
 -- II.22.35).
 use Rattle.std.specs.Prelude.{ℕ, ◌+◌, ◌==◌, if◌then◌else◌, List, [], ◌∷◌, ◌++◌, length}
 use Rattle.metadata_tables.specs.Indexes.{run_cell}
-use Rattle.image_rows.specs.Places.{class_properties, class_events}
-use Rattle.image_rows.specs.declared.classes.Class.{Class}
+use Rattle.image_members.specs.Places.{class_properties, class_events}
+use Rattle.image_members.specs.declared.classes.Class.{Class}
 
 -- the row of a type, and the cell where its run of so many items begins, if there are any
 abbrev pub run_rows : (row cell count : ℕ) → List (List ℕ)

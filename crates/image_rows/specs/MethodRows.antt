@@ -3,7 +3,7 @@ use Rattle.std.specs.Prelude.{◌≡◌, ℕ, ◌+◌, List, [], ◌∷◌, leng
 use Rattle.metadata_tables.specs.Indexes.{run_cell}
 use Rattle.assembly_tree.specs.declared.members.Method.{Method}
 use Rattle.sig_codec.specs.Signature.{SpellsMethod}
-use Rattle.image_rows.specs.DeclaredMembers.{IsMethodOf}
+use Rattle.image_members.specs.DeclaredMembers.{IsMethodOf}
 use Rattle.image_tokens.specs.References.{HasSignature}
 use Rattle.image_tokens.specs.Texts.{HoldsText}
 use Rattle.image_tokens.specs.declared.references.References.{References}

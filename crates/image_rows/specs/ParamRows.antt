@@ -3,11 +3,11 @@ use Rattle.std.specs.Prelude.{◌≡◌, ℕ, ◌+◌, List, [], ◌∷◌, ◌+
 use Rattle.std.specs.List.{flat_map}
 use Rattle.assembly_tree.specs.declared.members.Method.{Method}
 use Rattle.assembly_tree.specs.declared.members.Param.{Param}
-use Rattle.image_rows.specs.DeclaredMembers.{class_methods}
+use Rattle.image_members.specs.DeclaredMembers.{class_methods}
 use Rattle.image_rows.specs.FieldRows.{flag_if}
-use Rattle.image_rows.specs.Places.{params_of}
+use Rattle.image_members.specs.Places.{params_of}
 use Rattle.image_tokens.specs.Texts.{HasNoZero, HoldsText}
-use Rattle.image_rows.specs.declared.classes.Class.{Class}
+use Rattle.image_members.specs.declared.classes.Class.{Class}
 use Rattle.image_tokens.specs.declared.references.References.{References}
 
 abbrev pub class_params : Class → List Param

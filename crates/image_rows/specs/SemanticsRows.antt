@@ -4,8 +4,8 @@ use Rattle.std.specs.List.{AllByRecursion}
 use Rattle.metadata_tables.specs.Encoding.{rows_in}
 use Rattle.metadata_tables.specs.declared.coded.Coded.TheVariants.{HasSemantics}
 use Rattle.assembly_tree.specs.declared.members.Accessor.{Accessor}
-use Rattle.image_rows.specs.ByNumber.{owned_in, owned_at, by_number}
-use Rattle.image_rows.specs.Pushing.{Tables}
+use Rattle.image_members.specs.ByNumber.{owned_in, owned_at, by_number}
+use Rattle.image_members.specs.Pushing.{Tables}
 use Rattle.image_rows.specs.declared.semantics_rows.Access.{Access}
 use Rattle.image_rows.specs.declared.semantics_rows.Accessing.{Accessing}
 

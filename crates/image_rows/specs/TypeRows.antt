@@ -5,14 +5,14 @@ use Rattle.assembly_tree.specs.declared.typedef.TypeDef.TheViews.{out-TypeDef}
 use Rattle.metadata_tables.specs.Indexes.{run_cell}
 use Rattle.metadata_tables.specs.declared.coded.Coded.TheVariants.{TypeDefOrRef}
 use Rattle.type_terms.specs.declared.term.Owner.{Owner}
-use Rattle.image_rows.specs.Declaring.{Place, module_id, class_id, HoldsPlace}
-use Rattle.image_rows.specs.DeclaredMembers.{class_fields, class_methods}
+use Rattle.image_members.specs.Declaring.{Place, module_id, class_id, HoldsPlace}
+use Rattle.image_members.specs.DeclaredMembers.{class_fields, class_methods}
 use Rattle.image_tokens.specs.Indexes.{index_of_token}
-use Rattle.image_rows.specs.Pushing.{Tables, AddsRows}
+use Rattle.image_members.specs.Pushing.{Tables, AddsRows}
 use Rattle.image_tokens.specs.References.{tokens_of, size, Grows, AreKnown}
 use Rattle.image_tokens.specs.Texts.{HoldsId}
 use Rattle.image_tokens.specs.Writable.{IsOwnerWritable}
-use Rattle.image_rows.specs.declared.classes.Class.{Class}
+use Rattle.image_members.specs.declared.classes.Class.{Class}
 use Rattle.image_tokens.specs.declared.references.References.{References}
 use Rattle.image_tokens.specs.declared.row_set.Cells.{Cells}
 

@@ -1,16 +1,16 @@
 //! The tables whose rows have accessors, each with those of its rows (ECMA-335 II.22.28).
 ghost use Rattle.std.specs.Prelude.{◌≡◌, ◌↔◌, ◌+◌, ◌^◌, ◌<◌, ◌++◌, [], length, map, sum_by, IsTrue, IfOk, OnOk};
-ghost use Rattle.image_rows.specs.DeclaredMembers.{methods_count, class_methods};
-ghost use Rattle.image_rows.specs.Lists.{access_of, event_access, property_access, access_from, accessor_lists};
-ghost use Rattle.image_rows.specs.Places.{lent};
+ghost use Rattle.image_members.specs.DeclaredMembers.{methods_count, class_methods};
+ghost use Rattle.image_members.specs.Lists.{access_of, event_access, property_access, access_from, accessor_lists};
+ghost use Rattle.image_members.specs.Places.{lent};
 ghost use Rattle.image_rows.specs.SemanticsRows.{methods_of, with_methods};
 
-use crate::carrying::Carries;
-use crate::classes::Class;
-use crate::order::Ordered;
 use crate::semantics_rows::{Access, Accessing};
 use assembly_tree::{Accessors, Assembly};
 use il_base::{Items, NoMemory};
+use image_members::carrying::Carries;
+use image_members::classes::Class;
+use image_members::order::Ordered;
 use image_tokens::tokens::{EVENT, PROPERTY};
 use std::alloc::Global;
 

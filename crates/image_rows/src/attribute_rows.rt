@@ -1,13 +1,13 @@
 //! The rows of CustomAttribute (ECMA-335 II.22.10).
 ghost use Rattle.std.specs.Prelude.{◌≡◌, ℕ, ◌∷◌, [], ◌-◌, ◌^◌, ◌<◌, false, OnOk};
 ghost use Rattle.std.specs.List.{list_any};
-ghost use Rattle.image_rows.specs.Emptiness.{any_has_item};
+ghost use Rattle.image_members.specs.Emptiness.{any_has_item};
 ghost use Rattle.image_rows.specs.AttributeRows.{attributes_with, attributes_in, attributes_at, all_attributes, attribute_bytes, IsAttributeRow, CanPushAttribute};
-ghost use Rattle.image_rows.specs.Pushing.{Pushes, CanPush};
+ghost use Rattle.image_members.specs.Pushing.{Pushes, CanPush};
 
-use crate::emptiness::have_items;
 use assembly_tree::{Attribute, Attributes};
 use il_base::{Items, NoMemory};
+use image_members::emptiness::have_items;
 use image_tokens::blobs::refer_blob;
 use image_tokens::methods::refer_method;
 use image_tokens::references::References;

@@ -1,12 +1,12 @@
 //! The rows of GenericParamConstraint (ECMA-335 II.22.21).
 ghost use Rattle.std.specs.Prelude.{◌∷◌, [], ◌+◌, ◌-◌, ◌^◌, ◌<◌, length, OnOk};
-ghost use Rattle.image_rows.specs.GenericRows.{bounds_with, bounds_from, bound_bytes, IsBoundRow, CanPushBound};
-ghost use Rattle.image_rows.specs.Places.{lent};
-ghost use Rattle.image_rows.specs.Pushing.{Pushes, CanPush};
+ghost use Rattle.image_members.specs.GenericRows.{bounds_with, bounds_from, bound_bytes, IsBoundRow, CanPushBound};
+ghost use Rattle.image_members.specs.Places.{lent};
+ghost use Rattle.image_members.specs.Pushing.{Pushes, CanPush};
 
-use crate::type_indexes::type_index;
 use assembly_tree::Generic;
 use il_base::NoMemory;
+use image_members::type_indexes::type_index;
 use image_tokens::references::References;
 use image_tokens::tokens::GENERIC_PARAM_CONSTRAINT;
 use metadata_tables::{Rows, row_of_columns};

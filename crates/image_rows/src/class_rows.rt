@@ -3,11 +3,11 @@
 ghost use Rattle.std.specs.Prelude.{◌≡◌, ◌+◌, ◌-◌, ◌^◌, ◌<◌, length, OnOk};
 ghost use Rattle.metadata_tables.specs.Encoding.{rows_in};
 ghost use Rattle.image_rows.specs.ClassRows.{class_rows, encloser_rows, nested_rows, stated_rows, layout_rows};
-ghost use Rattle.image_rows.specs.Pushing.{AddsRows};
+ghost use Rattle.image_members.specs.Pushing.{AddsRows};
 
-use crate::classes::Class;
 use assembly_tree::Layout;
 use il_base::NoMemory;
+use image_members::classes::Class;
 use image_tokens::tokens::{CLASS_LAYOUT, NESTED_CLASS};
 use metadata_tables::{Rows, row_of_columns};
 

@@ -1,7 +1,7 @@
 //! Where a program starts (ECMA-335 II.15.4.1.2, II.25.3.3.2).
 ghost use Rattle.std.specs.Prelude.{◌≡◌, ◌^◌, ◌<◌, length};
 ghost use Rattle.image_rows.specs.Filled.{entry_from};
-ghost use Rattle.image_rows.specs.Places.{lent};
+ghost use Rattle.image_members.specs.Places.{lent};
 
 use assembly_tree::Method;
 use image_tokens::tokens::{METHOD_DEF, token_of};

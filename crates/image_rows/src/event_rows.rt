@@ -1,12 +1,12 @@
 //! The rows of Event (ECMA-335 II.22.13).
 ghost use Rattle.std.specs.Prelude.{◌∷◌, [], OnOk};
 ghost use Rattle.image_rows.specs.EventRows.{event_bytes, IsEventRow, CanPushEvent};
-ghost use Rattle.image_rows.specs.Places.{lent};
-ghost use Rattle.image_rows.specs.Pushing.{Pushes, CanPush};
+ghost use Rattle.image_members.specs.Places.{lent};
+ghost use Rattle.image_members.specs.Pushing.{Pushes, CanPush};
 
-use crate::type_indexes::type_index;
 use assembly_tree::Event;
 use il_base::NoMemory;
+use image_members::type_indexes::type_index;
 use image_tokens::members::refer_text;
 use image_tokens::references::References;
 use image_tokens::tokens::EVENT;

@@ -3,8 +3,8 @@ ghost use Rattle.std.specs.Prelude.{◌≡◌, ◌+◌, ◌-◌, ◌^◌, ◌<�
 ghost use Rattle.std.specs.List.{AllZip, flat_map, enumerate_from};
 ghost use Rattle.metadata_tables.specs.Encoding.{rows_in};
 ghost use Rattle.image_rows.specs.FieldRows.{stated_offset, offset_rows, field_flags, IsFieldRow, IsFieldAt, AddsItems};
-ghost use Rattle.image_rows.specs.Places.{lent};
-ghost use Rattle.image_rows.specs.Pushing.{AddsRows};
+ghost use Rattle.image_members.specs.Places.{lent};
+ghost use Rattle.image_members.specs.Pushing.{AddsRows};
 
 use assembly_tree::Field;
 use il_base::NoMemory;

@@ -1,12 +1,12 @@
 //! The generic parameters in the order of their rows (ECMA-335 II.22.20).
 ghost use Rattle.std.specs.Prelude.{◌≡◌, ◌++◌, map, IfOk, OnOk};
-ghost use Rattle.image_rows.specs.GenericRows.{generic_of, generics_in, generics_at, all_generics};
-ghost use Rattle.image_rows.specs.Places.{lent};
+ghost use Rattle.image_members.specs.GenericRows.{generic_of, generics_in, generics_at, all_generics};
+ghost use Rattle.image_members.specs.Places.{lent};
 
-use crate::generic_rows::{Parametric, have_generics};
-use crate::places::add_all;
 use assembly_tree::Generic;
 use il_base::{Items, NoMemory};
+use image_members::generic_rows::{Parametric, have_generics};
+use image_members::places::add_all;
 use std::alloc::Global;
 
 /// The generic parameters of the first `count` rows of each table: by the number of the row, and then in

@@ -4,13 +4,13 @@ ghost use Rattle.std.specs.List.{AllByRecursion};
 ghost use Rattle.assembly_tree.specs.Weight.{owner_weight};
 ghost use Rattle.metadata_tables.specs.Encoding.{rows_in};
 ghost use Rattle.image_rows.specs.InterfaceRows.{interfaces_from, PushesInterfaces, FindsIndexes, IsRising, CanPushInterfaces};
-ghost use Rattle.image_rows.specs.Pushing.{AddsRows};
+ghost use Rattle.image_members.specs.Pushing.{AddsRows};
 ghost use Rattle.image_tokens.specs.References.{size, AreKnown};
 ghost use Rattle.image_tokens.specs.Writable.{IsOwnerWritable};
 
-use crate::classes::Class;
-use crate::type_indexes::type_index;
 use il_base::{Items, NoMemory, Numbers};
+use image_members::classes::Class;
+use image_members::type_indexes::type_index;
 use image_tokens::references::References;
 use image_tokens::tokens::INTERFACE_IMPL;
 use metadata_tables::{Rows, row_of_columns};

@@ -1,15 +1,15 @@
 //! How many rows the longest of some tables has.
 ghost use Rattle.std.specs.Prelude.{◌≡◌, ◌^◌, ◌<◌, map};
 ghost use Rattle.image_rows.specs.AttributeRows.{tables_of};
-ghost use Rattle.image_rows.specs.ConstantRows.{with_constants};
-ghost use Rattle.image_rows.specs.GenericRows.{counted};
-ghost use Rattle.image_rows.specs.Lists.{longest_of};
+ghost use Rattle.image_members.specs.ConstantRows.{with_constants};
+ghost use Rattle.image_members.specs.GenericRows.{counted};
+ghost use Rattle.image_members.specs.Lists.{longest_of};
 ghost use Rattle.image_rows.specs.SemanticsRows.{with_methods};
 
 use crate::attribute_rows::Attributed;
-use crate::constant_rows::Valued;
-use crate::generic_rows::Parametric;
 use crate::semantics_rows::Accessing;
+use image_members::constant_rows::Valued;
+use image_members::generic_rows::Parametric;
 
 /// How many rows the longest of these tables has.
 pub fn longest_attributed(tables: &[Attributed]) -> u32

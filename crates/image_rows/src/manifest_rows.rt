@@ -3,8 +3,8 @@
 ghost use Rattle.std.specs.Prelude.{◌≡◌, ◌+◌, ◌-◌, ◌^◌, ◌<◌, ◌≤◌, ◌∷◌, [], length, sum_by, OnOk};
 ghost use Rattle.std.specs.List.{AllByRecursion};
 ghost use Rattle.metadata_tables.specs.Encoding.{rows_in, IsRowOf};
-ghost use Rattle.image_rows.specs.ManifestRows.{assembly_cells, extern_cells, IsModuleRow, IsAssemblyRow, IsExternRow, module_bytes, assembly_bytes, extern_bytes, IsPlainManifest, IsPlainExtern};
-ghost use Rattle.image_rows.specs.Pushing.{Pushes};
+ghost use Rattle.image_members.specs.ManifestRows.{assembly_cells, extern_cells, IsModuleRow, IsAssemblyRow, IsExternRow, module_bytes, assembly_bytes, extern_bytes, IsPlainManifest, IsPlainExtern};
+ghost use Rattle.image_members.specs.Pushing.{Pushes};
 ghost use Rattle.image_tokens.specs.References.{size, AreKnown};
 
 use assembly_tree::{ExternAssembly, Manifest};

@@ -3,12 +3,12 @@ ghost use Rattle.std.specs.Prelude.{◌≡◌, ◌+◌, ◌-◌, ◌^◌, ◌<�
 ghost use Rattle.std.specs.List.{flat_map};
 ghost use Rattle.metadata_tables.specs.Encoding.{rows_in, IsRowOf};
 ghost use Rattle.image_rows.specs.MapRows.{run_rows, map_rows, event_count, property_count};
-ghost use Rattle.image_rows.specs.Places.{lent, class_events, class_properties};
-ghost use Rattle.image_rows.specs.Pushing.{AddsRows};
+ghost use Rattle.image_members.specs.Places.{lent, class_events, class_properties};
+ghost use Rattle.image_members.specs.Pushing.{AddsRows};
 
-use crate::classes::Class;
 use assembly_tree::{Event, Property};
 use il_base::NoMemory;
+use image_members::classes::Class;
 use image_tokens::tokens::{EVENT_MAP, PROPERTY_MAP, run_cell};
 use metadata_tables::{Rows, row_of_columns};
 

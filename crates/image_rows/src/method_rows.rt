@@ -4,8 +4,8 @@ ghost use Rattle.std.specs.List.{AllZip};
 ghost use Rattle.metadata_tables.specs.Encoding.{rows_in};
 ghost use Rattle.image_rows.specs.FieldRows.{AddsItems};
 ghost use Rattle.image_rows.specs.MethodRows.{placed_methods, method_cells, IsMethodRow, IsMethodAt};
-ghost use Rattle.image_rows.specs.Places.{lent, params_of};
-ghost use Rattle.image_rows.specs.Pushing.{AddsRows};
+ghost use Rattle.image_members.specs.Places.{lent, params_of};
+ghost use Rattle.image_members.specs.Pushing.{AddsRows};
 
 use assembly_tree::Method;
 use il_base::NoMemory;

@@ -1,8 +1,8 @@
 //! The rows of MethodImpl (ECMA-335 II.22.27).
 ghost use Rattle.std.specs.Prelude.{◌≡◌, ◌+◌, ◌^◌, ◌<◌, ◌∷◌, [], length, OnOk};
 ghost use Rattle.image_rows.specs.OverrideRows.{overrides, overrides_from, override_bytes, IsOverrideRow, CanPushOverride};
-ghost use Rattle.image_rows.specs.Places.{lent};
-ghost use Rattle.image_rows.specs.Pushing.{Pushes, CanPush};
+ghost use Rattle.image_members.specs.Places.{lent};
+ghost use Rattle.image_members.specs.Pushing.{Pushes, CanPush};
 
 use assembly_tree::Method;
 use il_base::NoMemory;

@@ -3,20 +3,20 @@
 ghost use Rattle.std.specs.Prelude.{◌≡◌, ◌∷◌, [], ◌++◌, List, map, IfOk, OnOk};
 ghost use Rattle.assembly_tree.specs.declared.assembly.Assembly.{Assembly};
 ghost use Rattle.image_rows.specs.AttributeRows.{tables_of};
-ghost use Rattle.image_rows.specs.ConstantRows.{with_constants};
-ghost use Rattle.image_rows.specs.GenericRows.{counted};
-ghost use Rattle.image_rows.specs.Lists.{attribute_lists, constant_lists, generic_lists, generics_in};
-ghost use Rattle.image_rows.specs.Ordered.{IsOrdered};
-ghost use Rattle.image_rows.specs.Places.{lent};
-ghost use Rattle.image_rows.specs.declared.classes.Class.{Class};
+ghost use Rattle.image_members.specs.ConstantRows.{with_constants};
+ghost use Rattle.image_members.specs.GenericRows.{counted};
+ghost use Rattle.image_members.specs.Lists.{attribute_lists, constant_lists, generic_lists, generics_in};
+ghost use Rattle.image_members.specs.Ordered.{IsOrdered};
+ghost use Rattle.image_members.specs.Places.{lent};
+ghost use Rattle.image_members.specs.declared.classes.Class.{Class};
 
 use crate::attribute_rows::Attributed;
-use crate::carrying::{Carries, all_carried, carried_after};
-use crate::constant_rows::Valued;
-use crate::generic_rows::Parametric;
-use crate::order::Ordered;
 use assembly_tree::{Assembly, Attributes, Generic, Generics};
 use il_base::{Items, NoMemory};
+use image_members::carrying::{Carries, all_carried, carried_after};
+use image_members::constant_rows::Valued;
+use image_members::generic_rows::Parametric;
+use image_members::order::Ordered;
 use image_tokens::tokens::{
     ASSEMBLY, EVENT, FIELD, GENERIC_PARAM, METHOD_DEF, MODULE, PARAM, PROPERTY, TYPE_DEF,
 };

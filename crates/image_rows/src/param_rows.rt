@@ -3,8 +3,8 @@ ghost use Rattle.std.specs.Prelude.{◌≡◌, ◌+◌, ◌-◌, ◌^◌, ◌<�
 ghost use Rattle.std.specs.List.{AllByRecursion};
 ghost use Rattle.metadata_tables.specs.Encoding.{rows_in};
 ghost use Rattle.image_rows.specs.ParamRows.{param_flags, IsParamRow, param_bytes, IsPlainParam};
-ghost use Rattle.image_rows.specs.Places.{lent};
-ghost use Rattle.image_rows.specs.Pushing.{Pushes};
+ghost use Rattle.image_members.specs.Places.{lent};
+ghost use Rattle.image_members.specs.Pushing.{Pushes};
 ghost use Rattle.image_tokens.specs.References.{size, AreKnown};
 
 use assembly_tree::Param;

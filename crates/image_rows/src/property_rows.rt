@@ -1,8 +1,8 @@
 //! The rows of Property (ECMA-335 II.22.34).
 ghost use Rattle.std.specs.Prelude.{◌≡◌, ◌∷◌, [], OnOk};
-ghost use Rattle.image_rows.specs.Places.{lent};
+ghost use Rattle.image_members.specs.Places.{lent};
 ghost use Rattle.image_rows.specs.PropertyRows.{property_flags, property_bytes, IsPropertyRow, CanPushProperty};
-ghost use Rattle.image_rows.specs.Pushing.{Pushes, CanPush};
+ghost use Rattle.image_members.specs.Pushing.{Pushes, CanPush};
 
 use assembly_tree::Property;
 use il_base::NoMemory;

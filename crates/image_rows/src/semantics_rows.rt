@@ -1,6 +1,6 @@
 //! The rows of MethodSemantics (ECMA-335 II.22.28).
 ghost use Rattle.std.specs.Prelude.{◌∷◌, [], ◌-◌, ◌^◌, ◌<◌, map, OnOk};
-ghost use Rattle.image_rows.specs.Pushing.{AddsRows};
+ghost use Rattle.image_members.specs.Pushing.{AddsRows};
 ghost use Rattle.image_rows.specs.SemanticsRows.{accessors_with, accessors_in, accessors_at, all_accessors, semantics_row, CanAddAccessors};
 
 use assembly_tree::{Accessor, Accessors};

@@ -3,14 +3,14 @@ ghost use Rattle.std.specs.Prelude.{◌≡◌, ◌+◌, ◌-◌, ◌^◌, ◌<�
 ghost use Rattle.std.specs.List.{AllByRecursion};
 ghost use Rattle.metadata_tables.specs.Encoding.{rows_in, IsRowOf};
 ghost use Rattle.metadata_tables.specs.Indexes.{run_cell};
-ghost use Rattle.image_rows.specs.Declaring.{module_place, class_place, places, AreDeclared};
-ghost use Rattle.image_rows.specs.DeclaredMembers.{class_fields, class_methods};
-ghost use Rattle.image_rows.specs.Pushing.{Pushes};
+ghost use Rattle.image_members.specs.Declaring.{module_place, class_place, places, AreDeclared};
+ghost use Rattle.image_members.specs.DeclaredMembers.{class_fields, class_methods};
+ghost use Rattle.image_members.specs.Pushing.{Pushes};
 ghost use Rattle.image_tokens.specs.References.{size, AreKnown};
 ghost use Rattle.image_rows.specs.TypeRows.{numbered, IsTypeDefRow, AddsModuleType, StandsAt, CanBeBase, base_of, base_weight, numbered_weight, Refers};
 
-use crate::classes::Class;
 use il_base::NoMemory;
+use image_members::classes::Class;
 use image_tokens::noting::refer_owner;
 use image_tokens::references::References;
 use image_tokens::row_set::Cells;

@@ -7,10 +7,10 @@ use Rattle.assembly_tree.specs.declared.members.Field.{Field}
 use Rattle.metadata_tables.specs.Encoding.{rows_of, rows_in}
 use Rattle.image_tokens.specs.declared.references.References.{References}
 use Rattle.image_tokens.proofs.GrowthLemmas.{grows_refl}
-use Rattle.image_rows.specs.DataRows.{all_data, data_room, IsDataRow, AddsData}
+use Rattle.image_members.specs.DataRows.{all_data, data_room, IsDataRow, AddsData}
 use Rattle.image_rows.specs.FieldRows.{IsFieldRow, IsFieldAt, offset_rows, AddsItems}
-use Rattle.image_rows.specs.Places.{lent}
-use Rattle.image_rows.specs.Pushing.{Tables, AddsRows}
+use Rattle.image_members.specs.Places.{lent}
+use Rattle.image_members.specs.Pushing.{Tables, AddsRows}
 use Rattle.image_rows.proofs.FieldLemmas.{lent_long}
 use Rattle.image_tables.specs.FieldPart.{CanFillFields, FillsFields}
 use Rattle.image_tables.specs.Filling.{Lengthens}

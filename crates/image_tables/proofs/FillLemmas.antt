@@ -10,12 +10,12 @@ use Rattle.image_tokens.specs.References.{size, Grows, AreKnown}
 use Rattle.image_tokens.specs.declared.references.References.{References}
 use Rattle.image_tokens.proofs.GrowthLemmas.{grows_refl, grows_trans}
 use Rattle.image_rows.specs.CanFill.{CanFill}
-use Rattle.image_rows.specs.CodeBytes.{body_of, stated_room}
-use Rattle.image_rows.specs.DataRows.{all_data, data_room}
+use Rattle.image_members.specs.CodeBytes.{body_of, stated_room}
+use Rattle.image_members.specs.DataRows.{all_data, data_room}
 use Rattle.image_rows.specs.Filled.{HasDeclared, HoldsManifest, HoldsTypes, HoldsFields, HoldsMethods, HoldsProperties, HoldsOwned}
-use Rattle.image_rows.specs.Places.{all_fields, all_methods}
-use Rattle.image_rows.specs.Pushing.{Tables}
-use Rattle.image_rows.specs.declared.classes.Class.{Class}
+use Rattle.image_members.specs.Places.{all_fields, all_methods}
+use Rattle.image_members.specs.Pushing.{Tables}
+use Rattle.image_members.specs.declared.classes.Class.{Class}
 use Rattle.image_tables.specs.FieldPart.{CanFillFields, FillsFields}
 use Rattle.image_tables.specs.Filling.{method_part, type_part, property_part, filled_bytes, CanStillFill, IsReady, Fills, IsFull, Lengthens}
 use Rattle.image_tables.specs.Parts.{part_of, KeepsPart, KeepsOtherParts, LacksFrom}

@@ -12,41 +12,41 @@ use Rattle.image_tokens.specs.declared.row_set.Cells.{Cells}
 use Rattle.image_tokens.proofs.GrowthLemmas.{signature_kept}
 use Rattle.image_tokens.proofs.PathLemmas.{text_kept}
 use Rattle.image_rows.specs.AttributeRows.{IsAttributeRow}
-use Rattle.image_rows.specs.CodeBytes.{body_of, HasBody}
-use Rattle.image_rows.specs.ConstantRows.{IsConstantRow}
-use Rattle.image_rows.specs.DataRows.{all_data, IsDataRow}
-use Rattle.image_rows.specs.DeclaredMembers.{owned, class_fields, class_methods, IsFieldOf, IsMethodOf}
-use Rattle.image_rows.specs.Declaring.{places, AreDeclared, HoldsPlace}
+use Rattle.image_members.specs.CodeBytes.{body_of, HasBody}
+use Rattle.image_members.specs.ConstantRows.{IsConstantRow}
+use Rattle.image_members.specs.DataRows.{all_data, IsDataRow}
+use Rattle.image_members.specs.DeclaredMembers.{owned, class_fields, class_methods, IsFieldOf, IsMethodOf}
+use Rattle.image_members.specs.Declaring.{places, AreDeclared, HoldsPlace}
 use Rattle.image_rows.specs.EventRows.{IsEventRow}
 use Rattle.image_rows.specs.FieldRows.{IsFieldRow, offset_rows}
 use Rattle.image_rows.specs.Filled.{HasDeclared, HoldsItems, HoldsManifest, HoldsTypeRows, HoldsInterfaces, HoldsTypes, HoldsFields, HoldsMethods, HoldsProperties, HoldsOwned}
-use Rattle.image_rows.specs.GenericRows.{bounds_from, IsBoundRow, IsGenericRow}
+use Rattle.image_members.specs.GenericRows.{bounds_from, IsBoundRow, IsGenericRow}
 use Rattle.image_rows.specs.InterfaceRows.{interfaces_from, AreInterfaceRows}
-use Rattle.image_rows.specs.Lists.{attribute_items, constant_items, generic_items, generics_in, params_in, properties_in, events_in}
-use Rattle.image_rows.specs.ManifestRows.{IsModuleRow, IsAssemblyRow, IsExternRow}
+use Rattle.image_members.specs.Lists.{attribute_items, constant_items, generic_items, generics_in, params_in, properties_in, events_in}
+use Rattle.image_members.specs.ManifestRows.{IsModuleRow, IsAssemblyRow, IsExternRow}
 use Rattle.image_rows.specs.MethodRows.{PlacedMethod, placed_methods, IsMethodRow}
 use Rattle.image_rows.specs.OverrideRows.{overrides_from, IsOverrideRow}
 use Rattle.image_rows.specs.ParamRows.{IsParamRow}
-use Rattle.image_rows.specs.Places.{all_fields, all_methods}
+use Rattle.image_members.specs.Places.{all_fields, all_methods}
 use Rattle.image_rows.specs.PropertyRows.{IsPropertyRow}
-use Rattle.image_rows.specs.Pushing.{Tables}
+use Rattle.image_members.specs.Pushing.{Tables}
 use Rattle.image_rows.specs.TypeRows.{numbered, IsModuleType, IsTypeDefRow}
-use Rattle.image_rows.specs.declared.classes.Class.{Class}
+use Rattle.image_members.specs.declared.classes.Class.{Class}
 use Rattle.image_rows.proofs.AttributeLemmas.{attribute_kept}
 use Rattle.image_rows.proofs.BoundLemmas.{bound_kept}
-use Rattle.image_rows.proofs.CodeLemmas.{body_later}
-use Rattle.image_rows.proofs.ConstantLemmas.{constant_kept}
-use Rattle.image_rows.proofs.DeclaredLemmas.{field_kept, method_kept}
-use Rattle.image_rows.proofs.DeclaringLemmas.{place_kept}
+use Rattle.image_members.proofs.CodeLemmas.{body_later}
+use Rattle.image_members.proofs.ConstantLemmas.{constant_kept}
+use Rattle.image_members.proofs.DeclaredLemmas.{field_kept, method_kept}
+use Rattle.image_members.proofs.DeclaringLemmas.{place_kept}
 use Rattle.image_rows.proofs.EventLemmas.{event_kept}
-use Rattle.image_rows.proofs.GenericLemmas.{generic_kept}
+use Rattle.image_members.proofs.GenericLemmas.{generic_kept}
 use Rattle.image_rows.proofs.InterfaceLemmas.{rows_kept}
-use Rattle.image_rows.proofs.ManifestLemmas.{module_kept, assembly_kept, extern_kept}
+use Rattle.image_members.proofs.ManifestLemmas.{module_kept, assembly_kept, extern_kept}
 use Rattle.image_rows.proofs.OverrideLemmas.{override_kept}
 use Rattle.image_rows.proofs.ParamLemmas.{param_kept}
 use Rattle.image_rows.proofs.PropertyLemmas.{property_kept}
 use Rattle.image_rows.proofs.TypeRowLemmas.{row_kept}
-use Rattle.image_rows.proofs.ZipLemmas.{zip_later}
+use Rattle.image_members.proofs.ZipLemmas.{zip_later}
 use Rattle.image_tables.specs.Parts.{KeepsPart}
 use Rattle.image_tables.proofs.PartLemmas.{held_later}
 

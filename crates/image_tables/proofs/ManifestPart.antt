@@ -8,9 +8,9 @@ use Rattle.image_tokens.specs.References.{size, Grows, AreKnown}
 use Rattle.image_tokens.specs.declared.references.References.{References}
 use Rattle.image_tokens.proofs.GrowthLemmas.{grows_trans}
 use Rattle.image_rows.specs.Filled.{HoldsManifest}
-use Rattle.image_rows.specs.ManifestRows.{IsModuleRow, IsAssemblyRow, IsExternRow, module_bytes, assembly_bytes, extern_bytes}
-use Rattle.image_rows.specs.Pushing.{Tables, Pushes}
-use Rattle.image_rows.proofs.ManifestLemmas.{module_kept, assembly_kept, extern_kept}
+use Rattle.image_members.specs.ManifestRows.{IsModuleRow, IsAssemblyRow, IsExternRow, module_bytes, assembly_bytes, extern_bytes}
+use Rattle.image_members.specs.Pushing.{Tables, Pushes}
+use Rattle.image_members.proofs.ManifestLemmas.{module_kept, assembly_kept, extern_kept}
 use Rattle.image_tables.specs.Filling.{Fills}
 use Rattle.image_tables.specs.Parts.{LacksFrom, KeepsOtherParts}
 use Rattle.image_tables.proofs.PartLemmas.{none_at, still_none, adds_part, others_trans, held, held_later}

@@ -16,22 +16,22 @@ use Rattle.image_tokens.specs.declared.references.Declared.{Declared}
 use Rattle.image_tokens.specs.declared.references.References.{References}
 use Rattle.image_tokens.specs.declared.row_set.Cells.{Cells}
 use Rattle.image_tokens.proofs.GrowthLemmas.{grows_refl, grows_trans}
-use Rattle.image_rows.specs.CodeBytes.{body_of, stated_weight, stated_room, HasBody, AddsBodies, CanPushBodies}
+use Rattle.image_members.specs.CodeBytes.{body_of, stated_weight, stated_room, HasBody, AddsBodies, CanPushBodies}
 use Rattle.image_rows.specs.FieldRows.{AddsItems}
 use Rattle.image_rows.specs.Filled.{HoldsItems, HoldsMethods}
-use Rattle.image_rows.specs.Lists.{params_in}
+use Rattle.image_members.specs.Lists.{params_in}
 use Rattle.image_rows.specs.MethodRows.{PlacedMethod, placed_methods, IsMethodRow, IsMethodAt}
 use Rattle.image_rows.specs.OverrideRows.{Override, overrides, overrides_from, override_bytes, IsOverrideRow, CanPushOverride}
 use Rattle.image_rows.specs.ParamRows.{all_params, param_bytes, IsParamRow, IsPlainParam}
-use Rattle.image_rows.specs.Places.{lent, all_methods, params_of}
-use Rattle.image_rows.specs.Pushing.{Tables, AddsRows, Pushes, CanPush}
-use Rattle.image_rows.specs.declared.classes.Class.{Class}
-use Rattle.image_rows.proofs.CodeLemmas.{body_later}
+use Rattle.image_members.specs.Places.{lent, all_methods, params_of}
+use Rattle.image_members.specs.Pushing.{Tables, AddsRows, Pushes, CanPush}
+use Rattle.image_members.specs.declared.classes.Class.{Class}
+use Rattle.image_members.proofs.CodeLemmas.{body_later}
 use Rattle.image_rows.proofs.FieldLemmas.{lent_long}
 use Rattle.image_rows.proofs.OverrideLemmas.{override_kept}
 use Rattle.image_rows.proofs.ParamLemmas.{param_kept}
-use Rattle.image_rows.proofs.PushLemmas.{all_front, all_back}
-use Rattle.image_rows.proofs.ZipLemmas.{zip_later, zip_long}
+use Rattle.image_members.proofs.PushLemmas.{all_front, all_back}
+use Rattle.image_members.proofs.ZipLemmas.{zip_later, zip_long}
 use Rattle.image_tables.specs.Filling.{method_part, IsReady, Fills, Lengthens}
 use Rattle.image_tables.specs.Parts.{KeepsOtherParts}
 use Rattle.image_tables.proofs.HoldsLemmas.{declared_later, method_row_kept}

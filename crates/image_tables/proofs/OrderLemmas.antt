@@ -10,14 +10,14 @@ use Rattle.assembly_tree.specs.declared.members.Method.{Method}
 use Rattle.assembly_tree.specs.declared.members.Param.{Param}
 use Rattle.image_tokens.specs.declared.references.References.{References}
 use Rattle.image_tokens.specs.declared.row_set.Cells.{Cells}
-use Rattle.image_rows.specs.DeclaredMembers.{owned, class_fields, class_methods, IsFieldOf, IsMethodOf}
+use Rattle.image_members.specs.DeclaredMembers.{owned, class_fields, class_methods, IsFieldOf, IsMethodOf}
 use Rattle.image_rows.specs.FieldRows.{IsFieldAt}
 use Rattle.image_rows.specs.Filled.{HasDeclared}
-use Rattle.image_rows.specs.Lists.{params_in}
+use Rattle.image_members.specs.Lists.{params_in}
 use Rattle.image_rows.specs.MethodRows.{IsMethodAt}
 use Rattle.image_rows.specs.ParamRows.{class_params, all_params}
-use Rattle.image_rows.specs.Places.{all_fields, all_methods, params_of}
-use Rattle.image_rows.specs.declared.classes.Class.{Class}
+use Rattle.image_members.specs.Places.{all_fields, all_methods, params_of}
+use Rattle.image_members.specs.declared.classes.Class.{Class}
 
 -- ---- members with the rows of their types, without these
 

@@ -13,16 +13,16 @@ use Rattle.image_tokens.specs.References.{size, Grows, AreKnown}
 use Rattle.image_tokens.specs.declared.references.References.{References}
 use Rattle.image_tokens.proofs.GrowthLemmas.{grows_refl, grows_trans}
 use Rattle.image_rows.specs.AttributeRows.{attribute_bytes, IsAttributeRow, CanPushAttribute}
-use Rattle.image_rows.specs.ConstantRows.{constant_bytes, IsConstantRow, CanPushConstant}
+use Rattle.image_members.specs.ConstantRows.{constant_bytes, IsConstantRow, CanPushConstant}
 use Rattle.image_rows.specs.Filled.{HoldsItems, HoldsOwned}
-use Rattle.image_rows.specs.GenericRows.{generic_of, bounds_from, bound_bytes, IsBoundRow, CanPushBound, generic_bytes, IsGenericRow, CanPushGeneric}
-use Rattle.image_rows.specs.Lists.{Owned, longest_of, attribute_lists, attribute_items, constant_lists, constant_items, generic_lists, generic_items, generics_in}
-use Rattle.image_rows.specs.Pushing.{Tables, AddsRows, Pushes, CanPush}
-use Rattle.image_rows.specs.declared.classes.Class.{Class}
+use Rattle.image_members.specs.GenericRows.{generic_of, bounds_from, bound_bytes, IsBoundRow, CanPushBound, generic_bytes, IsGenericRow, CanPushGeneric}
+use Rattle.image_members.specs.Lists.{Owned, longest_of, attribute_lists, attribute_items, constant_lists, constant_items, generic_lists, generic_items, generics_in}
+use Rattle.image_members.specs.Pushing.{Tables, AddsRows, Pushes, CanPush}
+use Rattle.image_members.specs.declared.classes.Class.{Class}
 use Rattle.image_rows.proofs.AttributeLemmas.{attribute_kept}
 use Rattle.image_rows.proofs.BoundLemmas.{bound_kept}
-use Rattle.image_rows.proofs.ConstantLemmas.{constant_kept}
-use Rattle.image_rows.proofs.GenericLemmas.{generic_kept}
+use Rattle.image_members.proofs.ConstantLemmas.{constant_kept}
+use Rattle.image_members.proofs.GenericLemmas.{generic_kept}
 use Rattle.image_tables.specs.Filling.{IsReady, Fills}
 use Rattle.image_tables.specs.Parts.{part_of, KeepsOtherParts}
 use Rattle.image_tables.proofs.PartLemmas.{none_at, still_none, adds_part, others_trans, held, held_later, can_push}

@@ -6,8 +6,8 @@ use Rattle.metadata_tables.specs.Encoding.{rows_of, rows_in}
 use Rattle.image_tokens.specs.References.{size, Grows, AreKnown}
 use Rattle.image_tokens.specs.declared.references.References.{References}
 use Rattle.image_rows.specs.Filled.{HoldsItems}
-use Rattle.image_rows.specs.Pushing.{Tables, AddsRows, Pushes, CanPush}
-use Rattle.image_rows.proofs.ZipLemmas.{zip_later}
+use Rattle.image_members.specs.Pushing.{Tables, AddsRows, Pushes, CanPush}
+use Rattle.image_members.proofs.ZipLemmas.{zip_later}
 use Rattle.image_tables.specs.Parts.{part_of, KeepsOtherParts, LacksFrom}
 
 -- ---- which tables change

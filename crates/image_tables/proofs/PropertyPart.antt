@@ -11,12 +11,12 @@ use Rattle.image_tokens.specs.declared.references.References.{References}
 use Rattle.image_tokens.proofs.GrowthLemmas.{grows_refl, grows_trans}
 use Rattle.image_rows.specs.EventRows.{event_bytes, IsEventRow, CanPushEvent}
 use Rattle.image_rows.specs.Filled.{HoldsItems, HoldsProperties}
-use Rattle.image_rows.specs.Lists.{accessor_items, properties_in, events_in}
-use Rattle.image_rows.specs.Places.{lent}
+use Rattle.image_members.specs.Lists.{accessor_items, properties_in, events_in}
+use Rattle.image_members.specs.Places.{lent}
 use Rattle.image_rows.specs.PropertyRows.{property_bytes, IsPropertyRow, CanPushProperty}
-use Rattle.image_rows.specs.Pushing.{Tables, AddsRows, Pushes, CanPush}
+use Rattle.image_members.specs.Pushing.{Tables, AddsRows, Pushes, CanPush}
 use Rattle.image_rows.specs.SemanticsRows.{semantics_row, CanAddAccessors}
-use Rattle.image_rows.specs.declared.classes.Class.{Class}
+use Rattle.image_members.specs.declared.classes.Class.{Class}
 use Rattle.image_rows.proofs.EventLemmas.{event_kept}
 use Rattle.image_rows.proofs.PropertyLemmas.{property_kept}
 use Rattle.image_tables.specs.Filling.{property_part, IsReady, Fills}

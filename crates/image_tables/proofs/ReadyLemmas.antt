@@ -4,12 +4,12 @@ use Rattle.std.specs.Prelude.{sum_by}
 use Rattle.assembly_tree.specs.declared.assembly.Assembly.{Assembly}
 use Rattle.image_tokens.specs.References.{size}
 use Rattle.image_tokens.specs.declared.references.References.{References}
-use Rattle.image_rows.specs.CodeBytes.{body_of, stated_room}
-use Rattle.image_rows.specs.DataRows.{all_data, data_room}
+use Rattle.image_members.specs.CodeBytes.{body_of, stated_room}
+use Rattle.image_members.specs.DataRows.{all_data, data_room}
 use Rattle.image_rows.specs.Filled.{HoldsManifest, HoldsTypes, HoldsMethods, HoldsProperties}
-use Rattle.image_rows.specs.Places.{all_fields, all_methods}
-use Rattle.image_rows.specs.Pushing.{Tables}
-use Rattle.image_rows.specs.declared.classes.Class.{Class}
+use Rattle.image_members.specs.Places.{all_fields, all_methods}
+use Rattle.image_members.specs.Pushing.{Tables}
+use Rattle.image_members.specs.declared.classes.Class.{Class}
 use Rattle.image_tables.specs.FieldPart.{FillsFields}
 use Rattle.image_tables.specs.Filling.{method_part, type_part, property_part, filled_bytes, IsReady, Fills, Lengthens}
 use Rattle.image_tables.proofs.FillLemmas.{filled_bytes_are, code_bytes_are, ready_less, ready_on, fields_filled_on}

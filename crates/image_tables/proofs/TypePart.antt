@@ -12,18 +12,18 @@ use Rattle.image_tokens.specs.declared.references.References.{References}
 use Rattle.image_tokens.specs.declared.row_set.Cells.{Cells}
 use Rattle.image_tokens.proofs.GrowthLemmas.{grows_refl, grows_trans}
 use Rattle.image_rows.specs.ClassRows.{class_rows, nested_rows, layout_rows}
-use Rattle.image_rows.specs.Declaring.{Place, module_place, class_place, places, AreDeclared, HoldsPlace}
-use Rattle.image_rows.specs.DeclaredMembers.{class_fields, class_methods, fields_count, methods_count}
+use Rattle.image_members.specs.Declaring.{Place, module_place, class_place, places, AreDeclared, HoldsPlace}
+use Rattle.image_members.specs.DeclaredMembers.{class_fields, class_methods, fields_count, methods_count}
 use Rattle.image_rows.specs.Filled.{HoldsTypeRows, HoldsInterfaces, HoldsTypes}
 use Rattle.image_rows.specs.InterfaceRows.{interfaces_from, interface_bytes, count_interfaces, joined, AreInterfaceRows, PushesInterfaces, CanPushInterfaces}
-use Rattle.image_rows.specs.Lists.{properties_in, events_in}
+use Rattle.image_members.specs.Lists.{properties_in, events_in}
 use Rattle.image_rows.specs.MapRows.{map_rows, event_count, property_count}
-use Rattle.image_rows.specs.Places.{all_fields, all_methods}
-use Rattle.image_rows.specs.Pushing.{Tables, AddsRows, Pushes}
+use Rattle.image_members.specs.Places.{all_fields, all_methods}
+use Rattle.image_members.specs.Pushing.{Tables, AddsRows, Pushes}
 use Rattle.image_rows.specs.TypeRows.{Numbered, numbered, base_of, base_weight, numbered_weight, IsModuleType, IsTypeDefRow, AddsModuleType, StandsAt}
-use Rattle.image_rows.specs.declared.classes.Class.{Class}
+use Rattle.image_members.specs.declared.classes.Class.{Class}
 use Rattle.image_rows.proofs.TypeRowLemmas.{row_kept}
-use Rattle.image_rows.proofs.ZipLemmas.{zip_from, zip_later}
+use Rattle.image_members.proofs.ZipLemmas.{zip_from, zip_later}
 use Rattle.image_tables.specs.Filling.{type_part, IsReady, Fills}
 use Rattle.image_tables.specs.Parts.{part_of, KeepsOtherParts}
 use Rattle.image_tables.specs.TypePart.{bases_bytes, AddsTypeRows}

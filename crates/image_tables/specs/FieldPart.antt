@@ -4,10 +4,10 @@ use Rattle.std.specs.List.{AllZip, enumerate_from, flat_map}
 use Rattle.assembly_tree.specs.declared.members.Field.{Field}
 use Rattle.metadata_tables.specs.Encoding.{rows_of}
 use Rattle.image_tokens.specs.declared.references.References.{References}
-use Rattle.image_rows.specs.DataRows.{all_data, IsDataRow}
+use Rattle.image_members.specs.DataRows.{all_data, IsDataRow}
 use Rattle.image_rows.specs.FieldRows.{IsFieldAt, IsFieldRow, offset_rows}
 use Rattle.image_rows.specs.Filled.{HoldsItems}
-use Rattle.image_rows.specs.Pushing.{Tables}
+use Rattle.image_members.specs.Pushing.{Tables}
 use Rattle.image_tables.specs.Parts.{KeepsOtherParts, LacksFrom}
 
 -- the rows of these fields can be added

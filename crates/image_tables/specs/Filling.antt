@@ -4,18 +4,18 @@ use Rattle.assembly_tree.specs.declared.assembly.Assembly.{Assembly}
 use Rattle.image_tokens.specs.References.{size, Grows, AreKnown}
 use Rattle.image_tokens.specs.declared.references.References.{References}
 use Rattle.image_rows.specs.CanFill.{CanFill}
-use Rattle.image_rows.specs.Classes.{AreClasses}
-use Rattle.image_rows.specs.CodeBytes.{body_of, stated_weight}
+use Rattle.image_members.specs.Classes.{AreClasses}
+use Rattle.image_members.specs.CodeBytes.{body_of, stated_weight}
 use Rattle.image_rows.specs.EventRows.{event_bytes}
 use Rattle.image_rows.specs.Filled.{HasDeclared, HoldsManifest, HoldsTypes, HoldsFields, HoldsMethods, HoldsProperties, HoldsOwned}
 use Rattle.image_rows.specs.InterfaceRows.{interfaces_from, interface_bytes}
-use Rattle.image_rows.specs.Lists.{params_in, properties_in, events_in}
+use Rattle.image_members.specs.Lists.{params_in, properties_in, events_in}
 use Rattle.image_rows.specs.ParamRows.{param_bytes}
-use Rattle.image_rows.specs.Places.{all_methods}
+use Rattle.image_members.specs.Places.{all_methods}
 use Rattle.image_rows.specs.PropertyRows.{property_bytes}
-use Rattle.image_rows.specs.Pushing.{Tables}
+use Rattle.image_members.specs.Pushing.{Tables}
 use Rattle.image_rows.specs.TypeRows.{base_of, base_weight}
-use Rattle.image_rows.specs.declared.classes.Class.{Class}
+use Rattle.image_members.specs.declared.classes.Class.{Class}
 use Rattle.image_tables.specs.Parts.{KeepsOtherParts, LacksFrom}
 use Rattle.laws_tree_weights.specs.ImageBytes.{overrides_weight, manifest_bytes, owned_bytes}
 use Rattle.laws_tree_weights.specs.Laws.{HasFewRows}

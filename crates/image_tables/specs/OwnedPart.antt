@@ -4,8 +4,8 @@ use Rattle.assembly_tree.specs.declared.members.Attribute.{Attribute}
 use Rattle.assembly_tree.specs.declared.members.Constant.{Constant}
 use Rattle.assembly_tree.specs.declared.members.Generic.{Generic}
 use Rattle.metadata_tables.specs.declared.coded.Coded.TheVariants.{HasConstant, HasCustomAttribute, TypeOrMethodDef}
-use Rattle.image_rows.specs.ByNumber.{by_number}
-use Rattle.image_rows.specs.Lists.{Owned, longest_of}
+use Rattle.image_members.specs.ByNumber.{by_number}
+use Rattle.image_members.specs.Lists.{Owned, longest_of}
 use Rattle.image_tables.specs.declared.owned_part.Nothing.{Nothing}
 
 abbrev pub generics_in : List (Owned (ℕ × Generic)) → List (ℕ × (ℕ × Generic))

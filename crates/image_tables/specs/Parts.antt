@@ -5,7 +5,7 @@ use Rattle.std.specs.Prelude.{◌≡◌, ◌≢◌, ℕ, ◌≤◌, ◌==◌, if
 use Rattle.metadata_tables.specs.Encoding.{rows_of}
 use Rattle.image_tokens.specs.References.{Grows}
 use Rattle.image_tokens.specs.declared.references.References.{References}
-use Rattle.image_rows.specs.Pushing.{Tables}
+use Rattle.image_members.specs.Pushing.{Tables}
 
 abbrev pub table_parts : List (ℕ × ℕ)
 table_parts =

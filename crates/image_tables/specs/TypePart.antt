@@ -5,9 +5,9 @@ use Rattle.metadata_tables.specs.Encoding.{rows_of}
 use Rattle.image_tokens.specs.References.{size, Grows, AreKnown}
 use Rattle.image_tokens.specs.declared.references.References.{References}
 use Rattle.image_rows.specs.Filled.{HoldsTypeRows}
-use Rattle.image_rows.specs.Pushing.{Tables}
+use Rattle.image_members.specs.Pushing.{Tables}
 use Rattle.image_rows.specs.TypeRows.{base_of, base_weight}
-use Rattle.image_rows.specs.declared.classes.Class.{Class}
+use Rattle.image_members.specs.declared.classes.Class.{Class}
 
 -- what the bases of types bring
 abbrev pub bases_bytes : List Class → ℕ

@@ -1,14 +1,14 @@
 //! The rows of fields, and their data (ECMA-335 II.16.3, II.22.15, II.22.16, II.22.18).
 ghost use Rattle.std.specs.Prelude.{◌≡◌, ◌+◌, ◌^◌, ◌≤◌, length, sum_by, OnOk};
 ghost use Rattle.assembly_tree.specs.declared.assembly.Assembly.{Assembly};
-ghost use Rattle.image_rows.specs.DataRows.{all_data, data_room};
-ghost use Rattle.image_rows.specs.Places.{lent};
+ghost use Rattle.image_members.specs.DataRows.{all_data, data_room};
+ghost use Rattle.image_members.specs.Places.{lent};
 ghost use Rattle.image_tables.specs.Filling.{Lengthens};
 ghost use Rattle.image_tables.specs.FieldPart.{CanFillFields, FillsFields};
 
 use assembly_tree::Field;
 use il_base::{Bytes, NoMemory};
-use image_rows::data_rows::push_all_data;
+use image_members::data_rows::push_all_data;
 use image_rows::field_rows::{push_fields, push_offsets};
 use image_tokens::references::References;
 use metadata_tables::Rows;

@@ -1,7 +1,7 @@
 //! All rows of an image, with its code (ECMA-335 II.22, II.25.4).
 ghost use Rattle.std.specs.Prelude.{◌+◌, ◌^◌, ◌≤◌, length, OnOk};
 ghost use Rattle.image_tokens.specs.References.{size, Grows};
-ghost use Rattle.image_rows.specs.Ordered.{IsOrdered};
+ghost use Rattle.image_members.specs.Ordered.{IsOrdered};
 ghost use Rattle.image_tables.specs.Filling.{filled_bytes, IsReady, IsFull, Lengthens};
 ghost use Rattle.image_tables.specs.OwnedPart.{IsNothing};
 ghost use Rattle.laws_tree_weights.specs.ImageBytes.{code_bytes};
@@ -14,8 +14,8 @@ use crate::property_part::push_property_part;
 use crate::type_part::push_type_part;
 use assembly_tree::Assembly;
 use il_base::{Bytes, NoMemory};
-use image_rows::classes::Class;
-use image_rows::order::Ordered;
+use image_members::classes::Class;
+use image_members::order::Ordered;
 use image_tokens::references::References;
 use metadata_tables::Rows;
 use std::alloc::Global;

@@ -3,7 +3,7 @@ ghost use Rattle.std.specs.Prelude.{◌+◌, ◌^◌, ◌<◌, ◌≤◌, length
 ghost use Rattle.std.specs.List.{AllByRecursion};
 ghost use Rattle.image_tokens.specs.References.{size, AreKnown};
 ghost use Rattle.image_rows.specs.Filled.{HoldsManifest};
-ghost use Rattle.image_rows.specs.ManifestRows.{IsPlainManifest, IsPlainExtern};
+ghost use Rattle.image_members.specs.ManifestRows.{IsPlainManifest, IsPlainExtern};
 ghost use Rattle.image_tables.specs.Filling.{Fills};
 ghost use Rattle.image_tables.specs.Parts.{LacksFrom};
 ghost use Rattle.laws_tree_weights.specs.ImageBytes.{manifest_bytes};

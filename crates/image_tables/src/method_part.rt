@@ -1,17 +1,17 @@
 //! The rows of methods, and their bodies (ECMA-335 II.22.26, II.22.27, II.22.33, II.25.4).
 ghost use Rattle.std.specs.Prelude.{◌+◌, ◌^◌, ◌≤◌, length, map, sum_by, OnOk};
-ghost use Rattle.image_rows.specs.CodeBytes.{body_of, stated_room};
+ghost use Rattle.image_members.specs.CodeBytes.{body_of, stated_room};
 ghost use Rattle.image_rows.specs.Filled.{HoldsMethods};
-ghost use Rattle.image_rows.specs.Ordered.{IsOrdered};
-ghost use Rattle.image_rows.specs.Places.{all_methods};
+ghost use Rattle.image_members.specs.Ordered.{IsOrdered};
+ghost use Rattle.image_members.specs.Places.{all_methods};
 ghost use Rattle.image_tables.specs.Filling.{method_part, IsReady, Fills, Lengthens};
 
 use assembly_tree::Assembly;
 use il_base::{Bytes, NoMemory};
-use image_rows::bodies::push_bodies;
-use image_rows::classes::Class;
+use image_members::bodies::push_bodies;
+use image_members::classes::Class;
+use image_members::order::Ordered;
 use image_rows::method_rows::push_methods;
-use image_rows::order::Ordered;
 use image_rows::override_rows::push_all_overrides;
 use image_rows::param_rows::push_params;
 use image_tokens::references::References;

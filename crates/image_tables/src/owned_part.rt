@@ -2,27 +2,27 @@
 //! II.22.10, II.22.20, II.22.21).
 ghost use Rattle.std.specs.Prelude.{◌≡◌, ◌^◌, ◌<◌, map, IfOk, OnOk};
 ghost use Rattle.image_rows.specs.AttributeRows.{tables_of, attribute_bytes, IsAttributeRow, CanPushAttribute};
-ghost use Rattle.image_rows.specs.ConstantRows.{with_constants, constant_bytes, IsConstantRow, CanPushConstant};
+ghost use Rattle.image_members.specs.ConstantRows.{with_constants, constant_bytes, IsConstantRow, CanPushConstant};
 ghost use Rattle.image_rows.specs.Filled.{HoldsOwned};
-ghost use Rattle.image_rows.specs.GenericRows.{counted, generic_of, generic_bytes, IsGenericRow, CanPushGeneric};
-ghost use Rattle.image_rows.specs.Lists.{longest_of};
-ghost use Rattle.image_rows.specs.Ordered.{IsOrdered};
-ghost use Rattle.image_rows.specs.Places.{lent};
-ghost use Rattle.image_rows.specs.Pushing.{Pushes, CanPush};
+ghost use Rattle.image_members.specs.GenericRows.{counted, generic_of, generic_bytes, IsGenericRow, CanPushGeneric};
+ghost use Rattle.image_members.specs.Lists.{longest_of};
+ghost use Rattle.image_members.specs.Ordered.{IsOrdered};
+ghost use Rattle.image_members.specs.Places.{lent};
+ghost use Rattle.image_members.specs.Pushing.{Pushes, CanPush};
 ghost use Rattle.image_tables.specs.Filling.{IsReady, Fills};
 ghost use Rattle.image_tables.specs.OwnedPart.{attributes_in, constants_in, generics_in, IsNothing};
 ghost use Rattle.laws_tree_weights.specs.ImageBytes.{owned_bytes};
 
 use assembly_tree::{Assembly, Attributes, Generic, Generics};
 use il_base::{Items, NoMemory};
+use image_members::classes::Class;
+use image_members::constant_rows::{Valued, push_all_constants};
+use image_members::generic_rows::{Parametric, have_generics, push_all_generics};
+use image_members::order::Ordered;
 use image_rows::attribute_rows::{Attributed, push_all_attributes};
 use image_rows::bound_rows::push_all_bounds;
-use image_rows::classes::Class;
-use image_rows::constant_rows::{Valued, push_all_constants};
 use image_rows::generic_order::generics_in_order;
-use image_rows::generic_rows::{Parametric, have_generics, push_all_generics};
 use image_rows::longest::{longest_attributed, longest_parametric, longest_valued};
-use image_rows::order::Ordered;
 use image_rows::owned_lists::{attribute_tables, constant_tables, generic_tables};
 use image_tokens::references::References;
 use metadata_tables::Rows;

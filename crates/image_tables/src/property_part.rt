@@ -1,20 +1,20 @@
 //! The rows of properties, events and their accessors (ECMA-335 II.22.13, II.22.28, II.22.34).
 ghost use Rattle.std.specs.Prelude.{◌^◌, ◌<◌, map, OnOk};
-ghost use Rattle.image_rows.specs.DeclaredMembers.{methods_count};
-ghost use Rattle.image_rows.specs.Lists.{longest_of, accessor_lists, accessor_items};
+ghost use Rattle.image_members.specs.DeclaredMembers.{methods_count};
+ghost use Rattle.image_members.specs.Lists.{longest_of, accessor_lists, accessor_items};
 ghost use Rattle.image_rows.specs.SemanticsRows.{semantics_row, CanAddAccessors};
 ghost use Rattle.image_rows.specs.Filled.{HoldsProperties};
-ghost use Rattle.image_rows.specs.Ordered.{IsOrdered};
-ghost use Rattle.image_rows.specs.Pushing.{AddsRows};
+ghost use Rattle.image_members.specs.Ordered.{IsOrdered};
+ghost use Rattle.image_members.specs.Pushing.{AddsRows};
 ghost use Rattle.image_tables.specs.Filling.{property_part, IsReady, Fills};
 
 use assembly_tree::Assembly;
 use il_base::NoMemory;
+use image_members::classes::Class;
+use image_members::order::Ordered;
 use image_rows::accessor_lists::{accessor_tables, have_no_accessors};
-use image_rows::classes::Class;
 use image_rows::event_rows::push_events;
 use image_rows::longest::longest_accessing;
-use image_rows::order::Ordered;
 use image_rows::property_rows::push_properties;
 use image_rows::semantics_rows::push_all_accessors;
 use image_tokens::references::References;

@@ -1,17 +1,17 @@
 //! The rows of types (ECMA-335 II.22.8, II.22.12, II.22.23, II.22.32, II.22.35, II.22.37).
 ghost use Rattle.std.specs.Prelude.{OnOk};
 ghost use Rattle.image_rows.specs.Filled.{HoldsTypes, HoldsTypeRows};
-ghost use Rattle.image_rows.specs.Ordered.{IsOrdered};
+ghost use Rattle.image_members.specs.Ordered.{IsOrdered};
 ghost use Rattle.image_tables.specs.Filling.{type_part, IsReady, Fills};
 ghost use Rattle.image_tables.specs.TypePart.{bases_bytes, AddsTypeRows};
 
 use assembly_tree::Assembly;
 use il_base::NoMemory;
+use image_members::classes::Class;
+use image_members::order::Ordered;
 use image_rows::class_rows::{push_layouts, push_nested};
-use image_rows::classes::Class;
 use image_rows::interface_rows::push_all_interfaces;
 use image_rows::map_rows::{push_event_runs, push_property_runs};
-use image_rows::order::Ordered;
 use image_rows::type_rows::{Counts, Runs, push_module_type, push_types};
 use image_tokens::references::References;
 use metadata_tables::Rows;

@@ -18,13 +18,13 @@ use Rattle.image_tokens.specs.declared.references.References.{References}
 use Rattle.image_tokens.specs.declared.row_set.Cells.{Cells}
 use Rattle.image_tokens.proofs.GrowthLemmas.{grows_refl, widened, widens_trans}
 use Rattle.image_rows.specs.CanFill.{CanFill}
-use Rattle.image_rows.specs.DeclaredMembers.{class_fields, class_methods, fields_bytes, methods_bytes, IsFieldDeclarable, IsMethodDeclarable, AreDeclarable, HasMembers}
-use Rattle.image_rows.specs.Declaring.{Place, class_place, class_size, places, HoldsPlace, AreDeclared, IsDeclaring}
-use Rattle.image_rows.specs.Places.{all_fields, all_methods}
-use Rattle.image_rows.specs.declared.classes.Class.{Class}
-use Rattle.image_rows.proofs.DeclaringLemmas.{place_kept}
-use Rattle.image_rows.proofs.PushLemmas.{all_front, all_back}
-use Rattle.image_rows.proofs.ZipLemmas.{zip_later, zip_long}
+use Rattle.image_members.specs.DeclaredMembers.{class_fields, class_methods, fields_bytes, methods_bytes, IsFieldDeclarable, IsMethodDeclarable, AreDeclarable, HasMembers}
+use Rattle.image_members.specs.Declaring.{Place, class_place, class_size, places, HoldsPlace, AreDeclared, IsDeclaring}
+use Rattle.image_members.specs.Places.{all_fields, all_methods}
+use Rattle.image_members.specs.declared.classes.Class.{Class}
+use Rattle.image_members.proofs.DeclaringLemmas.{place_kept}
+use Rattle.image_members.proofs.PushLemmas.{all_front, all_back}
+use Rattle.image_members.proofs.ZipLemmas.{zip_later, zip_long}
 use Rattle.image_writer.specs.Beginning.{begun_bytes, CanDeclare, DeclaresTypes, HasBegun, DeclaresAll}
 
 pub begun_bytes_are : (a : Assembly) (classes : List Class) → begun_bytes a classes ≡ 12 + sum_by class_size classes + (fields_bytes a classes + methods_bytes a classes)

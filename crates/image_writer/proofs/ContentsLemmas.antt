@@ -19,14 +19,14 @@ use Rattle.image_tokens.specs.declared.references.References.{References}
 use Rattle.image_tokens.specs.declared.row_set.Cells.{Cells}
 use Rattle.image_tokens.proofs.NameLemmas.{all_weaker}
 use Rattle.image_rows.specs.CanFill.{CanFill}
-use Rattle.image_rows.specs.Classes.{AreClasses}
-use Rattle.image_rows.specs.Declaring.{places, AreDeclared, HoldsPlace}
+use Rattle.image_members.specs.Classes.{AreClasses}
+use Rattle.image_members.specs.Declaring.{places, AreDeclared, HoldsPlace}
 use Rattle.image_rows.specs.Filled.{HoldsReferences, IsFilled, entry_from, entry_token}
-use Rattle.image_rows.specs.Places.{all_methods}
-use Rattle.image_rows.specs.Pushing.{Tables}
-use Rattle.image_rows.specs.declared.classes.Class.{Class}
-use Rattle.image_rows.proofs.DeclaringLemmas.{place_kept}
-use Rattle.image_rows.proofs.ZipLemmas.{zip_later}
+use Rattle.image_members.specs.Places.{all_methods}
+use Rattle.image_members.specs.Pushing.{Tables}
+use Rattle.image_members.specs.declared.classes.Class.{Class}
+use Rattle.image_members.proofs.DeclaringLemmas.{place_kept}
+use Rattle.image_members.proofs.ZipLemmas.{zip_later}
 use Rattle.image_writer.specs.Beginning.{begun_bytes, CanDeclare, DeclaresTypes, DeclaresAll}
 use Rattle.image_writer.specs.Contents.{HasNoRows, IsContents}
 use Rattle.image_tables.specs.Filling.{method_part, type_part, property_part, filled_bytes, IsReady, IsFull, Lengthens}
@@ -37,12 +37,12 @@ use Rattle.image_tables.proofs.MethodPart.{method_part_is}
 use Rattle.image_tables.proofs.PropertyPart.{property_part_is}
 use Rattle.image_tables.proofs.TypePart.{type_part_is}
 use Rattle.image_writer.proofs.WholeLemmas.{whole_filled, manifest_holds, types_hold, fields_hold, methods_hold, properties_hold, owned_hold}
-use Rattle.image_rows.specs.CodeBytes.{body_of, stated_weight}
-use Rattle.image_rows.specs.Declaring.{class_size}
-use Rattle.image_rows.specs.DeclaredMembers.{fields_bytes, methods_bytes}
+use Rattle.image_members.specs.CodeBytes.{body_of, stated_weight}
+use Rattle.image_members.specs.Declaring.{class_size}
+use Rattle.image_members.specs.DeclaredMembers.{fields_bytes, methods_bytes}
 use Rattle.image_rows.specs.EventRows.{event_bytes}
 use Rattle.image_rows.specs.InterfaceRows.{interfaces_from, interface_bytes}
-use Rattle.image_rows.specs.Lists.{params_in, properties_in, events_in}
+use Rattle.image_members.specs.Lists.{params_in, properties_in, events_in}
 use Rattle.image_rows.specs.ParamRows.{param_bytes}
 use Rattle.image_rows.specs.PropertyRows.{property_bytes}
 use Rattle.image_rows.specs.TypeRows.{base_of, base_weight}

@@ -4,8 +4,8 @@ use Rattle.assembly_tree.specs.Weight.{weight_of}
 use Rattle.assembly_tree.specs.declared.assembly.Assembly.{Assembly}
 use Rattle.image_layout.specs.Sizes.{heap_bytes, stream_bytes}
 use Rattle.image_tokens.specs.declared.references.References.{References}
-use Rattle.image_rows.specs.Pushing.{Tables}
-use Rattle.image_rows.specs.declared.classes.Class.{Class}
+use Rattle.image_members.specs.Pushing.{Tables}
+use Rattle.image_members.specs.declared.classes.Class.{Class}
 use Rattle.image_writer.specs.Contents.{IsContents}
 use Rattle.image_writer.proofs.RoomLemmas.{fits}
 use Rattle.pe_layout.specs.Numbers.{IsFileAlignment}

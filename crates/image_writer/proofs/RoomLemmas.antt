@@ -8,8 +8,8 @@ use Rattle.image_layout.specs.Sizes.{heap_bytes, rows_bytes, stream_bytes, wides
 use Rattle.image_tokens.specs.References.{size}
 use Rattle.image_tokens.specs.declared.references.References.{References}
 use Rattle.image_rows.specs.Filled.{IsFilled}
-use Rattle.image_rows.specs.Pushing.{Tables}
-use Rattle.image_rows.specs.declared.classes.Class.{Class}
+use Rattle.image_members.specs.Pushing.{Tables}
+use Rattle.image_members.specs.declared.classes.Class.{Class}
 use Rattle.laws_tree_weights.specs.ImageBytes as tree
 use Rattle.laws_tree_weights.specs.ImageBytes.{code_bytes, manifest_row_bytes, type_row_bytes, field_row_bytes, method_row_bytes, property_row_bytes, owned_row_bytes, row_bytes}
 use Rattle.laws_tree_weights.specs.Laws.{WeightIsEnough}

@@ -11,16 +11,16 @@ use Rattle.image_tokens.specs.References.{size}
 use Rattle.image_tokens.specs.declared.references.References.{References}
 use Rattle.image_tokens.proofs.GrowthLemmas.{grows_refl}
 use Rattle.image_rows.specs.ClassRows.{class_rows, nested_rows, layout_rows}
-use Rattle.image_rows.specs.Classes.{AreClasses}
-use Rattle.image_rows.specs.DataRows.{all_data}
+use Rattle.image_members.specs.Classes.{AreClasses}
+use Rattle.image_members.specs.DataRows.{all_data}
 use Rattle.image_rows.specs.FieldRows.{offset_rows}
 use Rattle.image_rows.specs.Filled.{HoldsReferences, HoldsManifest, HoldsTypes, HoldsFields, HoldsMethods, HoldsProperties, HoldsOwned, IsFilled, written_tables}
 use Rattle.image_rows.specs.InterfaceRows.{interfaces_from, count_interfaces}
-use Rattle.image_rows.specs.Lists.{properties_in, events_in}
+use Rattle.image_members.specs.Lists.{properties_in, events_in}
 use Rattle.image_rows.specs.MapRows.{map_rows, event_count, property_count}
-use Rattle.image_rows.specs.Places.{all_fields}
-use Rattle.image_rows.specs.Pushing.{Tables}
-use Rattle.image_rows.specs.declared.classes.Class.{Class}
+use Rattle.image_members.specs.Places.{all_fields}
+use Rattle.image_members.specs.Pushing.{Tables}
+use Rattle.image_members.specs.declared.classes.Class.{Class}
 use Rattle.image_tables.specs.Filling.{IsFull}
 use Rattle.image_tables.specs.Parts.{table_parts, part_in, part_of, KeepsPart, LacksFrom}
 use Rattle.image_writer.proofs.BeginLemmas.{size_is}

@@ -7,10 +7,10 @@ use Rattle.image_tokens.specs.Loaded.{AreLoaded}
 use Rattle.image_tokens.specs.References.{size, Widens, AreKnown}
 use Rattle.image_tokens.specs.declared.references.References.{References}
 use Rattle.image_rows.specs.CanFill.{CanFill}
-use Rattle.image_rows.specs.DeclaredMembers.{fields_bytes, methods_bytes}
-use Rattle.image_rows.specs.Declaring.{places, class_size, AreDeclared}
+use Rattle.image_members.specs.DeclaredMembers.{fields_bytes, methods_bytes}
+use Rattle.image_members.specs.Declaring.{places, class_size, AreDeclared}
 use Rattle.image_rows.specs.Filled.{HasDeclared}
-use Rattle.image_rows.specs.declared.classes.Class.{Class}
+use Rattle.image_members.specs.declared.classes.Class.{Class}
 use Rattle.image_tables.specs.Filling.{CanStillFill}
 
 -- how many bytes come into the heaps of texts and blobs at most: their empty entries, the names of types, and names and

@@ -4,8 +4,8 @@ use Rattle.assembly_tree.specs.declared.assembly.Assembly.{Assembly}
 use Rattle.image_tokens.specs.References.{size}
 use Rattle.image_tokens.specs.declared.references.References.{References}
 use Rattle.image_rows.specs.Filled.{IsFilled}
-use Rattle.image_rows.specs.Pushing.{Tables}
-use Rattle.image_rows.specs.declared.classes.Class.{Class}
+use Rattle.image_members.specs.Pushing.{Tables}
+use Rattle.image_members.specs.declared.classes.Class.{Class}
 use Rattle.metadata_tables.specs.Encoding.{rows_of}
 use Rattle.laws_tree_weights.specs.ImageBytes.{heap_bytes, code_bytes}
 

@@ -3,18 +3,18 @@ ghost use Rattle.std.specs.Prelude.{◌≡◌, ◌^◌, ◌<◌, ◌≤◌, true
 ghost use Rattle.assembly_tree.specs.Weight.{weight_of};
 ghost use Rattle.assembly_tree.specs.WellFormed.{is_well_formed};
 ghost use Rattle.image_rows.specs.CanFill.{AreDeclarableTypes};
-ghost use Rattle.image_rows.specs.Classes.{AreClasses};
-ghost use Rattle.image_rows.specs.Declaring.{class_size};
-ghost use Rattle.image_rows.specs.Ordered.{IsOrdered};
+ghost use Rattle.image_members.specs.Classes.{AreClasses};
+ghost use Rattle.image_members.specs.Declaring.{class_size};
+ghost use Rattle.image_members.specs.Ordered.{IsOrdered};
 ghost use Rattle.image_writer.specs.Beginning.{DeclaresTypes, HasBegun, DeclaresAll};
 
 use assembly_tree::Assembly;
 use heaps::{BlobHeap, StringHeap, UserHeap};
 use il_base::NoMemory;
-use image_rows::classes::Class;
-use image_rows::declared_members::declare_members;
-use image_rows::declaring::declare_types;
-use image_rows::order::Ordered;
+use image_members::classes::Class;
+use image_members::declared_members::declare_members;
+use image_members::declaring::declare_types;
+use image_members::order::Ordered;
 use image_tokens::heap_contents::Heaps;
 use image_tokens::known::Known;
 use image_tokens::references::{Declared, References, Referred};

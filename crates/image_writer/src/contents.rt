@@ -2,16 +2,16 @@
 ghost use Rattle.std.specs.Prelude.{◌≡◌, ◌^◌, ◌≤◌, [], OnOk};
 ghost use Rattle.assembly_tree.specs.Weight.{weight_of};
 ghost use Rattle.image_tables.specs.OwnedPart.{IsNothing};
-ghost use Rattle.image_rows.specs.Classes.{AreClasses};
-ghost use Rattle.image_rows.specs.Ordered.{IsOrdered};
+ghost use Rattle.image_members.specs.Classes.{AreClasses};
+ghost use Rattle.image_members.specs.Ordered.{IsOrdered};
 ghost use Rattle.image_writer.specs.Beginning.{DeclaresAll};
 ghost use Rattle.image_writer.specs.Contents.{HasNoRows, IsContents};
 
 use assembly_tree::Assembly;
 use il_base::{Bytes, NoMemory};
 use image_layout::push_references;
-use image_rows::classes::Class;
-use image_rows::order::Ordered;
+use image_members::classes::Class;
+use image_members::order::Ordered;
 use image_tables::filling::fill;
 use image_tables::owned_part::Nothing;
 use image_tokens::references::References;

@@ -8,9 +8,9 @@ ghost use Rattle.image_model.specs.Faults.{Reads};
 ghost use Rattle.image_model.specs.Tidy.{IsTidy};
 ghost use Rattle.laws_image_reading.specs.parts.Ranges.{AreInRange};
 ghost use Rattle.image_tokens.specs.Loaded.{AreLoaded};
-ghost use Rattle.image_rows.specs.Classes.{AreClasses};
+ghost use Rattle.image_members.specs.Classes.{AreClasses};
 ghost use Rattle.image_rows.specs.Filled.{entry_token};
-ghost use Rattle.image_rows.specs.Ordered.{IsOrdered};
+ghost use Rattle.image_members.specs.Ordered.{IsOrdered};
 ghost use Rattle.image_writer.specs.Beginning.{HasBegun, DeclaresAll};
 
 use crate::beginning::{begin_types, declare_all};
@@ -19,9 +19,9 @@ use crate::laying_out::lay_out_filled;
 use assembly_tree::Assembly;
 use heaps::UserHeap;
 use il_base::{Bytes, NoMemory};
-use image_rows::classes::{Class, classes_of};
+use image_members::classes::{Class, classes_of};
+use image_members::order::{Ordered, in_order};
 use image_rows::entry::entry_of;
-use image_rows::order::{Ordered, in_order};
 use image_tables::owned_part::Nothing;
 use image_tokens::references::References;
 use laws_image_reading::ranges::{

@@ -11,7 +11,7 @@ ghost use Rattle.image_writer.specs.Contents.{IsContents};
 use assembly_tree::{Assembly, conditions_are_named};
 use il_base::{Bytes, NoMemory};
 use image_layout::lay_out;
-use image_rows::classes::Class;
+use image_members::classes::Class;
 use image_tokens::references::References;
 use laws_image_indexes::indexes_are_there;
 use laws_image_parts::{images_are_tidy, references_are_distinct, references_are_tidy};

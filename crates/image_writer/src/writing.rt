@@ -12,7 +12,7 @@ use crate::fault::WriteFault;
 use crate::finishing::write_loaded;
 use assembly_tree::{Assembly, Attributes, Generics, weigh};
 use il_base::Bytes;
-use image_rows::loading::load_texts;
+use image_members::loading::load_texts;
 use image_tables::owned_part::Nothing;
 use pe_layout::Kind;
 use std::alloc::Global;

@@ -11,8 +11,8 @@ use Rattle.metadata_tables.specs.Encoding.{rows_in}
 use Rattle.metadata_tables.specs.declared.coded.Coded.{Coded}
 use Rattle.laws_image_indexes.proofs.TokenLemmas.{Leads, row_index}
 use Rattle.image_tokens.specs.Indexes.{index_of}
-use Rattle.image_rows.specs.ByNumber.{or_none, owned_in, owned_at, by_number}
-use Rattle.image_rows.specs.Pushing.{Tables}
+use Rattle.image_members.specs.ByNumber.{or_none, owned_in, owned_at, by_number}
+use Rattle.image_members.specs.Pushing.{Tables}
 
 pub each_weaker : {X : Type 0} (P Q : X → Type 0) (xs : List X) → ((x : X) → P x → Q x) → AllByRecursion P xs → AllByRecursion Q xs
 each_weaker P Q [] f h = tt

@@ -36,25 +36,25 @@ use Rattle.image_tokens.specs.declared.references.References.{References}
 use Rattle.image_tokens.specs.declared.row_set.Cells.{Cells}
 use Rattle.image_rows.specs.AttributeRows.{IsAttributeRow}
 use Rattle.image_rows.specs.ClassRows.{class_rows, encloser_rows, nested_rows, stated_rows, layout_rows}
-use Rattle.image_rows.specs.Classes.{AreClasses, none, more}
-use Rattle.image_rows.specs.ConstantRows.{IsConstantRow, stated_constant}
-use Rattle.image_rows.specs.DataRows.{Datum, stated_data, field_data, all_data, IsDataRow}
-use Rattle.image_rows.specs.DeclaredMembers.{owned, class_methods, IsMethodOf}
+use Rattle.image_members.specs.Classes.{AreClasses, none, more}
+use Rattle.image_members.specs.ConstantRows.{IsConstantRow, stated_constant}
+use Rattle.image_members.specs.DataRows.{Datum, stated_data, field_data, all_data, IsDataRow}
+use Rattle.image_members.specs.DeclaredMembers.{owned, class_methods, IsMethodOf}
 use Rattle.image_rows.specs.EventRows.{IsEventRow}
 use Rattle.image_rows.specs.FieldRows.{stated_offset, offset_rows}
 use Rattle.image_rows.specs.Filled.{IsFilled}
-use Rattle.image_rows.specs.GenericRows.{bounds_with, bounds_in, bounds_from, IsBoundRow, IsGenericRow}
+use Rattle.image_members.specs.GenericRows.{bounds_with, bounds_in, bounds_from, IsBoundRow, IsGenericRow}
 use Rattle.image_rows.specs.InterfaceRows.{class_interfaces, interfaces_from, AreIndexes, AreInterfaceRows, joined}
-use Rattle.image_rows.specs.Lists.{access_of, params_in, properties_in, events_in, class_generics, class_attributes, generic_lists, generic_items, generics_in, attribute_lists, attribute_items, constant_lists, constant_items, accessor_lists, accessor_items, event_access, property_access, access_from, longest_of}
-use Rattle.image_rows.specs.ManifestRows.{IsModuleRow, IsAssemblyRow}
+use Rattle.image_members.specs.Lists.{access_of, params_in, properties_in, events_in, class_generics, class_attributes, generic_lists, generic_items, generics_in, attribute_lists, attribute_items, constant_lists, constant_items, accessor_lists, accessor_items, event_access, property_access, access_from, longest_of}
+use Rattle.image_members.specs.ManifestRows.{IsModuleRow, IsAssemblyRow}
 use Rattle.image_rows.specs.MapRows.{run_rows, map_rows, event_count, property_count}
 use Rattle.image_rows.specs.OverrideRows.{Override, overrides, overrides_from, IsOverrideRow}
-use Rattle.image_rows.specs.Places.{all_fields, all_methods, class_properties, class_events}
+use Rattle.image_members.specs.Places.{all_fields, all_methods, class_properties, class_events}
 use Rattle.image_rows.specs.PropertyRows.{IsPropertyRow}
-use Rattle.image_rows.specs.Pushing.{Tables}
+use Rattle.image_members.specs.Pushing.{Tables}
 use Rattle.image_rows.specs.SemanticsRows.{semantics_row}
-use Rattle.image_rows.specs.TypeIndexes.{IsTypeIndex}
-use Rattle.image_rows.specs.declared.classes.Class.{Class}
+use Rattle.image_members.specs.TypeIndexes.{IsTypeIndex}
+use Rattle.image_members.specs.declared.classes.Class.{Class}
 
 -- ---- enclosers have rows
 

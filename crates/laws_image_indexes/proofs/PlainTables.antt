@@ -26,21 +26,21 @@ use Rattle.image_tokens.specs.Indexes.{index_of_token}
 use Rattle.image_tokens.specs.References.{tokens_of, AreKnown}
 use Rattle.image_tokens.specs.declared.references.References.{References}
 use Rattle.image_tokens.specs.declared.row_set.Cells.{Cells}
-use Rattle.image_rows.specs.Declaring.{places, class_place, HoldsPlace}
-use Rattle.image_rows.specs.DeclaredMembers.{owned, class_fields, class_methods, IsMethodOf}
+use Rattle.image_members.specs.Declaring.{places, class_place, HoldsPlace}
+use Rattle.image_members.specs.DeclaredMembers.{owned, class_fields, class_methods, IsMethodOf}
 use Rattle.image_rows.specs.EventRows.{IsEventRow}
 use Rattle.image_rows.specs.FieldRows.{IsFieldRow}
 use Rattle.image_rows.specs.Filled.{IsFilled, HoldsTypeRows, first_cell, two_cells, three_cells}
-use Rattle.image_rows.specs.Lists.{params_in, properties_in, events_in}
-use Rattle.image_rows.specs.ManifestRows.{IsModuleRow, IsAssemblyRow, IsExternRow}
+use Rattle.image_members.specs.Lists.{params_in, properties_in, events_in}
+use Rattle.image_members.specs.ManifestRows.{IsModuleRow, IsAssemblyRow, IsExternRow}
 use Rattle.image_rows.specs.MethodRows.{PlacedMethod, placed_methods, IsMethodRow}
 use Rattle.image_rows.specs.ParamRows.{IsParamRow}
-use Rattle.image_rows.specs.Places.{all_fields, all_methods, params_of}
+use Rattle.image_members.specs.Places.{all_fields, all_methods, params_of}
 use Rattle.image_rows.specs.PropertyRows.{IsPropertyRow}
-use Rattle.image_rows.specs.Pushing.{Tables}
-use Rattle.image_rows.specs.TypeIndexes.{IsTypeIndex}
+use Rattle.image_members.specs.Pushing.{Tables}
+use Rattle.image_members.specs.TypeIndexes.{IsTypeIndex}
 use Rattle.image_rows.specs.TypeRows.{Numbered, numbered, base_of, IsBase, IsModuleType, IsTypeDefRow}
-use Rattle.image_rows.specs.declared.classes.Class.{Class}
+use Rattle.image_members.specs.declared.classes.Class.{Class}
 
 -- ---- rows without runs
 

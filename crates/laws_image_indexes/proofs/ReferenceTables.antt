@@ -26,9 +26,9 @@ use Rattle.image_tokens.specs.TypePaths.{LeadsIn, in_reference}
 use Rattle.image_tokens.specs.declared.references.References.{References}
 use Rattle.image_tokens.specs.declared.row_set.Cells.{Cells}
 use Rattle.image_rows.specs.Filled.{IsFilled, written_tables, three_cells, two_cells, first_cell}
-use Rattle.image_rows.specs.ManifestRows.{IsExternRow}
-use Rattle.image_rows.specs.Pushing.{Tables}
-use Rattle.image_rows.specs.declared.classes.Class.{Class}
+use Rattle.image_members.specs.ManifestRows.{IsExternRow}
+use Rattle.image_members.specs.Pushing.{Tables}
+use Rattle.image_members.specs.declared.classes.Class.{Class}
 
 each_row : (P : Cells → Type 0) (rows : List Cells) → EachRow P rows → AllByRecursion P rows
 each_row P [] h = tt

@@ -10,7 +10,7 @@ use Rattle.metadata_tables.specs.declared.schema.Column.TheVariants.{Number}
 use Rattle.laws_image_indexes.specs.Laws.{LeadsFrom}
 use Rattle.image_layout.specs.Indexes.{IsIndexIn, AreIndexesIn}
 use Rattle.image_tokens.specs.declared.references.References.{References}
-use Rattle.image_rows.specs.Pushing.{Tables}
+use Rattle.image_members.specs.Pushing.{Tables}
 
 -- ---- lists
 

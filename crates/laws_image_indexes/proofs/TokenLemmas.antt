@@ -26,7 +26,7 @@ use Rattle.image_tokens.specs.TypePaths.{Follows, last, on}
 use Rattle.image_tokens.specs.declared.references.References.{References}
 use Rattle.image_tokens.specs.declared.row_set.Cells.{Cells}
 use Rattle.image_tokens.proofs.NameLemmas.{holds_of_found}
-use Rattle.image_rows.specs.Pushing.{Tables}
+use Rattle.image_members.specs.Pushing.{Tables}
 
 -- ---- coded indexes
 

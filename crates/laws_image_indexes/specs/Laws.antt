@@ -8,10 +8,10 @@ use Rattle.metadata_tables.specs.Stream.{column_of}
 use Rattle.image_layout.specs.Indexes.{IsIndexIn, HasIndexesIn}
 use Rattle.image_tokens.specs.declared.references.References.{References}
 use Rattle.image_rows.specs.Filled.{IsFilled}
-use Rattle.image_rows.specs.Lists.{accessor_items}
-use Rattle.image_rows.specs.Places.{all_methods}
-use Rattle.image_rows.specs.Pushing.{Tables}
-use Rattle.image_rows.specs.declared.classes.Class.{Class}
+use Rattle.image_members.specs.Lists.{accessor_items}
+use Rattle.image_members.specs.Places.{all_methods}
+use Rattle.image_members.specs.Pushing.{Tables}
+use Rattle.image_members.specs.declared.classes.Class.{Class}
 
 -- the cells of a table's rows do
 abbrev pub LeadsFrom : References → Tables → ℕ → Type 0

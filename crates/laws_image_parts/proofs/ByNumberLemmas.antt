@@ -6,7 +6,7 @@ use Rattle.std.proofs.lemmas.List.{append-nil}
 use Rattle.std.proofs.lemmas.Bool.{eqb-true, eq-eqb, and_parts, cases_Bool, not-true}
 use Rattle.metadata_tables.specs.CodedIndex.{tag_of}
 use Rattle.metadata_tables.specs.declared.coded.Coded.{Coded}
-use Rattle.image_rows.specs.ByNumber.{or_none, owned_in, owned_at, by_number}
+use Rattle.image_members.specs.ByNumber.{or_none, owned_in, owned_at, by_number}
 use Rattle.image_tokens.specs.Indexes.{index_of}
 use Rattle.laws_image_parts.proofs.IndexLemmas.{index_apart}
 

@@ -6,7 +6,7 @@ use Rattle.metadata_tables.specs.Encoding.{rows_of}
 use Rattle.metadata_tables.specs.Schema.{columns_of}
 use Rattle.metadata_tables.specs.Stream.{cell}
 use Rattle.image_tokens.specs.declared.references.References.{References}
-use Rattle.image_rows.specs.Pushing.{Tables}
+use Rattle.image_members.specs.Pushing.{Tables}
 use Rattle.image_layout.specs.Laws.{ReadsTables}
 use Rattle.image_model.specs.Streams.{tables_of}
 use Rattle.laws_image_parts.specs.AtRows.{Reads}

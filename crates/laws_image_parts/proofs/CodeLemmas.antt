@@ -2,7 +2,7 @@
 use Rattle.std.proofs.Common.{◌≡◌, ap, refl, sym, ◌∙◌, ℕ, suc, ◌+◌, ◌-◌, List, [], ◌∷◌, ◌++◌, length, take, drop, arith}
 use Rattle.std.proofs.lemmas.List.{append_assoc, length-append}
 use Rattle.pe_layout.specs.FileMap.{readable, StandsAt}
-use Rattle.image_rows.specs.Placing.{StandsIn}
+use Rattle.image_members.specs.Placing.{StandsIn}
 
 drop_front : (xs ys : List ℕ) → drop (length xs) (xs ++ ys) ≡ ys
 drop_front [] ys = refl

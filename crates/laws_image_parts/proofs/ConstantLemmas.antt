@@ -17,8 +17,8 @@ use Rattle.assembly_tree.specs.declared.members.Constant.{Constant}
 use Rattle.assembly_tree.specs.declared.members.Constant.TheVariants as constant
 use Rattle.image_tokens.specs.Units.{bytes_of_units}
 use Rattle.image_tokens.specs.declared.references.References.{References}
-use Rattle.image_rows.specs.ConstantRows.{IsConstantRow, stated_constant}
-use Rattle.image_rows.specs.Constants.{element_of, value_of}
+use Rattle.image_members.specs.ConstantRows.{IsConstantRow, stated_constant}
+use Rattle.image_members.specs.Constants.{element_of, value_of}
 use Rattle.image_layout.specs.Laws.{ReadsHeaps}
 use Rattle.image_model.specs.Constants.{constant_of}
 use Rattle.image_model.specs.Members.{constants_of, ConstantIs}

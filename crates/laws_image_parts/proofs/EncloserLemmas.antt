@@ -10,8 +10,8 @@ use Rattle.assembly_tree.specs.declared.typedef.TypeDef.TheViews.{out-TypeDef}
 use Rattle.body_codec.specs.Names.{NameMap}
 use Rattle.image_tokens.specs.declared.references.References.{References}
 use Rattle.image_rows.specs.ClassRows.{class_rows, nested_rows, encloser_rows}
-use Rattle.image_rows.specs.Classes.{AreClasses}
-use Rattle.image_rows.specs.declared.classes.Class.{Class}
+use Rattle.image_members.specs.Classes.{AreClasses}
+use Rattle.image_members.specs.declared.classes.Class.{Class}
 use Rattle.image_model.specs.Columns.{nested_class, enclosing_class}
 use Rattle.image_model.specs.Reading.{IsTypeButNested, AreTypes, made, none, more}
 use Rattle.image_model.specs.Rows.{count_of, rows_of, rows_with, enclosing, types_in}

@@ -17,16 +17,16 @@ use Rattle.image_tokens.specs.Indexes.{index_of}
 use Rattle.image_tokens.specs.declared.references.References.{References}
 use Rattle.image_tokens.specs.declared.row_set.Cells.{Cells}
 use Rattle.image_rows.specs.ClassRows.{class_rows, layout_rows, stated_rows}
-use Rattle.image_rows.specs.DataRows.{Datum, stated_data, field_data, all_data, IsDataRow}
-use Rattle.image_rows.specs.DeclaredMembers.{owned, class_methods, IsMethodOf}
+use Rattle.image_members.specs.DataRows.{Datum, stated_data, field_data, all_data, IsDataRow}
+use Rattle.image_members.specs.DeclaredMembers.{owned, class_methods, IsMethodOf}
 use Rattle.image_rows.specs.FieldRows.{stated_offset, offset_rows}
 use Rattle.image_rows.specs.Filled.{HasDeclared}
-use Rattle.image_rows.specs.GenericRows.{bounds_with, bounds_in, bounds_from, IsBoundRow}
+use Rattle.image_members.specs.GenericRows.{bounds_with, bounds_in, bounds_from, IsBoundRow}
 use Rattle.image_rows.specs.InterfaceRows.{class_interfaces, interfaces_from, joined, AreInterfaceRows}
-use Rattle.image_rows.specs.Lists.{generics_in}
+use Rattle.image_members.specs.Lists.{generics_in}
 use Rattle.image_rows.specs.OverrideRows.{Override, overrides, overrides_from, IsOverrideRow}
-use Rattle.image_rows.specs.Places.{all_fields, all_methods}
-use Rattle.image_rows.specs.declared.classes.Class.{Class}
+use Rattle.image_members.specs.Places.{all_fields, all_methods}
+use Rattle.image_members.specs.declared.classes.Class.{Class}
 use Rattle.image_model.specs.Columns.{layout_parent, offset_field, data_field, bound_parameter, override_body, interface_class}
 use Rattle.image_model.specs.Rows.{rows_with}
 use Rattle.laws_image_parts.specs.AtRows.{AtEach, IsItem}

@@ -5,9 +5,9 @@ use Rattle.std.specs.Option.{option_map_or}
 use Rattle.std.specs.List.{AllZip, range_with_len}
 use Rattle.std.proofs.lemmas.Bool.{eqb-true, false_from_ne_true}
 use Rattle.metadata_tables.specs.Indexes.{run_cell}
-use Rattle.image_rows.specs.DeclaredMembers.{class_methods}
+use Rattle.image_members.specs.DeclaredMembers.{class_methods}
 use Rattle.image_rows.specs.MapRows.{map_rows, run_rows}
-use Rattle.image_rows.specs.declared.classes.Class.{Class}
+use Rattle.image_members.specs.declared.classes.Class.{Class}
 use Rattle.image_model.specs.Rows.{count_of, run}
 use Rattle.laws_image_parts.specs.AtRows.{AtEach}
 use Rattle.laws_image_parts.proofs.GroupLemmas.{joined}

@@ -9,13 +9,13 @@ use Rattle.assembly_tree.specs.declared.members.Accessor.{Accessor}
 use Rattle.assembly_tree.specs.declared.members.Event.{Event}
 use Rattle.assembly_tree.specs.declared.members.Property.{Property}
 use Rattle.image_tokens.specs.declared.references.References.{References}
-use Rattle.image_rows.specs.DeclaredMembers.{class_fields, class_methods}
-use Rattle.image_rows.specs.Lists.{access_of, access_from, event_access, property_access}
-use Rattle.image_rows.specs.Lists as rows
+use Rattle.image_members.specs.DeclaredMembers.{class_fields, class_methods}
+use Rattle.image_members.specs.Lists.{access_of, access_from, event_access, property_access}
+use Rattle.image_members.specs.Lists as rows
 use Rattle.image_rows.specs.MapRows.{map_rows}
-use Rattle.image_rows.specs.Places.{all_methods, class_events, class_properties}
+use Rattle.image_members.specs.Places.{all_methods, class_events, class_properties}
 use Rattle.image_rows.specs.TypeRows.{Numbered, numbered}
-use Rattle.image_rows.specs.declared.classes.Class.{Class}
+use Rattle.image_members.specs.declared.classes.Class.{Class}
 use Rattle.image_model.specs.Columns.{event_map_parent, event_map_events, property_map_parent, property_map_properties}
 use Rattle.image_model.specs.Rows.{count_of, run, run_start, first_method, first_event, first_property, rows_of, events_of, properties_of}
 use Rattle.laws_image_parts.specs.AtRows.{AtEach, IsItem, Reads}

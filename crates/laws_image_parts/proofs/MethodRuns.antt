@@ -7,12 +7,12 @@ use Rattle.assembly_tree.specs.declared.assembly.Assembly.{Assembly}
 use Rattle.assembly_tree.specs.declared.members.Method.{Method}
 use Rattle.assembly_tree.specs.declared.members.Param.{Param}
 use Rattle.image_tokens.specs.declared.references.References.{References}
-use Rattle.image_rows.specs.CodeBytes.{body_of, HasBody}
-use Rattle.image_rows.specs.Lists.{params_in}
+use Rattle.image_members.specs.CodeBytes.{body_of, HasBody}
+use Rattle.image_members.specs.Lists.{params_in}
 use Rattle.image_rows.specs.MethodRows.{PlacedMethod, placed_methods}
-use Rattle.image_rows.specs.Places as rows
-use Rattle.image_rows.specs.Places.{all_methods}
-use Rattle.image_rows.specs.declared.classes.Class.{Class}
+use Rattle.image_members.specs.Places as rows
+use Rattle.image_members.specs.Places.{all_methods}
+use Rattle.image_members.specs.declared.classes.Class.{Class}
 use Rattle.image_model.specs.Columns.{method_params}
 use Rattle.image_model.specs.Rows.{count_of, first_param, params_of}
 use Rattle.laws_image_parts.specs.AtRows.{AtEach, IsItem}

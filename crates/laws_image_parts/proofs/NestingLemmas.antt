@@ -6,8 +6,8 @@ use Rattle.std.proofs.lemmas.List.{append-nil, length-append}
 use Rattle.std.proofs.lemmas.Bool.{eqb-true, eq-eqb, ltb-true, ltb-false, cases_Bool}
 use Rattle.assembly_tree.specs.declared.typedef.TypeDef.{TypeDef}
 use Rattle.assembly_tree.specs.declared.typedef.TypeDef.TheViews.{out-TypeDef}
-use Rattle.image_rows.specs.Classes.{AreClasses, none, more}
-use Rattle.image_rows.specs.declared.classes.Class.{Class}
+use Rattle.image_members.specs.Classes.{AreClasses, none, more}
+use Rattle.image_members.specs.declared.classes.Class.{Class}
 use Rattle.laws_image_parts.specs.AtRows.{AtEach}
 use Rattle.laws_image_parts.proofs.GroupLemmas.{filter_both}
 use Rattle.laws_image_parts.proofs.RowLists.{range_split, each_front, each_back}

@@ -18,13 +18,13 @@ use Rattle.assembly_tree.specs.declared.members.Property.{Property}
 use Rattle.image_tokens.specs.Indexes.{index_of}
 use Rattle.image_tokens.specs.declared.references.References.{References}
 use Rattle.image_rows.specs.AttributeRows.{IsAttributeRow}
-use Rattle.image_rows.specs.ByNumber.{by_number, or_none}
-use Rattle.image_rows.specs.ConstantRows.{IsConstantRow, stated_constant}
-use Rattle.image_rows.specs.GenericRows.{IsGenericRow, generic_of}
-use Rattle.image_rows.specs.Lists.{Owned, longest_of, class_attributes, class_generics, generics_in, params_in, properties_in, events_in, attribute_lists, attribute_items, constant_lists, constant_items, generic_lists, generic_items, accessor_lists, accessor_items}
-use Rattle.image_rows.specs.Places.{all_fields, all_methods}
+use Rattle.image_members.specs.ByNumber.{by_number, or_none}
+use Rattle.image_members.specs.ConstantRows.{IsConstantRow, stated_constant}
+use Rattle.image_members.specs.GenericRows.{IsGenericRow, generic_of}
+use Rattle.image_members.specs.Lists.{Owned, longest_of, class_attributes, class_generics, generics_in, params_in, properties_in, events_in, attribute_lists, attribute_items, constant_lists, constant_items, generic_lists, generic_items, accessor_lists, accessor_items}
+use Rattle.image_members.specs.Places.{all_fields, all_methods}
 use Rattle.image_rows.specs.SemanticsRows.{semantics_row}
-use Rattle.image_rows.specs.declared.classes.Class.{Class}
+use Rattle.image_members.specs.declared.classes.Class.{Class}
 use Rattle.image_model.specs.Columns.{attribute_parent, constant_parent, generic_owner, semantics_association}
 use Rattle.image_model.specs.Rows.{rows_of, rows_with, count_of}
 use Rattle.laws_image_parts.specs.AtRows.{IsItem, Reads}

@@ -18,13 +18,13 @@ use Rattle.image_tokens.specs.Texts.{HoldsText}
 use Rattle.image_tokens.specs.declared.references.References.{References}
 use Rattle.image_rows.specs.EventRows.{IsEventRow}
 use Rattle.image_rows.specs.FieldRows.{IsFieldRow}
-use Rattle.image_rows.specs.GenericRows.{IsGenericRow}
-use Rattle.image_rows.specs.Lists.{access_of}
-use Rattle.image_rows.specs.ManifestRows.{IsExternRow}
-use Rattle.image_rows.specs.ManifestRows.{extern_cells as extern_made}
+use Rattle.image_members.specs.GenericRows.{IsGenericRow}
+use Rattle.image_members.specs.Lists.{access_of}
+use Rattle.image_members.specs.ManifestRows.{IsExternRow}
+use Rattle.image_members.specs.ManifestRows.{extern_cells as extern_made}
 use Rattle.image_rows.specs.ParamRows.{IsParamRow}
 use Rattle.image_rows.specs.PropertyRows.{IsPropertyRow}
-use Rattle.image_rows.specs.declared.classes.Class.{Class}
+use Rattle.image_members.specs.declared.classes.Class.{Class}
 use Rattle.image_layout.specs.Laws.{ReadsHeaps}
 use Rattle.image_model.specs.Columns.{field_flags, field_name, param_name, property_flags, property_name, extern_major, extern_minor, extern_build, extern_revision, extern_name, extern_key, extern_culture, extern_hash, type_name, type_space, method_name, event_name, generic_name, offset_of_row}
 use Rattle.image_model.specs.Members.{layouts_of, offsets_of, semantics_of}

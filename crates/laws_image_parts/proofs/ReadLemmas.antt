@@ -12,26 +12,26 @@ use Rattle.type_terms.specs.declared.term.Owner.{Owner}
 use Rattle.metadata_tables.specs.Indexes.{run_cell}
 use Rattle.image_rows.specs.AttributeRows.{IsAttributeRow}
 use Rattle.image_rows.specs.ClassRows.{class_rows, nested_rows, layout_rows, stated_rows}
-use Rattle.image_rows.specs.ConstantRows.{IsConstantRow}
-use Rattle.image_rows.specs.DataRows.{all_data, IsDataRow}
-use Rattle.image_rows.specs.DeclaredMembers.{class_fields, class_methods}
+use Rattle.image_members.specs.ConstantRows.{IsConstantRow}
+use Rattle.image_members.specs.DataRows.{all_data, IsDataRow}
+use Rattle.image_members.specs.DeclaredMembers.{class_fields, class_methods}
 use Rattle.image_rows.specs.EventRows.{IsEventRow}
 use Rattle.image_rows.specs.FieldRows.{IsFieldRow, offset_rows, stated_offset}
 use Rattle.image_rows.specs.Filled.{three_cells, two_cells, first_cell, IsFilled, HoldsReferences, HoldsManifest, HoldsTypeRows, HoldsInterfaces, HoldsTypes, HoldsFields, HoldsMethods, HoldsProperties, HoldsOwned}
-use Rattle.image_rows.specs.GenericRows.{bounds_from, IsBoundRow, IsGenericRow}
+use Rattle.image_members.specs.GenericRows.{bounds_from, IsBoundRow, IsGenericRow}
 use Rattle.image_rows.specs.InterfaceRows.{interfaces_from, joined, AreInterfaceRows}
-use Rattle.image_rows.specs.Lists.{attribute_items, constant_items, accessor_items, generic_items, generics_in, params_in, properties_in, events_in}
-use Rattle.image_rows.specs.ManifestRows.{IsModuleRow, IsAssemblyRow, IsExternRow}
+use Rattle.image_members.specs.Lists.{attribute_items, constant_items, accessor_items, generic_items, generics_in, params_in, properties_in, events_in}
+use Rattle.image_members.specs.ManifestRows.{IsModuleRow, IsAssemblyRow, IsExternRow}
 use Rattle.image_rows.specs.MapRows.{map_rows, run_rows, event_count, property_count}
 use Rattle.image_rows.specs.MethodRows.{placed_methods, PlacedMethod, IsMethodRow}
 use Rattle.image_rows.specs.OverrideRows.{overrides_from, IsOverrideRow}
 use Rattle.image_rows.specs.ParamRows.{IsParamRow}
-use Rattle.image_rows.specs.Places.{all_fields, all_methods}
+use Rattle.image_members.specs.Places.{all_fields, all_methods}
 use Rattle.image_rows.specs.PropertyRows.{IsPropertyRow}
-use Rattle.image_rows.specs.Pushing.{Tables}
+use Rattle.image_members.specs.Pushing.{Tables}
 use Rattle.image_rows.specs.SemanticsRows.{semantics_row}
 use Rattle.image_rows.specs.TypeRows.{numbered, Numbered, IsModuleType, IsTypeDefRow}
-use Rattle.image_rows.specs.declared.classes.Class.{Class}
+use Rattle.image_members.specs.declared.classes.Class.{Class}
 use Rattle.image_layout.specs.Laws.{ReadsTables}
 use Rattle.laws_image_parts.specs.RowCells.{module_cells, type_ref_cells, type_cells, field_cells, method_cells, param_cells, interface_cells, member_cells, constant_cells, attribute_cells, layout_cells, offset_cells, locals_cells, event_map_cells, event_cells, property_map_cells, property_cells, semantics_cells, override_cells, type_spec_cells, data_cells, assembly_cells, extern_cells, nested_cells, generic_cells, instance_cells, bound_cells}
 use Rattle.laws_image_parts.specs.RowsRead.{IsMade, row_itself, ReadsReferences, ReadsManifest, ReadsTypeRows, ReadsInterfaces, ReadsTypes, ReadsFields, ReadsMethods, ReadsProperties, ReadsOwned, ReadsRows}

@@ -7,10 +7,10 @@ use Rattle.assembly_tree.specs.declared.assembly.Assembly.{Assembly}
 use Rattle.assembly_tree.specs.declared.members.Field.{Field}
 use Rattle.assembly_tree.specs.declared.members.Method.{Method}
 use Rattle.image_tokens.specs.declared.references.References.{References}
-use Rattle.image_rows.specs.DeclaredMembers.{class_fields, class_methods}
-use Rattle.image_rows.specs.Places.{all_fields, all_methods}
+use Rattle.image_members.specs.DeclaredMembers.{class_fields, class_methods}
+use Rattle.image_members.specs.Places.{all_fields, all_methods}
 use Rattle.image_rows.specs.TypeRows.{Numbered, numbered}
-use Rattle.image_rows.specs.declared.classes.Class.{Class}
+use Rattle.image_members.specs.declared.classes.Class.{Class}
 use Rattle.image_model.specs.Columns.{type_fields, type_methods}
 use Rattle.image_model.specs.Rows.{count_of, run, run_start, first_field, first_method, fields_of, methods_of}
 use Rattle.laws_image_parts.specs.AtRows.{AtEach, IsItem}

@@ -13,15 +13,15 @@ use Rattle.metadata_tables.specs.declared.coded.Coded.TheVariants.{MethodDefOrRe
 use Rattle.type_terms.specs.declared.reference.MethodRef.{MethodRef}
 use Rattle.type_terms.specs.declared.term.Owner.{Owner}
 use Rattle.image_tokens.specs.declared.references.References.{References}
-use Rattle.image_rows.specs.DataRows.{IsDataRow}
-use Rattle.image_rows.specs.DeclaredMembers.{owned, class_methods}
+use Rattle.image_members.specs.DataRows.{IsDataRow}
+use Rattle.image_members.specs.DeclaredMembers.{owned, class_methods}
 use Rattle.image_rows.specs.Filled.{HasDeclared}
-use Rattle.image_rows.specs.GenericRows.{IsBoundRow}
+use Rattle.image_members.specs.GenericRows.{IsBoundRow}
 use Rattle.image_rows.specs.InterfaceRows.{class_interfaces, AreIndexes}
-use Rattle.image_rows.specs.Lists.{generics_in}
+use Rattle.image_members.specs.Lists.{generics_in}
 use Rattle.image_rows.specs.OverrideRows.{IsOverrideRow}
-use Rattle.image_rows.specs.Places.{all_fields, all_methods}
-use Rattle.image_rows.specs.declared.classes.Class.{Class}
+use Rattle.image_members.specs.Places.{all_fields, all_methods}
+use Rattle.image_members.specs.declared.classes.Class.{Class}
 use Rattle.image_model.specs.Columns.{layout_parent, offset_field, data_field, bound_parameter, override_body, interface_class}
 use Rattle.image_model.specs.Rows.{rows_with, index_of}
 use Rattle.laws_image_parts.specs.AtRows.{AtEach, IsItem}

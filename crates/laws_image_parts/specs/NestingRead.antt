@@ -4,8 +4,8 @@ use Rattle.assembly_tree.specs.declared.assembly.Assembly.{Assembly}
 use Rattle.assembly_tree.specs.declared.typedef.TypeDef.TheViews.{out-TypeDef}
 use Rattle.body_codec.specs.Names.{NameMap}
 use Rattle.image_tokens.specs.declared.references.References.{References}
-use Rattle.image_rows.specs.Classes.{AreClasses}
-use Rattle.image_rows.specs.declared.classes.Class.{Class}
+use Rattle.image_members.specs.Classes.{AreClasses}
+use Rattle.image_members.specs.declared.classes.Class.{Class}
 use Rattle.image_model.specs.Reading.{IsTypeButNested, AreTypes}
 use Rattle.image_model.specs.Rows.{count_of, enclosing, types_in}
 use Rattle.laws_image_parts.specs.AtRows.{AtEach}

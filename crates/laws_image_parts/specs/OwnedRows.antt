@@ -14,12 +14,12 @@ use Rattle.assembly_tree.specs.declared.members.Property.{Property}
 use Rattle.metadata_tables.specs.declared.coded.Coded.TheVariants.{HasConstant, HasCustomAttribute, HasSemantics, TypeOrMethodDef}
 use Rattle.image_tokens.specs.declared.references.References.{References}
 use Rattle.image_rows.specs.AttributeRows.{IsAttributeRow}
-use Rattle.image_rows.specs.ConstantRows.{IsConstantRow, stated_constant}
-use Rattle.image_rows.specs.GenericRows.{IsGenericRow}
-use Rattle.image_rows.specs.Lists.{class_attributes, class_generics, generics_in, params_in, properties_in, events_in, access_from, event_access, property_access}
-use Rattle.image_rows.specs.Places.{all_fields, all_methods}
+use Rattle.image_members.specs.ConstantRows.{IsConstantRow, stated_constant}
+use Rattle.image_members.specs.GenericRows.{IsGenericRow}
+use Rattle.image_members.specs.Lists.{class_attributes, class_generics, generics_in, params_in, properties_in, events_in, access_from, event_access, property_access}
+use Rattle.image_members.specs.Places.{all_fields, all_methods}
 use Rattle.image_rows.specs.SemanticsRows.{semantics_row}
-use Rattle.image_rows.specs.declared.classes.Class.{Class}
+use Rattle.image_members.specs.declared.classes.Class.{Class}
 use Rattle.image_model.specs.Columns.{attribute_parent, constant_parent, generic_owner, semantics_association}
 use Rattle.image_model.specs.Rows.{rows_with, index_of}
 use Rattle.laws_image_parts.specs.AtRows.{AtEach, IsItem}

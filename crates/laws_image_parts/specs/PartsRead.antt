@@ -13,12 +13,12 @@ use Rattle.assembly_tree.specs.declared.members.Property.{Property}
 use Rattle.assembly_tree.specs.declared.typedef.TypeDef.TheViews.{out-TypeDef}
 use Rattle.image_tokens.specs.declared.references.References.{References}
 use Rattle.image_rows.specs.FieldRows.{IsFieldRow}
-use Rattle.image_rows.specs.GenericRows.{IsGenericRow}
-use Rattle.image_rows.specs.Lists.{access_of}
+use Rattle.image_members.specs.GenericRows.{IsGenericRow}
+use Rattle.image_members.specs.Lists.{access_of}
 use Rattle.image_rows.specs.ParamRows.{IsParamRow}
 use Rattle.image_rows.specs.PropertyRows.{IsPropertyRow}
 use Rattle.image_rows.specs.EventRows.{IsEventRow}
-use Rattle.image_rows.specs.declared.classes.Class.{Class}
+use Rattle.image_members.specs.declared.classes.Class.{Class}
 use Rattle.image_layout.specs.Laws.{ReadsHeaps}
 use Rattle.image_model.specs.Columns.{field_flags, field_name, method_impl_flags, method_flags, method_name, param_flags, param_sequence, param_name, event_flags, event_name, property_flags, property_name, generic_flags, generic_name, type_flags, offset_of_row}
 use Rattle.image_model.specs.Members.{layouts_of, offsets_of, semantics_of}

@@ -6,13 +6,13 @@ use Rattle.assembly_tree.specs.declared.members.Event.{Event}
 use Rattle.assembly_tree.specs.declared.members.Method.{Method}
 use Rattle.assembly_tree.specs.declared.members.Property.{Property}
 use Rattle.image_tokens.specs.declared.references.References.{References}
-use Rattle.image_rows.specs.CodeBytes.{HasBody}
-use Rattle.image_rows.specs.DeclaredMembers.{class_fields, class_methods}
-use Rattle.image_rows.specs.Lists.{params_in, properties_in, events_in, access_of, access_from, event_access, property_access}
+use Rattle.image_members.specs.CodeBytes.{HasBody}
+use Rattle.image_members.specs.DeclaredMembers.{class_fields, class_methods}
+use Rattle.image_members.specs.Lists.{params_in, properties_in, events_in, access_of, access_from, event_access, property_access}
 use Rattle.image_rows.specs.MethodRows.{IsMethodRow}
-use Rattle.image_rows.specs.Places.{all_fields, all_methods, class_properties, class_events}
+use Rattle.image_members.specs.Places.{all_fields, all_methods, class_properties, class_events}
 use Rattle.image_rows.specs.TypeRows.{IsTypeDefRow}
-use Rattle.image_rows.specs.declared.classes.Class.{Class}
+use Rattle.image_members.specs.declared.classes.Class.{Class}
 use Rattle.image_model.specs.Rows.{first_method, fields_of, methods_of, params_of, events_of, properties_of}
 use Rattle.laws_image_parts.specs.AtRows.{AtEach, IsItem}
 use Rattle.laws_image_parts.specs.RowCells.{type_cells, method_cells}

@@ -2,7 +2,7 @@
 //! functions changes anything: that it returns is what a proof can cite.
 ghost use Rattle.std.specs.Prelude.{◌≡◌, ◌<◌, ◌^◌, length};
 ghost use Rattle.std.specs.List.{AllByRecursion};
-ghost use Rattle.image_rows.specs.Places.{lent};
+ghost use Rattle.image_members.specs.Places.{lent};
 ghost use Rattle.laws_image_reading.specs.parts.Ranges.{IsConstantInRange, IsStatedInRange, HasFour, IsFieldInRange, IsParamInRange, IsPropertyInRange};
 
 use assembly_tree::{Assembly, Constant, ExternAssembly, Field, Param, Property};

@@ -10,9 +10,9 @@ use Rattle.assembly_tree.specs.declared.members.Param.{Param}
 use Rattle.assembly_tree.specs.declared.members.Property.{Property}
 use Rattle.metadata_tables.specs.declared.coded.Coded.TheVariants.{HasCustomAttribute}
 use Rattle.image_rows.specs.AttributeRows.{attribute_bytes}
-use Rattle.image_rows.specs.ByNumber.{by_number}
-use Rattle.image_rows.specs.Lists.{Owned, class_attributes}
-use Rattle.image_rows.specs.declared.classes.Class.{Class}
+use Rattle.image_members.specs.ByNumber.{by_number}
+use Rattle.image_members.specs.Lists.{Owned, class_attributes}
+use Rattle.image_members.specs.declared.classes.Class.{Class}
 use Rattle.laws_tree_weights.proofs.NumberSums.{owned_most, lists_mapped, lists_behind, one_list}
 use Rattle.laws_tree_weights.proofs.PartLemmas.{attribute_part, attributes_part}
 use Rattle.laws_tree_weights.proofs.Sums.{sum_each}

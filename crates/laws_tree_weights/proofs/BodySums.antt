@@ -17,9 +17,9 @@ use Rattle.body_codec.specs.Encoding.{size_of, ins_size, offset}
 use Rattle.body_codec.specs.Instruction.{joined, opcode_bytes, operand_size, kind}
 use Rattle.image_tokens.specs.Loaded.{entry_sizes}
 use Rattle.image_tokens.specs.NamesWeight.{named_weight, instruction_names, clause_names, names_weight}
-use Rattle.image_rows.proofs.BodySizes.{all_of}
-use Rattle.image_rows.proofs.TextWeights.{entry_most}
-use Rattle.image_rows.specs.CodeBytes.{code_room, stated_weight, stated_room}
+use Rattle.image_members.proofs.BodySizes.{all_of}
+use Rattle.image_members.proofs.TextWeights.{entry_most}
+use Rattle.image_members.specs.CodeBytes.{code_room, stated_weight, stated_room}
 use Rattle.laws_tree_weights.proofs.Sums.{sum_flat, sum_each, sum_least, totals_least}
 
 -- ---- instructions

@@ -7,16 +7,16 @@ use Rattle.assembly_tree.specs.Weight.{optional, owner_weight, bounds_weight, fi
 use Rattle.assembly_tree.specs.declared.typedef.Layout.{Layout}
 use Rattle.assembly_tree.specs.declared.typedef.TypeDef.{TypeDef}
 use Rattle.assembly_tree.specs.declared.typedef.TypeDef.TheViews.{out-TypeDef}
-use Rattle.image_rows.specs.Classes.{AreClasses, none, more}
+use Rattle.image_members.specs.Classes.{AreClasses, none, more}
 use Rattle.image_rows.specs.ClassRows.{class_rows, nested_rows, stated_rows, layout_rows}
-use Rattle.image_rows.specs.DeclaredMembers.{class_fields, class_methods}
-use Rattle.image_rows.specs.Declaring.{class_size}
+use Rattle.image_members.specs.DeclaredMembers.{class_fields, class_methods}
+use Rattle.image_members.specs.Declaring.{class_size}
 use Rattle.image_rows.specs.InterfaceRows.{class_interfaces, interfaces_from, count_interfaces, interface_bytes}
-use Rattle.image_rows.specs.Lists.{properties_in, events_in}
+use Rattle.image_members.specs.Lists.{properties_in, events_in}
 use Rattle.image_rows.specs.MapRows.{run_rows, map_rows, event_count, property_count}
-use Rattle.image_rows.specs.Places.{class_properties, class_events}
+use Rattle.image_members.specs.Places.{class_properties, class_events}
 use Rattle.image_rows.specs.TypeRows.{base_of, base_weight}
-use Rattle.image_rows.specs.declared.classes.Class.{Class}
+use Rattle.image_members.specs.declared.classes.Class.{Class}
 use Rattle.metadata_tables.specs.Indexes.{run_cell}
 use Rattle.laws_tree_weights.specs.ImageBytes.{type_row_bytes}
 use Rattle.laws_tree_weights.proofs.AttributeSums.{own_attributes}

@@ -12,15 +12,15 @@ use Rattle.assembly_tree.specs.declared.members.Generic.{Generic}
 use Rattle.assembly_tree.specs.declared.members.Method.{Method}
 use Rattle.assembly_tree.specs.declared.members.Param.{Param}
 use Rattle.assembly_tree.specs.declared.members.Property.{Property}
-use Rattle.image_rows.specs.Classes.{AreClasses}
-use Rattle.image_rows.specs.ConstantRows.{stated_constant}
-use Rattle.image_rows.specs.DataRows.{all_data}
-use Rattle.image_rows.specs.DeclaredMembers.{class_fields, class_methods}
-use Rattle.image_rows.specs.GenericRows.{generic_of, bounds_from}
+use Rattle.image_members.specs.Classes.{AreClasses}
+use Rattle.image_members.specs.ConstantRows.{stated_constant}
+use Rattle.image_members.specs.DataRows.{all_data}
+use Rattle.image_members.specs.DeclaredMembers.{class_fields, class_methods}
+use Rattle.image_members.specs.GenericRows.{generic_of, bounds_from}
 use Rattle.image_rows.specs.InterfaceRows.{interfaces_from, count_interfaces}
-use Rattle.image_rows.specs.Lists.{Owned, longest_of, class_generics, class_attributes, attribute_items, constant_items, accessor_items, attribute_lists, constant_lists, accessor_lists, generic_lists, event_access, property_access, access_from, access_of, generics_in, params_in, properties_in, events_in, generic_items}
-use Rattle.image_rows.specs.Places.{all_fields, all_methods, class_properties, class_events, params_of}
-use Rattle.image_rows.specs.declared.classes.Class.{Class}
+use Rattle.image_members.specs.Lists.{Owned, longest_of, class_generics, class_attributes, attribute_items, constant_items, accessor_items, attribute_lists, constant_lists, accessor_lists, generic_lists, event_access, property_access, access_from, access_of, generics_in, params_in, properties_in, events_in, generic_items}
+use Rattle.image_members.specs.Places.{all_fields, all_methods, class_properties, class_events, params_of}
+use Rattle.image_members.specs.declared.classes.Class.{Class}
 use Rattle.laws_tree_weights.specs.ImageBytes.{overrides_count, manifest_row_bytes, type_row_bytes, field_row_bytes, method_row_bytes, property_row_bytes, owned_row_bytes, row_bytes}
 use Rattle.laws_tree_weights.specs.Laws.{RowsAreFew}
 use Rattle.laws_tree_weights.proofs.WholeLemmas.{enough}

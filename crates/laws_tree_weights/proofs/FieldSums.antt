@@ -5,8 +5,8 @@ use Rattle.std.specs.List.{enumerate_from, flat_map}
 use Rattle.assembly_tree.specs.Weight.{optional, field_weight, param_weight}
 use Rattle.assembly_tree.specs.declared.members.Field.{Field}
 use Rattle.assembly_tree.specs.declared.members.Param.{Param}
-use Rattle.image_rows.specs.DataRows.{Datum, stated_data, field_data, all_data, data_room}
-use Rattle.image_rows.specs.DeclaredMembers.{field_bytes}
+use Rattle.image_members.specs.DataRows.{Datum, stated_data, field_data, all_data, data_room}
+use Rattle.image_members.specs.DeclaredMembers.{field_bytes}
 use Rattle.image_rows.specs.FieldRows.{stated_offset, offset_rows}
 use Rattle.image_rows.specs.ParamRows.{param_bytes}
 use Rattle.laws_tree_weights.proofs.AttributeSums.{field_attributes, param_attributes}

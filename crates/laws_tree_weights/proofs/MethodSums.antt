@@ -6,9 +6,9 @@ use Rattle.assembly_tree.specs.Room.{method_texts}
 use Rattle.assembly_tree.specs.Weight.{param_weight, method_weight}
 use Rattle.assembly_tree.specs.declared.members.Method.{Method}
 use Rattle.image_tokens.specs.Loaded.{entry_sizes}
-use Rattle.image_rows.specs.CodeBytes.{body_of, stated_weight, stated_room}
-use Rattle.image_rows.specs.DeclaredMembers.{method_bytes}
-use Rattle.image_rows.specs.Places.{params_of}
+use Rattle.image_members.specs.CodeBytes.{body_of, stated_weight, stated_room}
+use Rattle.image_members.specs.DeclaredMembers.{method_bytes}
+use Rattle.image_members.specs.Places.{params_of}
 use Rattle.laws_tree_weights.specs.ImageBytes.{override_weight, override_count, overrides_weight, overrides_count}
 use Rattle.laws_tree_weights.proofs.AttributeSums.{method_attributes}
 use Rattle.laws_tree_weights.proofs.BodySums.{body_fits}

@@ -5,7 +5,7 @@ use Rattle.std.specs.List.{range_with_len}
 use Rattle.std.proofs.lemmas.List.Sums.{sum_by-cons, sum_by-append}
 use Rattle.metadata_tables.specs.declared.coded.Coded.{Coded}
 use Rattle.image_tokens.specs.Indexes.{index_of}
-use Rattle.image_rows.specs.ByNumber.{or_none, owned_in, owned_at, by_number}
+use Rattle.image_members.specs.ByNumber.{or_none, owned_in, owned_at, by_number}
 use Rattle.laws_tree_weights.proofs.Sums.{sum_mapped, sum_flat, sum_both, sum_least, sum_same}
 
 module _ {X : Type 0} (g : X → ℕ) where

@@ -14,13 +14,13 @@ use Rattle.assembly_tree.specs.declared.members.Param.{Param}
 use Rattle.assembly_tree.specs.declared.members.Property.{Property}
 use Rattle.metadata_tables.specs.declared.coded.Coded.TheVariants.{HasConstant, HasSemantics, TypeOrMethodDef}
 use Rattle.type_terms.specs.declared.term.Owner.{Owner}
-use Rattle.image_rows.specs.ByNumber.{by_number}
-use Rattle.image_rows.specs.ConstantRows.{stated_constant, constant_bytes}
-use Rattle.image_rows.specs.DeclaredMembers.{class_methods}
-use Rattle.image_rows.specs.GenericRows.{generic_of, generic_bytes, bounds_in, bounds_from, bound_bytes}
-use Rattle.image_rows.specs.Lists.{Owned, class_generics, access_of, event_access, property_access, access_from, properties_in, events_in}
-use Rattle.image_rows.specs.Places.{class_properties, class_events}
-use Rattle.image_rows.specs.declared.classes.Class.{Class}
+use Rattle.image_members.specs.ByNumber.{by_number}
+use Rattle.image_members.specs.ConstantRows.{stated_constant, constant_bytes}
+use Rattle.image_members.specs.DeclaredMembers.{class_methods}
+use Rattle.image_members.specs.GenericRows.{generic_of, generic_bytes, bounds_in, bounds_from, bound_bytes}
+use Rattle.image_members.specs.Lists.{Owned, class_generics, access_of, event_access, property_access, access_from, properties_in, events_in}
+use Rattle.image_members.specs.Places.{class_properties, class_events}
+use Rattle.image_members.specs.declared.classes.Class.{Class}
 use Rattle.laws_tree_weights.proofs.AttributeSums.{generic_attributes}
 use Rattle.laws_tree_weights.proofs.NumberSums.{lists_sum, owned_most, lists_mapped, lists_behind}
 use Rattle.laws_tree_weights.proofs.PartLemmas.{constant_part, stated_fits, bound_part, generic_part, generic_fits}

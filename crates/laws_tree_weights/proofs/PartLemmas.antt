@@ -11,8 +11,8 @@ use Rattle.assembly_tree.specs.declared.members.Constant.TheVariants as constant
 use Rattle.assembly_tree.specs.declared.members.Generic.{Generic}
 use Rattle.type_terms.specs.declared.term.Owner.{Owner}
 use Rattle.image_tokens.proofs.LoadedLemmas.{two_each}
-use Rattle.image_rows.specs.ConstantRows.{stated_constant}
-use Rattle.image_rows.specs.Constants.{integer_width, value_of}
+use Rattle.image_members.specs.ConstantRows.{stated_constant}
+use Rattle.image_members.specs.Constants.{integer_width, value_of}
 use Rattle.laws_tree_weights.proofs.Sums.{sum_each, sum_least}
 
 -- ---- attributes

@@ -11,16 +11,16 @@ use Rattle.assembly_tree.specs.declared.members.Method.{Method}
 use Rattle.type_terms.specs.declared.term.Owner.{Owner}
 use Rattle.metadata_tables.specs.Encoding.{rows_of, rows_in}
 use Rattle.image_tokens.specs.declared.references.References.{References}
-use Rattle.image_rows.specs.DeclaredMembers.{class_fields, class_methods}
+use Rattle.image_members.specs.DeclaredMembers.{class_fields, class_methods}
 use Rattle.image_rows.specs.Filled.{three_cells, two_cells, first_cell, HoldsReferences, HoldsManifest, HoldsInterfaces, HoldsTypeRows, HoldsTypes, HoldsFields, HoldsMethods, HoldsProperties, HoldsOwned}
 use Rattle.image_rows.specs.InterfaceRows.{interfaces_from, count_interfaces, joined, AreInterfaceRows}
 use Rattle.image_rows.specs.MethodRows.{placed_methods}
 use Rattle.image_rows.specs.OverrideRows.{overrides_from}
-use Rattle.image_rows.specs.Places.{all_methods}
-use Rattle.image_rows.specs.Pushing.{Tables}
-use Rattle.image_rows.specs.TypeIndexes.{IsTypeIndex}
+use Rattle.image_members.specs.Places.{all_methods}
+use Rattle.image_members.specs.Pushing.{Tables}
+use Rattle.image_members.specs.TypeIndexes.{IsTypeIndex}
 use Rattle.image_rows.specs.TypeRows.{numbered}
-use Rattle.image_rows.specs.declared.classes.Class.{Class}
+use Rattle.image_members.specs.declared.classes.Class.{Class}
 use Rattle.laws_tree_weights.specs.ImageBytes.{overrides_count}
 use Rattle.laws_tree_weights.specs.RowCounts.{HasCounted, HasReferencesCounted, FilledIsCounted}
 use Rattle.laws_tree_weights.proofs.OverrideLemmas.{rows_counted}

@@ -9,11 +9,11 @@ use Rattle.assembly_tree.specs.declared.assembly.Assembly.{Assembly}
 use Rattle.assembly_tree.specs.declared.typedef.TypeDef.{TypeDef}
 use Rattle.assembly_tree.specs.declared.typedef.TypeDef.TheViews.{out-TypeDef}
 use Rattle.image_tokens.specs.Loaded.{entry_sizes}
-use Rattle.image_rows.proofs.TextLemmas.{typedef_texts_out, whole_texts}
-use Rattle.image_rows.specs.Classes.{AreClasses}
-use Rattle.image_rows.specs.DeclaredMembers.{class_methods}
-use Rattle.image_rows.specs.Places.{all_methods}
-use Rattle.image_rows.specs.declared.classes.Class.{Class}
+use Rattle.image_members.proofs.TextLemmas.{typedef_texts_out, whole_texts}
+use Rattle.image_members.specs.Classes.{AreClasses}
+use Rattle.image_members.specs.DeclaredMembers.{class_methods}
+use Rattle.image_members.specs.Places.{all_methods}
+use Rattle.image_members.specs.declared.classes.Class.{Class}
 use Rattle.laws_tree_weights.proofs.ClassSums.{classes_sum}
 use Rattle.laws_tree_weights.proofs.MethodSums.{method_entries}
 use Rattle.laws_tree_weights.proofs.Sums.{sum_flat}

@@ -10,13 +10,13 @@ use Rattle.assembly_tree.specs.declared.typedef.TypeDef.{TypeDef}
 use Rattle.assembly_tree.specs.declared.typedef.TypeDef.TheFolds.{fold_out-TypeDef}
 use Rattle.assembly_tree.specs.declared.typedef.TypeDef.TheViews.{out-TypeDef}
 use Rattle.std.proofs.lemmas.List.Sums.{sum-map}
-use Rattle.image_rows.specs.Classes.{AreClasses}
-use Rattle.image_rows.specs.DeclaredMembers.{class_fields, class_methods, field_bytes, method_bytes, fields_bytes, methods_bytes}
-use Rattle.image_rows.specs.GenericRows.{bounds_from}
-use Rattle.image_rows.specs.Lists.{longest_of, attribute_lists, attribute_items, constant_lists, constant_items, accessor_lists, accessor_items, generic_lists, generic_items, generics_in, params_in, properties_in, events_in}
-use Rattle.image_rows.specs.ManifestRows.{module_bytes, assembly_bytes, extern_bytes}
-use Rattle.image_rows.specs.Places.{all_fields, all_methods}
-use Rattle.image_rows.specs.declared.classes.Class.{Class}
+use Rattle.image_members.specs.Classes.{AreClasses}
+use Rattle.image_members.specs.DeclaredMembers.{class_fields, class_methods, field_bytes, method_bytes, fields_bytes, methods_bytes}
+use Rattle.image_members.specs.GenericRows.{bounds_from}
+use Rattle.image_members.specs.Lists.{longest_of, attribute_lists, attribute_items, constant_lists, constant_items, accessor_lists, accessor_items, generic_lists, generic_items, generics_in, params_in, properties_in, events_in}
+use Rattle.image_members.specs.ManifestRows.{module_bytes, assembly_bytes, extern_bytes}
+use Rattle.image_members.specs.Places.{all_fields, all_methods}
+use Rattle.image_members.specs.declared.classes.Class.{Class}
 use Rattle.laws_tree_weights.specs.ImageBytes.{declared_bytes, manifest_bytes, named_bytes, member_bytes, owned_bytes, code_bytes, manifest_row_bytes, field_row_bytes, method_row_bytes, property_row_bytes, owned_row_bytes}
 use Rattle.laws_tree_weights.specs.Laws.{WeightIsEnough}
 use Rattle.laws_tree_weights.proofs.AttributeSums.{method_attributes, field_attributes, own_attributes, param_attributes, property_attributes, event_attributes, attributes_most}

@@ -8,23 +8,23 @@ use Rattle.assembly_tree.specs.declared.assembly.Assembly.{Assembly}
 use Rattle.assembly_tree.specs.declared.members.Method.{Method}
 use Rattle.image_rows.specs.AttributeRows.{attribute_bytes}
 use Rattle.image_rows.specs.ClassRows.{class_rows, nested_rows, layout_rows}
-use Rattle.image_rows.specs.CodeBytes.{body_of, stated_weight, stated_room}
-use Rattle.image_rows.specs.ConstantRows.{constant_bytes}
-use Rattle.image_rows.specs.DataRows.{all_data, data_room}
-use Rattle.image_rows.specs.DeclaredMembers.{fields_bytes, methods_bytes}
-use Rattle.image_rows.specs.Declaring.{class_size}
+use Rattle.image_members.specs.CodeBytes.{body_of, stated_weight, stated_room}
+use Rattle.image_members.specs.ConstantRows.{constant_bytes}
+use Rattle.image_members.specs.DataRows.{all_data, data_room}
+use Rattle.image_members.specs.DeclaredMembers.{fields_bytes, methods_bytes}
+use Rattle.image_members.specs.Declaring.{class_size}
 use Rattle.image_rows.specs.EventRows.{event_bytes}
 use Rattle.image_rows.specs.FieldRows.{offset_rows}
-use Rattle.image_rows.specs.GenericRows.{generic_bytes, bound_bytes, bounds_from}
+use Rattle.image_members.specs.GenericRows.{generic_bytes, bound_bytes, bounds_from}
 use Rattle.image_rows.specs.InterfaceRows.{interfaces_from, interface_bytes, count_interfaces}
-use Rattle.image_rows.specs.Lists.{attribute_items, constant_items, accessor_items, generic_items, generics_in, params_in, properties_in, events_in}
-use Rattle.image_rows.specs.ManifestRows.{module_bytes, assembly_bytes, extern_bytes}
+use Rattle.image_members.specs.Lists.{attribute_items, constant_items, accessor_items, generic_items, generics_in, params_in, properties_in, events_in}
+use Rattle.image_members.specs.ManifestRows.{module_bytes, assembly_bytes, extern_bytes}
 use Rattle.image_rows.specs.MapRows.{map_rows, event_count, property_count}
 use Rattle.image_rows.specs.ParamRows.{param_bytes}
-use Rattle.image_rows.specs.Places.{all_fields, all_methods}
+use Rattle.image_members.specs.Places.{all_fields, all_methods}
 use Rattle.image_rows.specs.PropertyRows.{property_bytes}
 use Rattle.image_rows.specs.TypeRows.{base_of, base_weight}
-use Rattle.image_rows.specs.declared.classes.Class.{Class}
+use Rattle.image_members.specs.declared.classes.Class.{Class}
 
 -- ---- overrides, which stand with their methods
 

@@ -4,16 +4,16 @@ use Rattle.assembly_tree.specs.Weight.{weight_of}
 use Rattle.assembly_tree.specs.declared.assembly.Assembly.{Assembly}
 use Rattle.assembly_tree.specs.declared.members.Method.{Method}
 use Rattle.image_tokens.specs.declared.row_set.Cells.{Cells}
-use Rattle.image_rows.specs.Classes.{AreClasses}
-use Rattle.image_rows.specs.DataRows.{all_data}
-use Rattle.image_rows.specs.DeclaredMembers.{fields_count, methods_count}
-use Rattle.image_rows.specs.GenericRows.{bounds_from}
+use Rattle.image_members.specs.Classes.{AreClasses}
+use Rattle.image_members.specs.DataRows.{all_data}
+use Rattle.image_members.specs.DeclaredMembers.{fields_count, methods_count}
+use Rattle.image_members.specs.GenericRows.{bounds_from}
 use Rattle.image_rows.specs.InterfaceRows.{interfaces_from, count_interfaces}
-use Rattle.image_rows.specs.Lists.{longest_of, attribute_lists, attribute_items, constant_lists, constant_items, accessor_lists, accessor_items, generic_lists, generic_items, generics_in, params_in, properties_in, events_in}
+use Rattle.image_members.specs.Lists.{longest_of, attribute_lists, attribute_items, constant_lists, constant_items, accessor_lists, accessor_items, generic_lists, generic_items, generics_in, params_in, properties_in, events_in}
 use Rattle.image_rows.specs.MapRows.{event_count, property_count}
 use Rattle.image_rows.specs.OverrideRows.{override_bytes, overrides_from}
-use Rattle.image_rows.specs.Places.{all_fields, all_methods, params_of}
-use Rattle.image_rows.specs.declared.classes.Class.{Class}
+use Rattle.image_members.specs.Places.{all_fields, all_methods, params_of}
+use Rattle.image_members.specs.declared.classes.Class.{Class}
 use Rattle.laws_tree_weights.specs.ImageBytes.{heap_bytes, code_bytes, row_bytes, overrides_weight, overrides_count}
 
 -- An image takes no more bytes than its assembly weighs: 20,000 are left for headers, the fill between parts, and the first entries

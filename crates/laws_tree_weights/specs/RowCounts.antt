@@ -5,16 +5,16 @@ use Rattle.assembly_tree.specs.declared.assembly.Assembly.{Assembly}
 use Rattle.metadata_tables.specs.Encoding.{rows_in}
 use Rattle.image_tokens.specs.declared.references.References.{References}
 use Rattle.image_rows.specs.ClassRows.{class_rows, nested_rows, layout_rows}
-use Rattle.image_rows.specs.DataRows.{all_data}
+use Rattle.image_members.specs.DataRows.{all_data}
 use Rattle.image_rows.specs.FieldRows.{offset_rows}
 use Rattle.image_rows.specs.Filled.{IsFilled}
-use Rattle.image_rows.specs.GenericRows.{bounds_from}
+use Rattle.image_members.specs.GenericRows.{bounds_from}
 use Rattle.image_rows.specs.InterfaceRows.{interfaces_from, count_interfaces}
-use Rattle.image_rows.specs.Lists.{attribute_items, constant_items, accessor_items, generic_items, generics_in, params_in, properties_in, events_in}
+use Rattle.image_members.specs.Lists.{attribute_items, constant_items, accessor_items, generic_items, generics_in, params_in, properties_in, events_in}
 use Rattle.image_rows.specs.MapRows.{map_rows, event_count, property_count}
-use Rattle.image_rows.specs.Places.{all_fields, all_methods}
-use Rattle.image_rows.specs.Pushing.{Tables}
-use Rattle.image_rows.specs.declared.classes.Class.{Class}
+use Rattle.image_members.specs.Places.{all_fields, all_methods}
+use Rattle.image_members.specs.Pushing.{Tables}
+use Rattle.image_members.specs.declared.classes.Class.{Class}
 use Rattle.laws_tree_weights.specs.ImageBytes.{overrides_count}
 
 -- the manifest, and types with their members

@@ -14,11 +14,11 @@ use Rattle.assembly_tree.specs.declared.members.Property.{Property}
 use Rattle.assembly_tree.specs.declared.typedef.TypeDef.TheViews.{out-TypeDef}
 use Rattle.assembly_tree.proofs.FormedFacts.{types_named}
 use Rattle.metadata_tables.specs.declared.coded.Coded.TheVariants.{HasSemantics}
-use Rattle.image_rows.specs.Classes.{AreClasses}
-use Rattle.image_rows.specs.DeclaredMembers.{class_methods}
-use Rattle.image_rows.specs.Lists.{longest_of, access_of, event_access, property_access, access_from, accessor_lists, accessor_items}
-use Rattle.image_rows.specs.Places.{all_methods, class_properties, class_events}
-use Rattle.image_rows.specs.declared.classes.Class.{Class}
+use Rattle.image_members.specs.Classes.{AreClasses}
+use Rattle.image_members.specs.DeclaredMembers.{class_methods}
+use Rattle.image_members.specs.Lists.{longest_of, access_of, event_access, property_access, access_from, accessor_lists, accessor_items}
+use Rattle.image_members.specs.Places.{all_methods, class_properties, class_events}
+use Rattle.image_members.specs.declared.classes.Class.{Class}
 use Rattle.image_rows.proofs.CountLemmas.{rows_few}
 use Rattle.laws_writable_trees.proofs.Each.{each_by_number, each_from, each_joined, each_mapped, each_true}
 use Rattle.laws_writable_trees.proofs.Parts.{IsFineClass}

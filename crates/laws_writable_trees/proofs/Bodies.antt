@@ -27,7 +27,7 @@ use Rattle.type_terms.specs.declared.name.TypeName.{TypeName}
 use Rattle.image_tokens.specs.Units.{IsLoadable}
 use Rattle.image_tokens.specs.Writable.{CanBeNamed, IsOperandWritable, IsInstructionWritable, IsHandledWritable, IsClauseWritable, IsBodyWritable}
 use Rattle.image_tokens.specs.declared.references.References.{References}
-use Rattle.image_rows.specs.CodeBytes.{any_token, CanPushBody, CanPushStated}
+use Rattle.image_members.specs.CodeBytes.{any_token, CanPushBody, CanPushStated}
 use Rattle.laws_writable_trees.specs.Ranges.{IsInRange, IsStatedInRange}
 use Rattle.laws_writable_trees.proofs.Bounds.{types_bounds}
 use Rattle.laws_writable_trees.proofs.Each.{split_three, split_five, each_from, each_true, each_both, each_apart}

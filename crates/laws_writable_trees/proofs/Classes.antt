@@ -12,9 +12,9 @@ use Rattle.assembly_tree.specs.declared.assembly.Assembly.{Assembly}
 use Rattle.assembly_tree.specs.declared.typedef.TypeDef.{TypeDef}
 use Rattle.assembly_tree.specs.declared.typedef.TypeDef.TheViews.{out-TypeDef}
 use Rattle.assembly_tree.specs.declared.typedef.TypeDef.TheFolds.{fold_out-TypeDef}
-use Rattle.image_rows.specs.Classes.{AreClasses, none, more}
-use Rattle.image_rows.specs.DeclaredMembers.{class_methods}
-use Rattle.image_rows.specs.declared.classes.Class.{Class}
+use Rattle.image_members.specs.Classes.{AreClasses, none, more}
+use Rattle.image_members.specs.DeclaredMembers.{class_methods}
+use Rattle.image_members.specs.declared.classes.Class.{Class}
 use Rattle.laws_writable_trees.proofs.Each.{each_joined, each_apart}
 
 -- ---- conditions

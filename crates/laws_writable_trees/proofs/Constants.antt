@@ -8,7 +8,7 @@ use Rattle.assembly_tree.specs.declared.members.Constant.TheVariants as constant
 use Rattle.type_terms.specs.declared.term.Primitive.{Primitive}
 use Rattle.type_terms.specs.declared.term.Primitive.TheVariants as prim
 use Rattle.image_tokens.specs.Units.{bytes_of_units}
-use Rattle.image_rows.specs.Constants.{integer_width, value_of}
+use Rattle.image_members.specs.Constants.{integer_width, value_of}
 
 -- a string has two bytes for each unit
 units_long : (units : List ℕ) → length (bytes_of_units units) ≡ 2 * length units

@@ -6,7 +6,7 @@ use Rattle.std.proofs.lemmas.Bool.{and_parts}
 use Rattle.std.proofs.lemmas.List.Sums.{sum_by-cons}
 use Rattle.metadata_tables.specs.declared.coded.Coded.{Coded}
 use Rattle.image_tokens.specs.Indexes.{index_of}
-use Rattle.image_rows.specs.ByNumber.{or_none, owned_in, owned_at, by_number}
+use Rattle.image_members.specs.ByNumber.{or_none, owned_in, owned_at, by_number}
 
 -- ---- conditions that hold together
 

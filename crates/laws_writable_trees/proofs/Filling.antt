@@ -30,21 +30,21 @@ use Rattle.image_tokens.specs.Units.{IsLoadable}
 use Rattle.image_tokens.specs.Writable.{CanBeNamed, IsOwnerWritable, IsMethodRefWritable}
 use Rattle.image_tokens.specs.declared.references.References.{References}
 use Rattle.image_rows.specs.AttributeRows.{CanPushAttribute}
-use Rattle.image_rows.specs.Classes.{AreClasses}
-use Rattle.image_rows.specs.CodeBytes.{body_of, CanPushStated}
-use Rattle.image_rows.specs.ConstantRows.{stated_constant, CanPushConstant}
-use Rattle.image_rows.specs.DeclaredMembers.{class_methods, IsFieldDeclarable, IsMethodDeclarable}
-use Rattle.image_rows.specs.Declaring.{class_id}
+use Rattle.image_members.specs.Classes.{AreClasses}
+use Rattle.image_members.specs.CodeBytes.{body_of, CanPushStated}
+use Rattle.image_members.specs.ConstantRows.{stated_constant, CanPushConstant}
+use Rattle.image_members.specs.DeclaredMembers.{class_methods, IsFieldDeclarable, IsMethodDeclarable}
+use Rattle.image_members.specs.Declaring.{class_id}
 use Rattle.image_rows.specs.EventRows.{CanPushEvent}
-use Rattle.image_rows.specs.GenericRows.{generic_of, bounds_in, CanPushBound, CanPushGeneric}
+use Rattle.image_members.specs.GenericRows.{generic_of, bounds_in, CanPushBound, CanPushGeneric}
 use Rattle.image_rows.specs.InterfaceRows.{class_interfaces, interfaces_from}
-use Rattle.image_rows.specs.Lists.{longest_of, class_generics, class_attributes, attribute_lists, attribute_items, constant_lists, constant_items, generic_lists, generic_items, generics_in, params_in, properties_in, events_in}
-use Rattle.image_rows.specs.ManifestRows.{IsPlainManifest, IsPlainExtern}
+use Rattle.image_members.specs.Lists.{longest_of, class_generics, class_attributes, attribute_lists, attribute_items, constant_lists, constant_items, generic_lists, generic_items, generics_in, params_in, properties_in, events_in}
+use Rattle.image_members.specs.ManifestRows.{IsPlainManifest, IsPlainExtern}
 use Rattle.image_rows.specs.ParamRows.{IsPlainParam}
-use Rattle.image_rows.specs.Places.{all_fields, all_methods}
+use Rattle.image_members.specs.Places.{all_fields, all_methods}
 use Rattle.image_rows.specs.PropertyRows.{CanPushProperty}
 use Rattle.image_rows.specs.TypeRows.{base_of, CanBeBase}
-use Rattle.image_rows.specs.declared.classes.Class.{Class}
+use Rattle.image_members.specs.declared.classes.Class.{Class}
 use Rattle.laws_writable_trees.specs.Laws.{TypesAreDeclarable, FormedCanFill, AccessorsHaveRows}
 use Rattle.laws_writable_trees.specs.Ranges.{IsMethodInRange}
 use Rattle.laws_writable_trees.proofs.Accessors.{accessors_low, accessors_there}

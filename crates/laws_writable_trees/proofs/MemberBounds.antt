@@ -8,8 +8,8 @@ use Rattle.assembly_tree.specs.declared.members.Method.{Method}
 use Rattle.assembly_tree.specs.declared.members.Property.{Property}
 use Rattle.assembly_tree.proofs.FormedFacts.{fields_named, methods_named, properties_named}
 use Rattle.image_tokens.specs.Bounds.{IsTypeInBounds, IsMethodInBounds}
-use Rattle.image_rows.specs.Lists.{properties_in}
-use Rattle.image_rows.specs.Places.{all_fields, all_methods}
+use Rattle.image_members.specs.Lists.{properties_in}
+use Rattle.image_members.specs.Places.{all_fields, all_methods}
 use Rattle.laws_writable_trees.specs.Laws.{MembersAreInBounds}
 use Rattle.laws_writable_trees.proofs.Bounds.{type_bounds, signature_bounds}
 use Rattle.laws_writable_trees.proofs.Each.{each_from}

@@ -24,9 +24,9 @@ use Rattle.image_tokens.specs.TypePaths.{IsTypeRow, Follows, last, on, in_declar
 use Rattle.image_tokens.specs.Writable.{CanBeNamed}
 use Rattle.image_tokens.specs.declared.references.References.{References}
 use Rattle.image_tokens.specs.declared.row_set.Cells.{Cells}
-use Rattle.image_rows.specs.Classes.{AreClasses, none, more}
-use Rattle.image_rows.specs.Declaring.{Place, module_id, module_place, class_place, places, HoldsPlace, AreDeclared}
-use Rattle.image_rows.specs.declared.classes.Class.{Class}
+use Rattle.image_members.specs.Classes.{AreClasses, none, more}
+use Rattle.image_members.specs.Declaring.{Place, module_id, module_place, class_place, places, HoldsPlace, AreDeclared}
+use Rattle.image_members.specs.declared.classes.Class.{Class}
 use Rattle.laws_writable_trees.proofs.Each.{split_three, each_from, each_true}
 
 -- ---- texts

@@ -16,7 +16,7 @@ use Rattle.assembly_tree.specs.WellFormedBodies as tree
 use Rattle.assembly_tree.specs.Weight.{instruction_weight, operand_weight}
 use Rattle.body_codec.specs.Encoding.{FitsBytes, OperandFits, size_of, ins_size}
 use Rattle.body_codec.specs.Instruction.{joined, opcode_bytes, kind}
-use Rattle.image_rows.specs.CodeBytes.{any_token}
+use Rattle.image_members.specs.CodeBytes.{any_token}
 use Rattle.laws_writable_trees.specs.Ranges.{IsOperandInRange, IsInRange}
 use Rattle.laws_writable_trees.proofs.Each.{each_from, each_true}
 

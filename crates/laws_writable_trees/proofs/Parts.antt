@@ -19,12 +19,12 @@ use Rattle.assembly_tree.specs.declared.typedef.TypeDef.{TypeDef}
 use Rattle.assembly_tree.specs.declared.typedef.TypeDef.TheOpen.{TypeDef-F}
 use Rattle.assembly_tree.specs.declared.typedef.TypeDef.TheViews.{out-TypeDef}
 use Rattle.assembly_tree.proofs.FormedFacts.{assemblies_named, heads_named, types_named, fields_named, methods_named, properties_named, events_named, signatures_named}
-use Rattle.image_rows.specs.Classes.{AreClasses}
-use Rattle.image_rows.specs.ConstantRows.{stated_constant}
-use Rattle.image_rows.specs.DeclaredMembers.{class_fields, class_methods}
-use Rattle.image_rows.specs.Lists.{params_in, properties_in, events_in, class_generics, class_attributes}
-use Rattle.image_rows.specs.Places.{all_fields, all_methods, class_properties, class_events, params_of}
-use Rattle.image_rows.specs.declared.classes.Class.{Class}
+use Rattle.image_members.specs.Classes.{AreClasses}
+use Rattle.image_members.specs.ConstantRows.{stated_constant}
+use Rattle.image_members.specs.DeclaredMembers.{class_fields, class_methods}
+use Rattle.image_members.specs.Lists.{params_in, properties_in, events_in, class_generics, class_attributes}
+use Rattle.image_members.specs.Places.{all_fields, all_methods, class_properties, class_events, params_of}
+use Rattle.image_members.specs.declared.classes.Class.{Class}
 use Rattle.std.proofs.lemmas.Bool.{and_parts, leb-true, eqb-true}
 use Rattle.assembly_tree.specs.WellFormedNames.{option_all, is_name, has_no_zero}
 use Rattle.assembly_tree.specs.WellFormedTerms.{is_owner}

@@ -9,11 +9,11 @@ use Rattle.image_tokens.specs.Bounds.{IsTypeInBounds, IsMethodInBounds}
 use Rattle.image_tokens.specs.Units.{IsLoadable}
 use Rattle.image_tokens.specs.declared.references.References.{References}
 use Rattle.image_rows.specs.CanFill.{AreDeclarableTypes, CanFill}
-use Rattle.image_rows.specs.Classes.{AreClasses}
-use Rattle.image_rows.specs.Declaring.{places, AreDeclared}
-use Rattle.image_rows.specs.Lists.{accessor_items, properties_in}
-use Rattle.image_rows.specs.Places.{all_fields, all_methods}
-use Rattle.image_rows.specs.declared.classes.Class.{Class}
+use Rattle.image_members.specs.Classes.{AreClasses}
+use Rattle.image_members.specs.Declaring.{places, AreDeclared}
+use Rattle.image_members.specs.Lists.{accessor_items, properties_in}
+use Rattle.image_members.specs.Places.{all_fields, all_methods}
+use Rattle.image_members.specs.declared.classes.Class.{Class}
 use Rattle.laws_writable_trees.specs.Ranges.{IsMethodInRange}
 
 -- its types can be declared

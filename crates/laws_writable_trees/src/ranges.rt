@@ -1,6 +1,6 @@
 //! Numbers in instructions are in the ranges of their fields (ECMA-335 III.1.7).
 ghost use Rattle.std.specs.List.{AllByRecursion};
-ghost use Rattle.image_rows.specs.Places.{lent};
+ghost use Rattle.image_members.specs.Places.{lent};
 ghost use Rattle.laws_writable_trees.specs.Ranges.{IsOperandInRange, IsInRange, IsStatedInRange, IsMethodInRange};
 
 use assembly_tree::{Body, Ins, Method, Operand};

@@ -14,10 +14,10 @@ use Rattle.body_codec.specs.NamedTokens.{AreNamed}
 use Rattle.body_codec.specs.Names.{NameMap, TokenMap, reading, writing}
 use Rattle.pe_layout.specs.FileMap.{readable, StandsAt}
 use Rattle.image_tokens.specs.declared.references.References.{References}
-use Rattle.image_rows.specs.CodeBytes.{all_tokens, IsBodyAt, KeepsTokens}
-use Rattle.image_rows.specs.CodeBytes as made
-use Rattle.image_rows.specs.Places.{all_methods}
-use Rattle.image_rows.specs.declared.classes.Class.{Class}
+use Rattle.image_members.specs.CodeBytes.{all_tokens, IsBodyAt, KeepsTokens}
+use Rattle.image_members.specs.CodeBytes as made
+use Rattle.image_members.specs.Places.{all_methods}
+use Rattle.image_members.specs.declared.classes.Class.{Class}
 use Rattle.image_model.specs.Bodies.{BodyNames, IsBody}
 use Rattle.image_model.specs.Columns.{method_rva}
 use Rattle.image_model.specs.Reading.{BodyIs}

@@ -16,7 +16,7 @@ use Rattle.image_tokens.specs.References.{AreKnown, IsSpecToken, HasMemberToken,
 use Rattle.image_tokens.specs.declared.references.References.{References}
 use Rattle.image_tokens.specs.declared.row_set.Cells.{Cells}
 use Rattle.image_tokens.proofs.NameLemmas.{holds_of_found}
-use Rattle.image_rows.specs.CodeBytes.{all_tokens}
+use Rattle.image_members.specs.CodeBytes.{all_tokens}
 use Rattle.image_layout.specs.Laws.{ReadsHeaps}
 use Rattle.image_model.specs.Naming.{IsToken}
 use Rattle.image_model.specs.Streams.{user_of}

@@ -8,9 +8,9 @@ use Rattle.sig_codec.specs.Spelling.{SpellsType}
 use Rattle.type_terms.specs.declared.term.SigType.{SigType}
 use Rattle.image_tokens.specs.References.{HasSignature}
 use Rattle.image_tokens.specs.declared.references.References.{References}
-use Rattle.image_rows.specs.Declaring.{class_place}
-use Rattle.image_rows.specs.Pushing.{Tables}
-use Rattle.image_rows.specs.declared.classes.Class.{Class}
+use Rattle.image_members.specs.Declaring.{class_place}
+use Rattle.image_members.specs.Pushing.{Tables}
+use Rattle.image_members.specs.declared.classes.Class.{Class}
 use Rattle.image_model.specs.Naming.{HasPath, HasRefPath}
 use Rattle.image_model.specs.Rows.{HasRow, token_of}
 use Rattle.laws_image_parts.specs.RowsRead.{RowsAreRead, ReadsRows}

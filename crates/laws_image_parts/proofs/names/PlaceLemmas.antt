@@ -8,10 +8,10 @@ use Rattle.type_terms.specs.declared.name.TypeId.{TypeId}
 use Rattle.image_tokens.specs.TypePaths.{IsTypeRow, Follows, in_declared}
 use Rattle.image_tokens.specs.TypePaths as paths
 use Rattle.image_tokens.specs.declared.references.References.{References}
-use Rattle.image_rows.specs.Classes.{AreClasses}
-use Rattle.image_rows.specs.Classes as classes
-use Rattle.image_rows.specs.Declaring.{Place, AreDeclared, HoldsPlace, places, class_place, module_place}
-use Rattle.image_rows.specs.declared.classes.Class.{Class}
+use Rattle.image_members.specs.Classes.{AreClasses}
+use Rattle.image_members.specs.Classes as classes
+use Rattle.image_members.specs.Declaring.{Place, AreDeclared, HoldsPlace, places, class_place, module_place}
+use Rattle.image_members.specs.declared.classes.Class.{Class}
 use Rattle.image_layout.specs.Laws.{ReadsHeaps}
 use Rattle.image_model.specs.Naming.{HasId, HasPath}
 use Rattle.image_model.specs.Rows.{enclosing}

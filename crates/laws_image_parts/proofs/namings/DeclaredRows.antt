@@ -14,10 +14,10 @@ use Rattle.image_tokens.specs.References.{HasSignature}
 use Rattle.image_tokens.specs.Texts.{HoldsText}
 use Rattle.image_tokens.specs.declared.references.References.{References}
 use Rattle.image_tokens.specs.declared.row_set.Cells.{Cells}
-use Rattle.image_rows.specs.DeclaredMembers.{owned, class_fields, class_methods, IsOwnRow}
+use Rattle.image_members.specs.DeclaredMembers.{owned, class_fields, class_methods, IsOwnRow}
 use Rattle.image_rows.specs.Filled.{HasDeclared}
-use Rattle.image_rows.specs.Places.{all_fields, all_methods}
-use Rattle.image_rows.specs.declared.classes.Class.{Class}
+use Rattle.image_members.specs.Places.{all_fields, all_methods}
+use Rattle.image_members.specs.declared.classes.Class.{Class}
 use Rattle.image_layout.specs.Laws.{ReadsHeaps}
 use Rattle.image_model.specs.Columns.{field_name, field_signature, method_name, method_signature}
 use Rattle.image_model.specs.Rows.{HasRow, count_of, run, first_field, first_method, fields_of, methods_of}

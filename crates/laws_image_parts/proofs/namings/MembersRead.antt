@@ -12,8 +12,8 @@ use Rattle.type_terms.specs.declared.term.SigType.{SigType}
 use Rattle.image_tokens.specs.Found.{token_in}
 use Rattle.image_tokens.specs.KnownTokens.{fields_apart}
 use Rattle.image_tokens.specs.declared.references.References.{References}
-use Rattle.image_rows.specs.Pushing.{Tables}
-use Rattle.image_rows.specs.declared.classes.Class.{Class}
+use Rattle.image_members.specs.Pushing.{Tables}
+use Rattle.image_members.specs.declared.classes.Class.{Class}
 use Rattle.image_model.specs.Columns.{field_name, field_signature, member_signature, method_name, method_signature}
 use Rattle.image_model.specs.Naming.{IsToken, NamesMethod}
 use Rattle.image_model.specs.Rows.{fields_of, methods_of}

@@ -6,10 +6,10 @@ use Rattle.std.proofs.lemmas.List.{length-map}
 use Rattle.metadata_tables.specs.Indexes.{IndexesFit}
 use Rattle.assembly_tree.specs.declared.assembly.Assembly.{Assembly}
 use Rattle.image_tokens.specs.declared.references.References.{References}
-use Rattle.image_rows.specs.DeclaredMembers.{owned, class_fields, class_methods}
-use Rattle.image_rows.specs.Places.{all_fields, all_methods}
+use Rattle.image_members.specs.DeclaredMembers.{owned, class_fields, class_methods}
+use Rattle.image_members.specs.Places.{all_fields, all_methods}
 use Rattle.image_rows.specs.TypeRows.{Numbered, numbered}
-use Rattle.image_rows.specs.declared.classes.Class.{Class}
+use Rattle.image_members.specs.declared.classes.Class.{Class}
 use Rattle.image_model.specs.Columns.{type_fields, type_methods}
 use Rattle.image_model.specs.Rows.{HasRow, count_of, run, first_field, first_method}
 use Rattle.laws_image_parts.specs.AtRows.{AtEach, IsItem}

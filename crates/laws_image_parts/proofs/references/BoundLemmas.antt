@@ -21,9 +21,9 @@ use Rattle.image_tokens.specs.References.{tokens_of, HasSignature, IsTextToken, 
 use Rattle.image_tokens.specs.declared.references.References.{References}
 use Rattle.image_tokens.specs.declared.row_set.Cells.{Cells}
 use Rattle.image_tokens.proofs.NameLemmas.{all_weaker}
-use Rattle.image_rows.specs.DeclaredMembers.{owned, class_fields, class_methods, IsFieldOf, IsMethodOf}
+use Rattle.image_members.specs.DeclaredMembers.{owned, class_fields, class_methods, IsFieldOf, IsMethodOf}
 use Rattle.image_rows.specs.Filled.{HasDeclared}
-use Rattle.image_rows.specs.declared.classes.Class.{Class}
+use Rattle.image_members.specs.declared.classes.Class.{Class}
 use Rattle.laws_image_parts.specs.names.Owners.{SpecsAreReadable}
 use Rattle.laws_image_parts.proofs.names.OneToken.{OneBlob, OneType}
 use Rattle.laws_image_parts.proofs.names.SignatureLemmas.{Rereads}

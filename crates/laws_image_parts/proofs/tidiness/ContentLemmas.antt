@@ -11,8 +11,8 @@ use Rattle.metadata_tables.specs.Schema.{schema}
 use Rattle.metadata_tables.specs.Stream.{cell, column_of}
 use Rattle.metadata_tables.specs.declared.schema.Column.{Column}
 use Rattle.image_tokens.specs.declared.references.References.{References}
-use Rattle.image_rows.specs.DataRows.{IsDataRow, Datum}
-use Rattle.image_rows.specs.Pushing.{Tables}
+use Rattle.image_members.specs.DataRows.{IsDataRow, Datum}
+use Rattle.image_members.specs.Pushing.{Tables}
 use Rattle.image_layout.specs.Laws.{TablesAreRead, HeapsAreRead, ReadsTables}
 use Rattle.image_model.specs.Columns.{data_rva}
 use Rattle.image_model.specs.Rows.{HasRow}

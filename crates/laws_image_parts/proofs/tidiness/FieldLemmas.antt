@@ -15,8 +15,8 @@ use Rattle.image_model.specs.Columns.{module_identifier}
 use Rattle.image_model.specs.Streams.{tables_of, guids_of}
 use Rattle.image_model.specs.Tidy.{HasWrittenTables}
 use Rattle.image_tokens.specs.declared.references.References.{References}
-use Rattle.image_rows.specs.ManifestRows.{IsModuleRow}
-use Rattle.image_rows.specs.Pushing.{Tables}
+use Rattle.image_members.specs.ManifestRows.{IsModuleRow}
+use Rattle.image_members.specs.Pushing.{Tables}
 use Rattle.laws_image_parts.specs.tidiness.Fields.{FieldsAreWritten}
 use Rattle.laws_image_parts.proofs.ManifestFacts.{numbers_kept}
 

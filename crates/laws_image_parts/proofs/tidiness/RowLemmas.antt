@@ -11,7 +11,7 @@ use Rattle.image_tokens.specs.Rows.{AreDistinct, EachRow}
 use Rattle.image_tokens.specs.declared.references.References.{References}
 use Rattle.image_tokens.specs.declared.row_set.Cells.{Cells}
 use Rattle.image_rows.specs.Filled.{three_cells, two_cells, first_cell, HoldsReferences}
-use Rattle.image_rows.specs.Pushing.{Tables}
+use Rattle.image_members.specs.Pushing.{Tables}
 use Rattle.image_layout.specs.Laws.{TablesAreRead, ReadsTables}
 use Rattle.image_model.specs.Rows.{HasRow}
 use Rattle.image_model.specs.Streams.{tables_of}

@@ -19,16 +19,16 @@ use Rattle.image_tokens.specs.References.{IsNameRow, IsSpecRow, IsLocalsRow, IsM
 use Rattle.image_tokens.specs.declared.references.References.{References}
 use Rattle.image_tokens.specs.declared.row_set.Cells.{Cells}
 use Rattle.image_rows.specs.AttributeRows.{IsAttributeRow}
-use Rattle.image_rows.specs.ConstantRows.{IsConstantRow}
+use Rattle.image_members.specs.ConstantRows.{IsConstantRow}
 use Rattle.image_rows.specs.EventRows.{IsEventRow}
 use Rattle.image_rows.specs.FieldRows.{IsFieldRow}
 use Rattle.image_rows.specs.Filled.{three_cells, two_cells, first_cell}
-use Rattle.image_rows.specs.GenericRows.{IsGenericRow}
-use Rattle.image_rows.specs.ManifestRows.{IsModuleRow, IsAssemblyRow, IsExternRow}
+use Rattle.image_members.specs.GenericRows.{IsGenericRow}
+use Rattle.image_members.specs.ManifestRows.{IsModuleRow, IsAssemblyRow, IsExternRow}
 use Rattle.image_rows.specs.MethodRows.{PlacedMethod, IsMethodRow}
 use Rattle.image_rows.specs.ParamRows.{IsParamRow}
 use Rattle.image_rows.specs.PropertyRows.{IsPropertyRow}
-use Rattle.image_rows.specs.Pushing.{Tables}
+use Rattle.image_members.specs.Pushing.{Tables}
 use Rattle.image_rows.specs.TypeRows.{Numbered, IsModuleType, IsTypeDefRow}
 use Rattle.laws_image_parts.specs.tidiness.InUse.{IsInUse, AreInUse}
 use Rattle.laws_image_parts.proofs.tidiness.ListLemmas.{all_get}

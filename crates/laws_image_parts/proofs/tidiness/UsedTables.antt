@@ -10,20 +10,20 @@ use Rattle.image_tokens.specs.Rows.{EachRow}
 use Rattle.image_tokens.specs.declared.references.References.{References}
 use Rattle.image_tokens.specs.declared.row_set.Cells.{Cells}
 use Rattle.image_rows.specs.AttributeRows.{IsAttributeRow}
-use Rattle.image_rows.specs.ConstantRows.{IsConstantRow}
+use Rattle.image_members.specs.ConstantRows.{IsConstantRow}
 use Rattle.image_rows.specs.EventRows.{IsEventRow}
 use Rattle.image_rows.specs.FieldRows.{IsFieldRow}
 use Rattle.image_rows.specs.Filled.{three_cells, two_cells, first_cell, written_tables, IsFilled}
-use Rattle.image_rows.specs.GenericRows.{IsGenericRow}
-use Rattle.image_rows.specs.Lists.{params_in}
-use Rattle.image_rows.specs.ManifestRows.{IsModuleRow, IsAssemblyRow, IsExternRow}
+use Rattle.image_members.specs.GenericRows.{IsGenericRow}
+use Rattle.image_members.specs.Lists.{params_in}
+use Rattle.image_members.specs.ManifestRows.{IsModuleRow, IsAssemblyRow, IsExternRow}
 use Rattle.image_rows.specs.MethodRows.{IsMethodRow}
 use Rattle.image_rows.specs.ParamRows.{IsParamRow}
-use Rattle.image_rows.specs.Places.{all_fields, all_methods}
+use Rattle.image_members.specs.Places.{all_fields, all_methods}
 use Rattle.image_rows.specs.PropertyRows.{IsPropertyRow}
-use Rattle.image_rows.specs.Pushing.{Tables}
+use Rattle.image_members.specs.Pushing.{Tables}
 use Rattle.image_rows.specs.TypeRows.{IsTypeDefRow}
-use Rattle.image_rows.specs.declared.classes.Class.{Class}
+use Rattle.image_members.specs.declared.classes.Class.{Class}
 use Rattle.laws_image_parts.specs.tidiness.InUse.{AreInUse, IndexesAreInUse}
 use Rattle.laws_image_parts.proofs.tidiness.ListLemmas.{all_joined, all_mapped, listed, zip_all}
 use Rattle.laws_image_parts.proofs.tidiness.UsedRows.{In, by_rows, without_heaps, module_in, module_type_in, type_in, field_in, method_in, param_in, constant_in, attribute_in, event_in, property_in, assembly_in, extern_in, generic_in, name_in, member_in, locals_in, spec_in, instance_in}

@@ -6,10 +6,10 @@ use Rattle.heaps.specs.Content.{HasUnits}
 use Rattle.heaps.specs.Written.{HasWrittenUnits}
 use Rattle.pe_layout.specs.declared.parts.Kind.{Kind}
 use Rattle.image_tokens.specs.declared.references.References.{References}
-use Rattle.image_rows.specs.CodeBytes.{all_tokens}
+use Rattle.image_members.specs.CodeBytes.{all_tokens}
 use Rattle.image_rows.specs.Filled.{IsFilled}
-use Rattle.image_rows.specs.Pushing.{Tables}
-use Rattle.image_rows.specs.declared.classes.Class.{Class}
+use Rattle.image_members.specs.Pushing.{Tables}
+use Rattle.image_members.specs.declared.classes.Class.{Class}
 use Rattle.image_layout.specs.LaidOut.{IsLaidOut}
 use Rattle.image_model.specs.Bodies.{BodyNames}
 use Rattle.image_model.specs.Rows.{HasRow}

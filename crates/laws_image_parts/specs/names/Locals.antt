@@ -12,8 +12,8 @@ use Rattle.image_tokens.specs.KnownTokens.{locals_apart}
 use Rattle.image_tokens.specs.References.{HasSignature}
 use Rattle.image_tokens.specs.declared.references.References.{References}
 use Rattle.image_tokens.specs.declared.row_set.Cells.{Cells}
-use Rattle.image_rows.specs.Pushing.{Tables}
-use Rattle.image_rows.specs.declared.classes.Class.{Class}
+use Rattle.image_members.specs.Pushing.{Tables}
+use Rattle.image_members.specs.declared.classes.Class.{Class}
 use Rattle.image_model.specs.Naming.{NamesLocals}
 use Rattle.laws_image_parts.specs.names.Owners.{OwnersRead}
 use Rattle.laws_image_parts.specs.names.Written.{IsWritten}

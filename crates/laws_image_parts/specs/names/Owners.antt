@@ -11,8 +11,8 @@ use Rattle.type_terms.specs.declared.term.SigType.{SigType}
 use Rattle.image_tokens.specs.References.{HasSignature, tokens_of}
 use Rattle.image_tokens.specs.declared.references.References.{References}
 use Rattle.image_tokens.specs.declared.row_set.Cells.{Cells}
-use Rattle.image_rows.specs.Pushing.{Tables}
-use Rattle.image_rows.specs.declared.classes.Class.{Class}
+use Rattle.image_members.specs.Pushing.{Tables}
+use Rattle.image_members.specs.declared.classes.Class.{Class}
 use Rattle.image_model.specs.Naming.{TellsOwners}
 use Rattle.laws_image_parts.specs.names.Written.{IsWritten}
 

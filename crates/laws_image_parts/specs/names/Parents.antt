@@ -7,8 +7,8 @@ use Rattle.image_tokens.specs.Indexes.{index_of_token}
 use Rattle.image_tokens.specs.References.{tokens_of}
 use Rattle.image_tokens.specs.declared.references.References.{References}
 use Rattle.image_tokens.specs.declared.row_set.Cells.{Cells}
-use Rattle.image_rows.specs.Pushing.{Tables}
-use Rattle.image_rows.specs.declared.classes.Class.{Class}
+use Rattle.image_members.specs.Pushing.{Tables}
+use Rattle.image_members.specs.declared.classes.Class.{Class}
 use Rattle.image_model.specs.Naming.{OwnsMember}
 use Rattle.image_model.specs.Rows.{HasRow}
 use Rattle.laws_image_parts.specs.names.Owners.{OwnersRead}

@@ -5,9 +5,9 @@ use Rattle.type_terms.specs.declared.name.Scope.TheVariants.{Extern}
 use Rattle.type_terms.specs.declared.name.TypeId.{TypeId}
 use Rattle.assembly_tree.specs.declared.assembly.Assembly.{Assembly}
 use Rattle.image_tokens.specs.declared.references.References.{References}
-use Rattle.image_rows.specs.Declaring.{Place, places}
-use Rattle.image_rows.specs.Pushing.{Tables}
-use Rattle.image_rows.specs.declared.classes.Class.{Class}
+use Rattle.image_members.specs.Declaring.{Place, places}
+use Rattle.image_members.specs.Pushing.{Tables}
+use Rattle.image_members.specs.declared.classes.Class.{Class}
 use Rattle.image_model.specs.Naming.{HasId, HasPath, HasRefPath}
 use Rattle.image_model.specs.Rows.{HasRow, enclosing}
 use Rattle.laws_image_parts.specs.AtRows.{AtEach}

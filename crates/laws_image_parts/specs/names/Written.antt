@@ -3,8 +3,8 @@ use Rattle.std.specs.Prelude.{ℕ, List}
 use Rattle.assembly_tree.specs.declared.assembly.Assembly.{Assembly}
 use Rattle.image_tokens.specs.declared.references.References.{References}
 use Rattle.image_rows.specs.Filled.{IsFilled}
-use Rattle.image_rows.specs.Pushing.{Tables}
-use Rattle.image_rows.specs.declared.classes.Class.{Class}
+use Rattle.image_members.specs.Pushing.{Tables}
+use Rattle.image_members.specs.declared.classes.Class.{Class}
 use Rattle.pe_layout.specs.declared.parts.Kind.{Kind}
 use Rattle.image_layout.specs.LaidOut.{IsLaidOut}
 use Rattle.image_layout.specs.Laws.{ReadsTables, ReadsHeaps}

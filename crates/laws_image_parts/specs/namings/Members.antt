@@ -9,8 +9,8 @@ use Rattle.image_tokens.specs.Found.{token_in}
 use Rattle.image_tokens.specs.KnownTokens.{fields_apart, methods_apart}
 use Rattle.image_tokens.specs.References.{tokens_of}
 use Rattle.image_tokens.specs.declared.references.References.{References}
-use Rattle.image_rows.specs.Pushing.{Tables}
-use Rattle.image_rows.specs.declared.classes.Class.{Class}
+use Rattle.image_members.specs.Pushing.{Tables}
+use Rattle.image_members.specs.declared.classes.Class.{Class}
 use Rattle.image_model.specs.Naming.{NamesField, NamesMethod}
 use Rattle.laws_image_parts.specs.names.Owners.{OwnersRead}
 use Rattle.laws_image_parts.specs.names.Written.{IsWritten}

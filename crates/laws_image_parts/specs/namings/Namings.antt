@@ -4,9 +4,9 @@ use Rattle.assembly_tree.specs.declared.assembly.Assembly.{Assembly}
 use Rattle.body_codec.specs.Back.{NamesBack}
 use Rattle.body_codec.specs.Names.{NameMap}
 use Rattle.image_tokens.specs.declared.references.References.{References}
-use Rattle.image_rows.specs.CodeBytes.{all_tokens}
-use Rattle.image_rows.specs.Pushing.{Tables}
-use Rattle.image_rows.specs.declared.classes.Class.{Class}
+use Rattle.image_members.specs.CodeBytes.{all_tokens}
+use Rattle.image_members.specs.Pushing.{Tables}
+use Rattle.image_members.specs.declared.classes.Class.{Class}
 use Rattle.image_model.specs.Namings.{AreNamings}
 use Rattle.laws_image_parts.specs.names.Written.{IsWritten}
 use Rattle.laws_image_parts.specs.namings.Readable.{IsReadable}

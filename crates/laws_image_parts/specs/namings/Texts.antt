@@ -5,8 +5,8 @@ use Rattle.sig_codec.specs.Tokens.{GivesBack}
 use Rattle.image_tokens.specs.Found.{token_in}
 use Rattle.image_tokens.specs.KnownTokens.{texts_apart}
 use Rattle.image_tokens.specs.declared.references.References.{References}
-use Rattle.image_rows.specs.Pushing.{Tables}
-use Rattle.image_rows.specs.declared.classes.Class.{Class}
+use Rattle.image_members.specs.Pushing.{Tables}
+use Rattle.image_members.specs.declared.classes.Class.{Class}
 use Rattle.image_model.specs.Naming.{NamesText}
 use Rattle.laws_image_parts.specs.names.Written.{IsWritten}
 use Rattle.laws_image_parts.specs.namings.Readable.{TextsAreUnits}

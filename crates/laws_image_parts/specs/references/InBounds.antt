@@ -9,8 +9,8 @@ use Rattle.sig_codec.specs.Spelling.{SpellsType}
 use Rattle.image_tokens.specs.Bounds.{IsTypeInBounds, AreTypesInBounds, IsMethodInBounds}
 use Rattle.image_tokens.specs.declared.references.References.{References}
 use Rattle.image_rows.specs.Filled.{IsFilled}
-use Rattle.image_rows.specs.Pushing.{Tables}
-use Rattle.image_rows.specs.declared.classes.Class.{Class}
+use Rattle.image_members.specs.Pushing.{Tables}
+use Rattle.image_members.specs.declared.classes.Class.{Class}
 use Rattle.image_layout.specs.LaidOut.{IsLaidOut}
 use Rattle.laws_image_parts.specs.namings.Readable.{AreReadableIn, TextsAreUnits}
 

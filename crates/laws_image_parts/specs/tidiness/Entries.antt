@@ -4,8 +4,8 @@ use Rattle.assembly_tree.specs.declared.assembly.Assembly.{Assembly}
 use Rattle.heaps.specs.Written.{HasShortBlob}
 use Rattle.image_tokens.specs.declared.references.References.{References}
 use Rattle.image_rows.specs.Filled.{IsFilled}
-use Rattle.image_rows.specs.Pushing.{Tables}
-use Rattle.image_rows.specs.declared.classes.Class.{Class}
+use Rattle.image_members.specs.Pushing.{Tables}
+use Rattle.image_members.specs.declared.classes.Class.{Class}
 use Rattle.image_layout.specs.LaidOut.{HoldsMetadata}
 use Rattle.image_model.specs.Columns.{data_rva}
 use Rattle.image_model.specs.Rows.{HasRow}

@@ -5,8 +5,8 @@ use Rattle.body_codec.specs.Names.{NameMap}
 use Rattle.sig_codec.specs.Tokens.{GivesBack}
 use Rattle.image_tokens.specs.References.{tokens_of}
 use Rattle.image_tokens.specs.declared.references.References.{References}
-use Rattle.image_rows.specs.Pushing.{Tables}
-use Rattle.image_rows.specs.declared.classes.Class.{Class}
+use Rattle.image_members.specs.Pushing.{Tables}
+use Rattle.image_members.specs.declared.classes.Class.{Class}
 use Rattle.image_model.specs.Tidy.{HasShortSignatures}
 use Rattle.laws_image_parts.specs.names.Written.{IsWritten}
 

@@ -19,7 +19,7 @@ use Rattle.image_tokens.specs.Rows.{EachRow}
 use Rattle.image_tokens.specs.Texts.{HoldsText}
 use Rattle.image_tokens.specs.declared.references.References.{References}
 use Rattle.image_tokens.specs.declared.row_set.Cells.{Cells}
-use Rattle.image_rows.specs.Pushing.{Tables}
+use Rattle.image_members.specs.Pushing.{Tables}
 
 -- ---- what is asked of a cell
 

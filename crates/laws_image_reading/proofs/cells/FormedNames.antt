@@ -25,11 +25,11 @@ use Rattle.type_terms.specs.declared.term.SigType.{SigType}
 use Rattle.laws_image_indexes.proofs.EachLemmas.{each_all, each_mapped, each_weaker}
 use Rattle.image_tokens.specs.References.{AreKnown}
 use Rattle.image_tokens.specs.declared.references.References.{References}
-use Rattle.image_rows.specs.Classes.{AreClasses}
-use Rattle.image_rows.specs.Declaring.{module_id, class_id}
-use Rattle.image_rows.specs.Lists.{longest_of, class_attributes, attribute_lists, attribute_items, generic_items, generics_in, params_in, properties_in, events_in}
-use Rattle.image_rows.specs.Places.{all_fields, all_methods}
-use Rattle.image_rows.specs.declared.classes.Class.{Class}
+use Rattle.image_members.specs.Classes.{AreClasses}
+use Rattle.image_members.specs.Declaring.{module_id, class_id}
+use Rattle.image_members.specs.Lists.{longest_of, class_attributes, attribute_lists, attribute_items, generic_items, generics_in, params_in, properties_in, events_in}
+use Rattle.image_members.specs.Places.{all_fields, all_methods}
+use Rattle.image_members.specs.declared.classes.Class.{Class}
 use Rattle.laws_image_reading.specs.cells.NamedRows.{HasNamedRows}
 use Rattle.laws_image_reading.proofs.cells.EachLemmas.{split_three, split_five, split_eight, each_apart, each_by_number, each_true}
 use Rattle.laws_image_reading.proofs.cells.FormedParts.{IsOwn, its_head, whole, formed_classes, formed_fields, formed_methods, formed_properties, formed_events, formed_params, formed_items, formed_generics}

@@ -20,12 +20,12 @@ use Rattle.assembly_tree.specs.declared.typedef.TypeDef.TheViews.{out-TypeDef}
 use Rattle.assembly_tree.proofs.FormedFacts.{assemblies_named, heads_named, types_named, methods_named}
 use Rattle.metadata_tables.specs.declared.coded.Coded.TheVariants.{TypeOrMethodDef}
 use Rattle.laws_image_indexes.proofs.EachLemmas.{each_weaker, each_joined, each_mapped, each_flat}
-use Rattle.image_rows.specs.Classes.{AreClasses, none, more}
-use Rattle.image_rows.specs.DeclaredMembers.{class_fields, class_methods}
-use Rattle.image_rows.specs.GenericRows.{generic_of}
-use Rattle.image_rows.specs.Lists.{longest_of, class_generics, generic_lists, generic_items, generics_in, params_in, properties_in, events_in}
-use Rattle.image_rows.specs.Places.{all_fields, all_methods, class_properties, class_events, params_of}
-use Rattle.image_rows.specs.declared.classes.Class.{Class}
+use Rattle.image_members.specs.Classes.{AreClasses, none, more}
+use Rattle.image_members.specs.DeclaredMembers.{class_fields, class_methods}
+use Rattle.image_members.specs.GenericRows.{generic_of}
+use Rattle.image_members.specs.Lists.{longest_of, class_generics, generic_lists, generic_items, generics_in, params_in, properties_in, events_in}
+use Rattle.image_members.specs.Places.{all_fields, all_methods, class_properties, class_events, params_of}
+use Rattle.image_members.specs.declared.classes.Class.{Class}
 use Rattle.laws_image_reading.proofs.cells.EachLemmas.{each_true, each_counted, each_by_number}
 
 -- a type meets its conditions, at the top or nested

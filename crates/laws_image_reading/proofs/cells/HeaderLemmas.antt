@@ -25,9 +25,9 @@ use Rattle.image_model.specs.Rows.{count_of}
 use Rattle.image_model.specs.Streams.{HasCliHeader}
 use Rattle.image_tokens.specs.declared.references.References.{References}
 use Rattle.image_rows.specs.Filled.{IsFilled, entry_from, entry_token}
-use Rattle.image_rows.specs.Places.{all_methods}
-use Rattle.image_rows.specs.Pushing.{Tables}
-use Rattle.image_rows.specs.declared.classes.Class.{Class}
+use Rattle.image_members.specs.Places.{all_methods}
+use Rattle.image_members.specs.Pushing.{Tables}
+use Rattle.image_members.specs.declared.classes.Class.{Class}
 use Rattle.laws_image_reading.proofs.cells.EachLemmas.{split_eight}
 
 -- ---- the flags

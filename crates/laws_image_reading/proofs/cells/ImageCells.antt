@@ -21,7 +21,7 @@ use Rattle.image_model.specs.Rows.{count_of, HasRow}
 use Rattle.image_model.specs.Streams.{tables_of, guids_of}
 use Rattle.image_tokens.specs.Indexes.{index_of}
 use Rattle.image_tokens.specs.declared.references.References.{References}
-use Rattle.image_rows.specs.Pushing.{Tables}
+use Rattle.image_members.specs.Pushing.{Tables}
 use Rattle.laws_image_reading.proofs.cells.CellLemmas.{Points, Begins, IsCell, HasCells}
 
 -- ---- runs

@@ -20,21 +20,21 @@ use Rattle.laws_image_indexes.proofs.TableLemmas.{zip_all, zip_known}
 use Rattle.image_tokens.specs.References.{AreKnown}
 use Rattle.image_tokens.specs.Rows.{EachRow}
 use Rattle.image_tokens.specs.declared.references.References.{References}
-use Rattle.image_rows.specs.Declaring.{module_id, class_id}
-use Rattle.image_rows.specs.DeclaredMembers.{class_fields, class_methods}
+use Rattle.image_members.specs.Declaring.{module_id, class_id}
+use Rattle.image_members.specs.DeclaredMembers.{class_fields, class_methods}
 use Rattle.image_rows.specs.EventRows.{IsEventRow}
 use Rattle.image_rows.specs.FieldRows.{IsFieldRow}
 use Rattle.image_rows.specs.Filled.{IsFilled}
-use Rattle.image_rows.specs.Lists.{params_in, properties_in, events_in, generic_items}
-use Rattle.image_rows.specs.ManifestRows.{IsModuleRow, IsAssemblyRow, IsExternRow}
+use Rattle.image_members.specs.Lists.{params_in, properties_in, events_in, generic_items}
+use Rattle.image_members.specs.ManifestRows.{IsModuleRow, IsAssemblyRow, IsExternRow}
 use Rattle.image_rows.specs.MethodRows.{PlacedMethod, placed_methods, IsMethodRow}
 use Rattle.image_rows.specs.ParamRows.{IsParamRow}
-use Rattle.image_rows.specs.Places.{all_fields, all_methods}
+use Rattle.image_members.specs.Places.{all_fields, all_methods}
 use Rattle.image_rows.specs.PropertyRows.{IsPropertyRow}
-use Rattle.image_rows.specs.Pushing.{Tables}
-use Rattle.image_rows.specs.TypeIndexes.{IsTypeIndex}
+use Rattle.image_members.specs.Pushing.{Tables}
+use Rattle.image_members.specs.TypeIndexes.{IsTypeIndex}
 use Rattle.image_rows.specs.TypeRows.{Numbered, numbered, base_of, IsBase, IsModuleType, IsTypeDefRow}
-use Rattle.image_rows.specs.declared.classes.Class.{Class}
+use Rattle.image_members.specs.declared.classes.Class.{Class}
 use Rattle.laws_image_reading.proofs.cells.CellLemmas.{IsTextCell, Points, AreCells, HasCells, each_cell, named, any_text, blob_cell, signature_cell, begins}
 use Rattle.laws_image_reading.proofs.cells.TokenRows.{type_points}
 

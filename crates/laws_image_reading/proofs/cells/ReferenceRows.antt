@@ -20,8 +20,8 @@ use Rattle.image_tokens.specs.TypePaths.{LeadsIn, in_reference}
 use Rattle.image_tokens.specs.declared.references.References.{References}
 use Rattle.image_tokens.specs.declared.row_set.Cells.{Cells}
 use Rattle.image_rows.specs.Filled.{IsFilled, written_tables, three_cells, two_cells, first_cell}
-use Rattle.image_rows.specs.Pushing.{Tables}
-use Rattle.image_rows.specs.declared.classes.Class.{Class}
+use Rattle.image_members.specs.Pushing.{Tables}
+use Rattle.image_members.specs.declared.classes.Class.{Class}
 use Rattle.laws_image_reading.proofs.cells.CellLemmas.{IsTextCell, Points, AreCells, HasCells, each_cell, rows_from, any_text, signature_cell}
 use Rattle.laws_image_reading.proofs.cells.OwnedRows as owned
 use Rattle.laws_image_reading.proofs.cells.OwnedRows.{ArePlain}

@@ -23,7 +23,7 @@ use Rattle.image_tokens.specs.TypePaths.{Follows, last, on}
 use Rattle.image_tokens.specs.declared.references.References.{References}
 use Rattle.image_tokens.specs.declared.row_set.Cells.{Cells}
 use Rattle.image_tokens.proofs.NameLemmas.{holds_of_found}
-use Rattle.image_rows.specs.ByNumber.{or_none, owned_in, owned_at, by_number}
+use Rattle.image_members.specs.ByNumber.{or_none, owned_in, owned_at, by_number}
 use Rattle.laws_image_reading.proofs.cells.CellLemmas.{Points}
 
 -- ---- tokens

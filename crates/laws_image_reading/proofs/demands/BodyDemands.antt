@@ -10,8 +10,8 @@ use Rattle.body_codec.specs.Names.{NameMap, reading}
 use Rattle.body_codec.proofs.Decoded.{Passes, spelled_passes}
 use Rattle.opcode_table.specs.declared.op.Op.TheVariants as op
 use Rattle.type_terms.specs.declared.term.SigType.{SigType}
-use Rattle.image_rows.specs.Places.{all_methods}
-use Rattle.image_rows.specs.declared.classes.Class.{Class}
+use Rattle.image_members.specs.Places.{all_methods}
+use Rattle.image_members.specs.declared.classes.Class.{Class}
 use Rattle.image_model.specs.Bodies.{HasBody, HasKnownHeader, HasLocals}
 use Rattle.image_model.specs.Columns.{method_rva}
 use Rattle.image_model.specs.Naming.{IsToken, NamesLocals}

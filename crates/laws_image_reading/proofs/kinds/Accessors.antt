@@ -8,10 +8,10 @@ use Rattle.metadata_tables.specs.declared.coded.Coded.TheVariants.{HasSemantics}
 use Rattle.assembly_tree.specs.WellFormedMembers.{is_accessor_of}
 use Rattle.assembly_tree.specs.declared.members.Accessor.{Accessor}
 use Rattle.assembly_tree.specs.declared.members.Method.{Method}
-use Rattle.image_rows.specs.DeclaredMembers.{class_methods}
-use Rattle.image_rows.specs.Lists.{access_of}
+use Rattle.image_members.specs.DeclaredMembers.{class_methods}
+use Rattle.image_members.specs.Lists.{access_of}
 use Rattle.image_rows.specs.SemanticsRows.{semantics_row}
-use Rattle.image_rows.specs.declared.classes.Class.{Class}
+use Rattle.image_members.specs.declared.classes.Class.{Class}
 use Rattle.image_model.specs.Columns.{semantics_method}
 use Rattle.image_model.specs.Members.{HasAccessors, semantics_of}
 use Rattle.image_model.specs.Rows.{HasRow, count_of, first_method, index_of, methods_of, run_end}

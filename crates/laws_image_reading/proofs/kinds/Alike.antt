@@ -10,7 +10,7 @@ use Rattle.sig_codec.specs.Tokens.{GivesBack}
 use Rattle.type_terms.specs.declared.term.Owner.{Owner}
 use Rattle.image_tokens.specs.References.{HasSignature, tokens_of}
 use Rattle.image_tokens.specs.declared.references.References.{References}
-use Rattle.image_rows.specs.declared.classes.Class.{Class}
+use Rattle.image_members.specs.declared.classes.Class.{Class}
 use Rattle.image_layout.specs.Laws.{ReadsHeaps}
 use Rattle.image_model.specs.Members.{AreOfOneType, HaveOne, HaveOneName}
 use Rattle.image_model.specs.Rows.{count_of}

@@ -18,10 +18,10 @@ use Rattle.image_tokens.specs.KnownTokens.{methods_apart}
 use Rattle.image_tokens.specs.References.{HasGenericToken, of_declared, of_referred, IsMethodToken, plain, instance, AreKnown}
 use Rattle.image_tokens.specs.declared.references.References.{References}
 use Rattle.image_tokens.proofs.NameLemmas.{holds_of_found}
-use Rattle.image_rows.specs.ByNumber.{or_none, owned_in, owned_at, by_number}
-use Rattle.image_rows.specs.CodeBytes.{all_tokens}
-use Rattle.image_rows.specs.Lists.{longest_of, attribute_items, attribute_lists}
-use Rattle.image_rows.specs.declared.classes.Class.{Class}
+use Rattle.image_members.specs.ByNumber.{or_none, owned_in, owned_at, by_number}
+use Rattle.image_members.specs.CodeBytes.{all_tokens}
+use Rattle.image_members.specs.Lists.{longest_of, attribute_items, attribute_lists}
+use Rattle.image_members.specs.declared.classes.Class.{Class}
 use Rattle.image_model.specs.Columns.{attribute_parent, attribute_type}
 use Rattle.image_model.specs.Faults.{Holds, attributes}
 use Rattle.image_model.specs.Members.{attributed_tables, IsAttributed, HasConstructor}

@@ -28,7 +28,7 @@ use Rattle.image_tokens.specs.declared.references.References.{References}
 use Rattle.image_tokens.specs.declared.row_set.Cells.{Cells}
 use Rattle.image_tokens.proofs.NameLemmas.{holds_of_found}
 use Rattle.image_rows.specs.TypeRows.{IsBase, base_of}
-use Rattle.image_rows.specs.declared.classes.Class.{Class}
+use Rattle.image_members.specs.declared.classes.Class.{Class}
 use Rattle.image_layout.specs.Laws.{ReadsHeaps}
 use Rattle.image_model.specs.Columns.{type_extends}
 use Rattle.image_model.specs.Faults.{Holds, bases}

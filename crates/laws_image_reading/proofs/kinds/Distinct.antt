@@ -19,10 +19,10 @@ use Rattle.sig_codec.specs.Tokens.{GivesBack}
 use Rattle.type_terms.specs.Order.{term_order}
 use Rattle.image_tokens.specs.References.{tokens_of}
 use Rattle.image_tokens.specs.declared.references.References.{References}
-use Rattle.image_rows.specs.DeclaredMembers.{class_fields, class_methods}
-use Rattle.image_rows.specs.Lists.{properties_in, events_in}
-use Rattle.image_rows.specs.Places.{all_fields, all_methods, class_events, class_properties}
-use Rattle.image_rows.specs.declared.classes.Class.{Class}
+use Rattle.image_members.specs.DeclaredMembers.{class_fields, class_methods}
+use Rattle.image_members.specs.Lists.{properties_in, events_in}
+use Rattle.image_members.specs.Places.{all_fields, all_methods, class_events, class_properties}
+use Rattle.image_members.specs.declared.classes.Class.{Class}
 use Rattle.image_layout.specs.Laws.{ReadsHeaps}
 use Rattle.image_model.specs.Columns.{event_name, field_name, field_signature, method_name, method_signature, property_name, property_signature}
 use Rattle.image_model.specs.Faults.{Holds, distinct}

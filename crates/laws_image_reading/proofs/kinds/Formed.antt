@@ -20,11 +20,11 @@ use Rattle.assembly_tree.specs.declared.typedef.TypeDef.{TypeDef}
 use Rattle.assembly_tree.specs.declared.typedef.TypeDef.TheViews.{out-TypeDef}
 use Rattle.assembly_tree.proofs.FormedFacts.{heads_named, types_named, fields_named, methods_named, properties_named}
 use Rattle.metadata_tables.specs.declared.coded.Coded.TheVariants.{HasCustomAttribute, TypeOrMethodDef}
-use Rattle.image_rows.specs.Classes.{AreClasses, none, more}
-use Rattle.image_rows.specs.GenericRows.{generic_of}
-use Rattle.image_rows.specs.Lists.{longest_of, class_attributes, class_generics, generic_items, generic_lists, generics_in, attribute_items, attribute_lists, params_in, properties_in, events_in}
-use Rattle.image_rows.specs.Places.{all_fields, all_methods}
-use Rattle.image_rows.specs.declared.classes.Class.{Class}
+use Rattle.image_members.specs.Classes.{AreClasses, none, more}
+use Rattle.image_members.specs.GenericRows.{generic_of}
+use Rattle.image_members.specs.Lists.{longest_of, class_attributes, class_generics, generic_items, generic_lists, generics_in, attribute_items, attribute_lists, params_in, properties_in, events_in}
+use Rattle.image_members.specs.Places.{all_fields, all_methods}
+use Rattle.image_members.specs.declared.classes.Class.{Class}
 use Rattle.laws_writable_trees.proofs.Classes.{first_of_types}
 use Rattle.laws_writable_trees.proofs.Each.{each_by_number, each_from, each_joined, each_mapped, each_numbered, each_true, split_eight}
 use Rattle.laws_writable_trees.proofs.Members.{IsFine}

@@ -7,8 +7,8 @@ use Rattle.assembly_tree.specs.declared.assembly.Assembly.{Assembly}
 use Rattle.assembly_tree.proofs.FormedFacts.{methods_named}
 use Rattle.body_codec.specs.Names.{NameMap}
 use Rattle.image_tokens.specs.declared.references.References.{References}
-use Rattle.image_rows.specs.Places.{all_methods}
-use Rattle.image_rows.specs.declared.classes.Class.{Class}
+use Rattle.image_members.specs.Places.{all_methods}
+use Rattle.image_members.specs.declared.classes.Class.{Class}
 use Rattle.image_layout.specs.Laws.{ReadsHeaps}
 use Rattle.image_model.specs.Bodies.{HasCodeType}
 use Rattle.image_model.specs.Columns.{method_impl_flags}

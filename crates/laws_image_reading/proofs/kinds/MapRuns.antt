@@ -5,8 +5,8 @@ use Rattle.std.specs.List.{range_with_len}
 use Rattle.metadata_tables.specs.Indexes.{IndexesFit}
 use Rattle.assembly_tree.specs.declared.assembly.Assembly.{Assembly}
 use Rattle.image_tokens.specs.declared.references.References.{References}
-use Rattle.image_rows.specs.Places.{class_events, class_properties}
-use Rattle.image_rows.specs.declared.classes.Class.{Class}
+use Rattle.image_members.specs.Places.{class_events, class_properties}
+use Rattle.image_members.specs.declared.classes.Class.{Class}
 use Rattle.image_model.specs.Columns.{event_map_parent, event_map_events, property_map_parent, property_map_properties}
 use Rattle.image_model.specs.Rows.{events_of, first_event, first_property, properties_of, rows_of}
 use Rattle.laws_image_parts.specs.RowCells.{event_map_cells, property_map_cells}

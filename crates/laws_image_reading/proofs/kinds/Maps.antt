@@ -7,7 +7,7 @@ use Rattle.std.proofs.lemmas.Bool.{eqb-true, false_from_ne_true}
 use Rattle.std.proofs.lemmas.List.{length-append}
 use Rattle.metadata_tables.specs.Indexes.{run_cell, IndexesFit}
 use Rattle.image_rows.specs.MapRows.{map_rows, run_rows}
-use Rattle.image_rows.specs.declared.classes.Class.{Class}
+use Rattle.image_members.specs.declared.classes.Class.{Class}
 use Rattle.image_model.specs.Rows.{count_of, run, run_start}
 use Rattle.laws_image_parts.specs.AtRows.{AtEach, Reads}
 use Rattle.laws_image_parts.specs.RowsRead.{IsMade, row_itself}

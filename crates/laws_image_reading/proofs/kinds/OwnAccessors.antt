@@ -9,10 +9,10 @@ use Rattle.assembly_tree.specs.declared.members.Event.{Event}
 use Rattle.assembly_tree.specs.declared.members.Property.{Property}
 use Rattle.body_codec.specs.Names.{NameMap}
 use Rattle.image_tokens.specs.declared.references.References.{References}
-use Rattle.image_rows.specs.DeclaredMembers.{class_methods}
-use Rattle.image_rows.specs.Lists.{access_from, access_of, event_access, property_access}
-use Rattle.image_rows.specs.Places.{all_methods, class_events, class_properties}
-use Rattle.image_rows.specs.declared.classes.Class.{Class}
+use Rattle.image_members.specs.DeclaredMembers.{class_methods}
+use Rattle.image_members.specs.Lists.{access_from, access_of, event_access, property_access}
+use Rattle.image_members.specs.Places.{all_methods, class_events, class_properties}
+use Rattle.image_members.specs.declared.classes.Class.{Class}
 use Rattle.image_model.specs.Faults.{Holds, accessors}
 use Rattle.image_model.specs.Members.{HasAccessors}
 use Rattle.image_model.specs.Rows.{HasRow, events_of, first_method, properties_of}

@@ -3,8 +3,8 @@ use Rattle.std.proofs.Common.{◌≡◌, ap, refl, sym, ◌∙◌, subst, ℕ, �
 use Rattle.std.specs.Prelude.{slice_get}
 use Rattle.std.proofs.lemmas.List.{length-append, length-map}
 use Rattle.type_terms.specs.declared.name.TypeId.{TypeId}
-use Rattle.image_rows.specs.Declaring.{Place, AreApart, places, class_place, module_place}
-use Rattle.image_rows.specs.declared.classes.Class.{Class}
+use Rattle.image_members.specs.Declaring.{Place, AreApart, places, class_place, module_place}
+use Rattle.image_members.specs.declared.classes.Class.{Class}
 use Rattle.image_model.specs.Members.{HaveOnePath, IsNew}
 use Rattle.image_model.specs.Naming.{HasId, HasPath}
 use Rattle.image_model.specs.Rows.{HasRow, count_of, enclosing}

@@ -16,11 +16,11 @@ use Rattle.assembly_tree.specs.declared.members.Property.{Property}
 use Rattle.assembly_tree.proofs.FormedFacts.{events_named, properties_named}
 use Rattle.type_terms.specs.declared.term.Owner.{Owner}
 use Rattle.image_tokens.specs.Indexes.{index_of, index_of_token}
-use Rattle.image_rows.specs.DeclaredMembers.{class_methods}
-use Rattle.image_rows.specs.Lists.{access_of, access_from, event_access, property_access, properties_in, events_in}
-use Rattle.image_rows.specs.Places.{class_events, class_properties}
+use Rattle.image_members.specs.DeclaredMembers.{class_methods}
+use Rattle.image_members.specs.Lists.{access_of, access_from, event_access, property_access, properties_in, events_in}
+use Rattle.image_members.specs.Places.{class_events, class_properties}
 use Rattle.image_rows.specs.SemanticsRows.{semantics_row}
-use Rattle.image_rows.specs.declared.classes.Class.{Class}
+use Rattle.image_members.specs.declared.classes.Class.{Class}
 use Rattle.image_model.specs.Columns.{semantics_kind}
 use Rattle.image_model.specs.Members.{HasKinds, event_kinds, property_kinds, semantics_of}
 use Rattle.image_model.specs.Naming.{NamesOwner, RowOwner}

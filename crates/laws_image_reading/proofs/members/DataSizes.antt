@@ -17,8 +17,8 @@ use Rattle.type_terms.specs.declared.term.Owner.TheOpen as layer
 use Rattle.type_terms.specs.declared.term.SigType.{SigType, fold-roll-SigType, map-SigType, out-SigType, out-roll-SigType, roll-SigType}
 use Rattle.type_terms.proofs.Layers.{OwnerWith, TypeWith, type_values, by_layers}
 use Rattle.sig_codec.specs.Spelling.{Layer}
-use Rattle.image_rows.specs.Classes.{AreClasses}
-use Rattle.image_rows.specs.declared.classes.Class.{Class}
+use Rattle.image_members.specs.Classes.{AreClasses}
+use Rattle.image_members.specs.declared.classes.Class.{Class}
 use Rattle.image_model.specs.Columns.{layout_size as cell_of_size}
 use Rattle.image_model.specs.Members.{HasDataSize, layouts_of}
 use Rattle.laws_image_parts.specs.AtRows.{AtEach}

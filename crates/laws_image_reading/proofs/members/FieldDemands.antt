@@ -9,7 +9,7 @@ use Rattle.assembly_tree.specs.WellFormedMembers.{is_content}
 use Rattle.body_codec.specs.Names.{NameMap}
 use Rattle.pe_layout.specs.FileMap.{readable, StandsAt}
 use Rattle.type_terms.specs.declared.term.SigType.{SigType}
-use Rattle.image_rows.specs.DataRows.{IsDataRow}
+use Rattle.image_members.specs.DataRows.{IsDataRow}
 use Rattle.image_model.specs.Columns.{data_rva}
 use Rattle.image_model.specs.Members.{HasData, HasDataSize, data_of, offsets_of}
 use Rattle.image_model.specs.Terms.{FieldHas}

@@ -12,9 +12,9 @@ use Rattle.image_tokens.specs.Indexes.{index_of_token}
 use Rattle.image_tokens.specs.References.{HasGenericToken, of_declared, of_referred}
 use Rattle.image_tokens.specs.declared.references.References.{References}
 use Rattle.image_tokens.specs.declared.row_set.Cells.{Cells}
-use Rattle.image_rows.specs.CodeBytes.{all_tokens}
-use Rattle.image_rows.specs.Pushing.{Tables}
-use Rattle.image_rows.specs.declared.classes.Class.{Class}
+use Rattle.image_members.specs.CodeBytes.{all_tokens}
+use Rattle.image_members.specs.Pushing.{Tables}
+use Rattle.image_members.specs.declared.classes.Class.{Class}
 use Rattle.image_model.specs.Columns.{instance_method, method_name, method_signature}
 use Rattle.image_model.specs.Members.{FitsInstance}
 use Rattle.image_model.specs.Naming.{NamesMethod, OwnsMethod}

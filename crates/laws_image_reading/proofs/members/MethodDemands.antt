@@ -12,9 +12,9 @@ use Rattle.assembly_tree.specs.declared.members.Method.{Method}
 use Rattle.assembly_tree.specs.declared.members.Param.{Param}
 use Rattle.assembly_tree.proofs.FormedFacts.{methods_named}
 use Rattle.image_tokens.specs.declared.references.References.{References}
-use Rattle.image_rows.specs.Lists.{params_in}
+use Rattle.image_members.specs.Lists.{params_in}
 use Rattle.image_rows.specs.ParamRows.{IsParamRow}
-use Rattle.image_rows.specs.declared.classes.Class.{Class}
+use Rattle.image_members.specs.declared.classes.Class.{Class}
 use Rattle.image_model.specs.Columns.{param_sequence}
 use Rattle.image_model.specs.Members.{FitsSignature}
 use Rattle.image_model.specs.Rows.{params_of}

@@ -19,12 +19,12 @@ use Rattle.image_tokens.specs.Indexes.{index_of, index_of_token}
 use Rattle.image_tokens.specs.References.{HasGenericToken, HasSignature, of_declared, of_referred}
 use Rattle.image_tokens.specs.declared.references.References.{References}
 use Rattle.image_tokens.specs.declared.row_set.Cells.{Cells}
-use Rattle.image_rows.specs.CodeBytes.{all_tokens}
-use Rattle.image_rows.specs.Lists.{properties_in}
+use Rattle.image_members.specs.CodeBytes.{all_tokens}
+use Rattle.image_members.specs.Lists.{properties_in}
 use Rattle.image_rows.specs.OverrideRows.{Override, overrides_from, IsOverrideRow}
-use Rattle.image_rows.specs.Places.{all_fields, all_methods}
-use Rattle.image_rows.specs.Pushing.{Tables}
-use Rattle.image_rows.specs.declared.classes.Class.{Class}
+use Rattle.image_members.specs.Places.{all_fields, all_methods}
+use Rattle.image_members.specs.Pushing.{Tables}
+use Rattle.image_members.specs.declared.classes.Class.{Class}
 use Rattle.image_model.specs.Columns.{member_signature, instance_method, override_body, override_declaration}
 use Rattle.image_model.specs.Faults.{Holds, signatures}
 use Rattle.image_model.specs.Naming.{IsToken, NamesMethod}

@@ -17,10 +17,10 @@ use Rattle.type_terms.specs.declared.term.SigType.{SigType}
 use Rattle.image_tokens.specs.References.{HasSignature, tokens_of}
 use Rattle.image_tokens.specs.declared.references.References.{References}
 use Rattle.image_tokens.specs.declared.row_set.Cells.{Cells}
-use Rattle.image_rows.specs.Lists.{properties_in}
-use Rattle.image_rows.specs.Places.{all_fields, all_methods}
-use Rattle.image_rows.specs.Pushing.{Tables}
-use Rattle.image_rows.specs.declared.classes.Class.{Class}
+use Rattle.image_members.specs.Lists.{properties_in}
+use Rattle.image_members.specs.Places.{all_fields, all_methods}
+use Rattle.image_members.specs.Pushing.{Tables}
+use Rattle.image_members.specs.declared.classes.Class.{Class}
 use Rattle.image_model.specs.Columns.{field_signature, method_signature, member_signature, property_signature, locals_signature, type_spec_signature, instance_arguments}
 use Rattle.image_model.specs.Streams.{blobs_of}
 use Rattle.image_model.specs.Terms.{FieldHas, MethodHas, PropertyHas, InstanceHas, LocalsHave, TypeSpecHas, HasMember, HasRanks, max_count}

@@ -12,9 +12,9 @@ use Rattle.assembly_tree.specs.declared.members.Generic.{Generic}
 use Rattle.assembly_tree.specs.declared.typedef.Layout.{Layout}
 use Rattle.image_tokens.specs.Indexes.{index_of}
 use Rattle.image_tokens.specs.declared.references.References.{References}
-use Rattle.image_rows.specs.GenericRows.{IsGenericRow}
-use Rattle.image_rows.specs.Lists.{generic_lists, generic_items, generics_in, longest_of}
-use Rattle.image_rows.specs.declared.classes.Class.{Class}
+use Rattle.image_members.specs.GenericRows.{IsGenericRow}
+use Rattle.image_members.specs.Lists.{generic_lists, generic_items, generics_in, longest_of}
+use Rattle.image_members.specs.declared.classes.Class.{Class}
 use Rattle.image_model.specs.Columns.{generic_owner, layout_pack, layout_parent}
 use Rattle.image_model.specs.Members.{HasGenerics, HasLayout, generics_of, layouts_of, packings}
 use Rattle.image_model.specs.Rows.{HasRow, count_of, rows_with}

@@ -8,9 +8,9 @@ use Rattle.assembly_tree.specs.DataSize.{is_id, named, with_type, type_below, ty
 use Rattle.assembly_tree.specs.declared.typedef.TypeDef.{TypeDef}
 use Rattle.assembly_tree.specs.declared.typedef.TypeDef.TheViews.{out-TypeDef}
 use Rattle.type_terms.specs.declared.name.TypeId.{TypeId}
-use Rattle.image_rows.specs.Classes.{AreClasses, none, more}
-use Rattle.image_rows.specs.Declaring.{class_place}
-use Rattle.image_rows.specs.declared.classes.Class.{Class}
+use Rattle.image_members.specs.Classes.{AreClasses, none, more}
+use Rattle.image_members.specs.Declaring.{class_place}
+use Rattle.image_members.specs.declared.classes.Class.{Class}
 use Rattle.image_model.specs.Naming.{HasId, HasPath}
 use Rattle.image_model.specs.Rows.{HasRow}
 use Rattle.laws_image_parts.specs.AtRows.{AtEach}

@@ -19,13 +19,13 @@ use Rattle.pe_layout.specs.FileMap.{StandsAt}
 use Rattle.type_terms.specs.declared.reference.MethodSig.{MethodSig}
 use Rattle.image_tokens.specs.Indexes.{index_of, index_of_token}
 use Rattle.image_tokens.specs.declared.references.References.{References}
-use Rattle.image_rows.specs.CodeBytes.{all_tokens}
-use Rattle.image_rows.specs.Declaring.{class_place}
-use Rattle.image_rows.specs.Lists.{class_generics, access_from, event_access, property_access, events_in, params_in, properties_in}
+use Rattle.image_members.specs.CodeBytes.{all_tokens}
+use Rattle.image_members.specs.Declaring.{class_place}
+use Rattle.image_members.specs.Lists.{class_generics, access_from, event_access, property_access, events_in, params_in, properties_in}
 use Rattle.image_rows.specs.OverrideRows.{overrides_from}
-use Rattle.image_rows.specs.Places.{all_fields, all_methods}
-use Rattle.image_rows.specs.Pushing.{Tables}
-use Rattle.image_rows.specs.declared.classes.Class.{Class}
+use Rattle.image_members.specs.Places.{all_fields, all_methods}
+use Rattle.image_members.specs.Pushing.{Tables}
+use Rattle.image_members.specs.declared.classes.Class.{Class}
 use Rattle.image_model.specs.Columns.{event_type, override_body, override_class}
 use Rattle.image_model.specs.Faults.{Holds, values}
 use Rattle.image_model.specs.Members.{HasGenerics, HasLayout, HasFieldValues, HasConstants, HasKinds, FitsSignature, FitsInstance, OverridesInClass, event_kinds, property_kinds}

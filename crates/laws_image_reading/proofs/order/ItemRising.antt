@@ -18,15 +18,15 @@ use Rattle.type_terms.specs.declared.term.Owner.{Owner}
 use Rattle.image_tokens.specs.declared.references.References.{References}
 use Rattle.image_tokens.specs.declared.row_set.Cells.{Cells}
 use Rattle.image_rows.specs.ClassRows.{class_rows, layout_rows, nested_rows, stated_rows, encloser_rows}
-use Rattle.image_rows.specs.DataRows.{Datum, stated_data, field_data, all_data}
-use Rattle.image_rows.specs.DeclaredMembers.{owned, IsMethodOf}
+use Rattle.image_members.specs.DataRows.{Datum, stated_data, field_data, all_data}
+use Rattle.image_members.specs.DeclaredMembers.{owned, IsMethodOf}
 use Rattle.image_rows.specs.FieldRows.{stated_offset, offset_rows}
-use Rattle.image_rows.specs.GenericRows.{bounds_with, bounds_in, bounds_from}
+use Rattle.image_members.specs.GenericRows.{bounds_with, bounds_in, bounds_from}
 use Rattle.image_rows.specs.InterfaceRows.{interfaces_from, joined, AreInterfaceRows}
-use Rattle.image_rows.specs.Lists.{class_generics, attribute_lists, attribute_items, constant_lists, constant_items, generic_lists, generic_items, accessor_lists, accessor_items, longest_of}
+use Rattle.image_members.specs.Lists.{class_generics, attribute_lists, attribute_items, constant_lists, constant_items, generic_lists, generic_items, accessor_lists, accessor_items, longest_of}
 use Rattle.image_rows.specs.OverrideRows.{Override, overrides, overrides_from}
-use Rattle.image_rows.specs.Places.{all_methods}
-use Rattle.image_rows.specs.declared.classes.Class.{Class}
+use Rattle.image_members.specs.Places.{all_methods}
+use Rattle.image_members.specs.declared.classes.Class.{Class}
 use Rattle.laws_image_reading.proofs.order.NumberRising.{index_in, marked, TagsRise, IsOrderedList, AreOrderedLists, by_number_rises}
 use Rattle.laws_image_reading.proofs.order.Rising.{Rise, Climb, InGroup, AreLinked, in_group, group_rises, made_rise, group_climbs, climbs_from, climbs_rise}
 

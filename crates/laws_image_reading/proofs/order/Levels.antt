@@ -8,9 +8,9 @@ use Rattle.assembly_tree.specs.WellFormedTypes.{is_own, is_same_id, are_types}
 use Rattle.assembly_tree.specs.declared.assembly.Assembly.{Assembly}
 use Rattle.assembly_tree.specs.declared.typedef.TypeDef.{TypeDef}
 use Rattle.assembly_tree.specs.declared.typedef.TypeDef.TheViews.{out-TypeDef}
-use Rattle.image_rows.specs.Classes.{AreClasses}
-use Rattle.image_rows.specs.Classes as classes
-use Rattle.image_rows.specs.declared.classes.Class.{Class}
+use Rattle.image_members.specs.Classes.{AreClasses}
+use Rattle.image_members.specs.Classes as classes
+use Rattle.image_members.specs.declared.classes.Class.{Class}
 use Rattle.laws_image_parts.proofs.CellLemmas.{all_both}
 
 -- types side by side, of which there is one: it meets its conditions, and those that it nests stand in one level less

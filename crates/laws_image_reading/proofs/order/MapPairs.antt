@@ -6,7 +6,7 @@ use Rattle.std.proofs.lemmas.Bool.{eqb-true}
 use Rattle.std.proofs.lemmas.List.{length-append}
 use Rattle.metadata_tables.specs.Indexes.{run_cell}
 use Rattle.image_rows.specs.MapRows.{map_rows, run_rows}
-use Rattle.image_rows.specs.declared.classes.Class.{Class}
+use Rattle.image_members.specs.declared.classes.Class.{Class}
 use Rattle.laws_image_parts.specs.AtRows.{Reads}
 use Rattle.laws_image_parts.specs.RowsRead.{IsMade, row_itself}
 use Rattle.laws_image_parts.proofs.OwnedLemmas.{get_map}

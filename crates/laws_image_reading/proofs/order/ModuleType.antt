@@ -12,13 +12,13 @@ use Rattle.image_tokens.specs.Indexes.{index_of}
 use Rattle.image_tokens.specs.declared.references.References.{References}
 use Rattle.image_rows.specs.AttributeRows.{IsAttributeRow}
 use Rattle.image_rows.specs.ClassRows.{class_rows, nested_rows}
-use Rattle.image_rows.specs.Classes.{AreClasses}
-use Rattle.image_rows.specs.Declaring.{module_place}
-use Rattle.image_rows.specs.GenericRows.{IsGenericRow}
+use Rattle.image_members.specs.Classes.{AreClasses}
+use Rattle.image_members.specs.Declaring.{module_place}
+use Rattle.image_members.specs.GenericRows.{IsGenericRow}
 use Rattle.image_rows.specs.InterfaceRows.{joined}
-use Rattle.image_rows.specs.Lists.{Owned, longest_of, attribute_lists, attribute_items, generic_lists, generic_items, properties_in, events_in}
+use Rattle.image_members.specs.Lists.{Owned, longest_of, attribute_lists, attribute_items, generic_lists, generic_items, properties_in, events_in}
 use Rattle.image_rows.specs.MapRows.{event_count, property_count}
-use Rattle.image_rows.specs.declared.classes.Class.{Class}
+use Rattle.image_members.specs.declared.classes.Class.{Class}
 use Rattle.image_model.specs.Columns.{attribute_parent, generic_owner, interface_class, property_map_parent, event_map_parent, nested_class, enclosing_class}
 use Rattle.image_model.specs.Rows as model
 use Rattle.image_model.specs.Rows.{rows_with}

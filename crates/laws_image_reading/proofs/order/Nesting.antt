@@ -9,10 +9,10 @@ use Rattle.assembly_tree.specs.declared.assembly.Assembly.{Assembly}
 use Rattle.assembly_tree.specs.declared.typedef.TypeDef.{TypeDef}
 use Rattle.type_terms.specs.declared.name.TypeId.{TypeId}
 use Rattle.image_rows.specs.ClassRows.{nested_rows}
-use Rattle.image_rows.specs.Classes.{AreClasses}
-use Rattle.image_rows.specs.Classes as classes
-use Rattle.image_rows.specs.Declaring.{class_place}
-use Rattle.image_rows.specs.declared.classes.Class.{Class}
+use Rattle.image_members.specs.Classes.{AreClasses}
+use Rattle.image_members.specs.Classes as classes
+use Rattle.image_members.specs.Declaring.{class_place}
+use Rattle.image_members.specs.declared.classes.Class.{Class}
 use Rattle.image_model.specs.Naming.{HasPath}
 use Rattle.laws_image_parts.specs.AtRows.{AtEach}
 use Rattle.laws_image_parts.proofs.RowLists.{each_front, each_back}

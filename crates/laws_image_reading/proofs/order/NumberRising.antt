@@ -5,7 +5,7 @@ use Rattle.std.specs.List.{AllByRecursion, range_with_len, flat_map}
 use Rattle.metadata_tables.specs.CodedIndex.{tag_bits, tag_of}
 use Rattle.metadata_tables.specs.declared.coded.Coded.{Coded}
 use Rattle.image_tokens.specs.Indexes.{index_of}
-use Rattle.image_rows.specs.ByNumber.{or_none, owned_in, owned_at, by_number}
+use Rattle.image_members.specs.ByNumber.{or_none, owned_in, owned_at, by_number}
 use Rattle.laws_image_parts.proofs.IndexLemmas.{index_is}
 use Rattle.laws_image_reading.proofs.order.Rising.{Rise, InGroup, lower, group_rises}
 

@@ -10,15 +10,15 @@ use Rattle.assembly_tree.specs.declared.assembly.Assembly.{Assembly}
 use Rattle.assembly_tree.specs.declared.members.Method.{Method}
 use Rattle.assembly_tree.specs.declared.members.Param.{Param}
 use Rattle.image_tokens.specs.declared.references.References.{References}
-use Rattle.image_rows.specs.DeclaredMembers.{class_fields, class_methods}
-use Rattle.image_rows.specs.Lists.{params_in}
+use Rattle.image_members.specs.DeclaredMembers.{class_fields, class_methods}
+use Rattle.image_members.specs.Lists.{params_in}
 use Rattle.image_rows.specs.MapRows.{map_rows}
 use Rattle.image_rows.specs.MethodRows.{PlacedMethod, placed_methods, IsMethodRow}
-use Rattle.image_rows.specs.CodeBytes.{body_of, HasBody}
-use Rattle.image_rows.specs.Places as owned
-use Rattle.image_rows.specs.Places.{all_fields, all_methods, class_properties, class_events}
+use Rattle.image_members.specs.CodeBytes.{body_of, HasBody}
+use Rattle.image_members.specs.Places as owned
+use Rattle.image_members.specs.Places.{all_fields, all_methods, class_properties, class_events}
 use Rattle.image_rows.specs.TypeRows.{Numbered, numbered}
-use Rattle.image_rows.specs.declared.classes.Class.{Class}
+use Rattle.image_members.specs.declared.classes.Class.{Class}
 use Rattle.image_model.specs.Columns.{type_fields, type_methods, method_params, param_sequence, event_map_parent, event_map_events, property_map_parent, property_map_properties}
 use Rattle.image_model.specs.Rows.{HasRow, count_of, run, run_end, run_start, first_field, first_method, first_param, fields_of, methods_of, params_of}
 use Rattle.image_model.specs.Structure.{Rises, LiesIn, IsFirstWith, RisesInMethod, HasRuns}

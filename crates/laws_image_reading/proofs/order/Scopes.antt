@@ -17,10 +17,10 @@ use Rattle.image_tokens.specs.TypePaths as paths
 use Rattle.image_tokens.specs.declared.references.References.{References}
 use Rattle.image_tokens.specs.declared.row_set.Cells.{Cells}
 use Rattle.image_rows.specs.ClassRows.{class_rows, nested_rows}
-use Rattle.image_rows.specs.Classes.{AreClasses}
-use Rattle.image_rows.specs.Declaring.{places, class_place}
+use Rattle.image_members.specs.Classes.{AreClasses}
+use Rattle.image_members.specs.Declaring.{places, class_place}
 use Rattle.image_rows.specs.Filled.{three_cells}
-use Rattle.image_rows.specs.declared.classes.Class.{Class}
+use Rattle.image_members.specs.declared.classes.Class.{Class}
 use Rattle.image_layout.specs.Laws.{ReadsHeaps}
 use Rattle.image_model.specs.Columns.{nested_class, enclosing_class}
 use Rattle.image_model.specs.Naming.{HasPath}

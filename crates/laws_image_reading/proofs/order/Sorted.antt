@@ -11,16 +11,16 @@ use Rattle.metadata_tables.specs.Stream.{cell}
 use Rattle.image_tokens.specs.declared.references.References.{References}
 use Rattle.image_rows.specs.AttributeRows.{IsAttributeRow}
 use Rattle.image_rows.specs.ClassRows.{class_rows, layout_rows, nested_rows}
-use Rattle.image_rows.specs.ConstantRows.{IsConstantRow}
-use Rattle.image_rows.specs.DataRows.{all_data, IsDataRow}
-use Rattle.image_rows.specs.DeclaredMembers.{owned, class_methods, IsMethodOf}
-use Rattle.image_rows.specs.GenericRows.{bounds_from, IsBoundRow, IsGenericRow}
+use Rattle.image_members.specs.ConstantRows.{IsConstantRow}
+use Rattle.image_members.specs.DataRows.{all_data, IsDataRow}
+use Rattle.image_members.specs.DeclaredMembers.{owned, class_methods, IsMethodOf}
+use Rattle.image_members.specs.GenericRows.{bounds_from, IsBoundRow, IsGenericRow}
 use Rattle.image_rows.specs.InterfaceRows.{joined}
-use Rattle.image_rows.specs.Lists.{attribute_items, constant_items, accessor_items, generic_items, generics_in}
+use Rattle.image_members.specs.Lists.{attribute_items, constant_items, accessor_items, generic_items, generics_in}
 use Rattle.image_rows.specs.OverrideRows.{overrides_from, IsOverrideRow}
-use Rattle.image_rows.specs.Places.{all_fields, all_methods}
+use Rattle.image_members.specs.Places.{all_fields, all_methods}
 use Rattle.image_rows.specs.SemanticsRows.{semantics_row}
-use Rattle.image_rows.specs.declared.classes.Class.{Class}
+use Rattle.image_members.specs.declared.classes.Class.{Class}
 use Rattle.image_model.specs.Columns.{interface_class, constant_parent, attribute_parent, layout_parent, offset_field, semantics_association, override_class, data_field, nested_class, generic_owner, generic_number, bound_parameter}
 use Rattle.image_model.specs.Rows.{HasRow}
 use Rattle.image_model.specs.Streams.{tables_of}

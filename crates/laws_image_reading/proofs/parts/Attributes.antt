@@ -21,10 +21,10 @@ use Rattle.pe_layout.specs.declared.parts.Kind.{Kind}
 use Rattle.type_terms.specs.declared.reference.MethodRef.{MethodRef}
 use Rattle.image_tokens.specs.declared.references.References.{References}
 use Rattle.image_rows.specs.AttributeRows.{IsAttributeRow}
-use Rattle.image_rows.specs.Lists.{class_attributes, params_in, properties_in, events_in}
-use Rattle.image_rows.specs.Places.{all_fields, all_methods}
-use Rattle.image_rows.specs.Pushing.{Tables}
-use Rattle.image_rows.specs.declared.classes.Class.{Class}
+use Rattle.image_members.specs.Lists.{class_attributes, params_in, properties_in, events_in}
+use Rattle.image_members.specs.Places.{all_fields, all_methods}
+use Rattle.image_members.specs.Pushing.{Tables}
+use Rattle.image_members.specs.declared.classes.Class.{Class}
 use Rattle.image_model.specs.Columns.{attribute_parent, attribute_type, attribute_value}
 use Rattle.image_model.specs.Reading.{IsAttribute, AttributesAre}
 use Rattle.image_model.specs.Rows.{rows_with, index_of}

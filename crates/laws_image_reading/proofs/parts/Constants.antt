@@ -6,7 +6,7 @@ use Rattle.assembly_tree.specs.WellFormedMembers.{is_constant}
 use Rattle.assembly_tree.specs.WellFormedNames.{option_all}
 use Rattle.assembly_tree.specs.declared.members.Constant.{Constant}
 use Rattle.assembly_tree.specs.declared.members.Constant.TheVariants as constant
-use Rattle.image_rows.specs.ConstantRows.{stated_constant}
+use Rattle.image_members.specs.ConstantRows.{stated_constant}
 use Rattle.laws_image_parts.specs.ConstantsRead.{HasRange}
 use Rattle.laws_image_reading.specs.parts.Ranges.{IsConstantInRange, IsStatedInRange}
 

@@ -8,7 +8,7 @@ use Rattle.assembly_tree.specs.WellFormedMembers.{is_content}
 use Rattle.assembly_tree.specs.declared.assembly.Assembly.{Assembly}
 use Rattle.pe_layout.specs.FileMap.{readable, StandsAt}
 use Rattle.type_terms.specs.declared.term.SigType.{SigType}
-use Rattle.image_rows.specs.DataRows.{IsDataRow}
+use Rattle.image_members.specs.DataRows.{IsDataRow}
 use Rattle.image_model.specs.Columns.{data_rva, data_field}
 use Rattle.image_model.specs.Members.{data_of}
 use Rattle.image_model.specs.Reading.{IsContent, IsGiven}

@@ -11,9 +11,9 @@ use Rattle.assembly_tree.proofs.FormedFacts.{fields_named}
 use Rattle.body_codec.specs.Names.{NameMap}
 use Rattle.pe_layout.specs.declared.parts.Kind.{Kind}
 use Rattle.image_tokens.specs.declared.references.References.{References}
-use Rattle.image_rows.specs.Places.{all_fields}
-use Rattle.image_rows.specs.Pushing.{Tables}
-use Rattle.image_rows.specs.declared.classes.Class.{Class}
+use Rattle.image_members.specs.Places.{all_fields}
+use Rattle.image_members.specs.Pushing.{Tables}
+use Rattle.image_members.specs.declared.classes.Class.{Class}
 use Rattle.image_model.specs.Columns.{field_signature}
 use Rattle.image_model.specs.Members.{layouts_of}
 use Rattle.image_model.specs.Reading.{IsField, IsGiven, IsLayout}

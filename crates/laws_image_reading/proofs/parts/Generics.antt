@@ -12,11 +12,11 @@ use Rattle.metadata_tables.specs.declared.coded.Coded.TheVariants.{TypeOrMethodD
 use Rattle.pe_layout.specs.declared.parts.Kind.{Kind}
 use Rattle.type_terms.specs.declared.term.Owner.{Owner}
 use Rattle.image_tokens.specs.declared.references.References.{References}
-use Rattle.image_rows.specs.GenericRows.{IsBoundRow, IsGenericRow}
-use Rattle.image_rows.specs.Lists.{class_generics, generics_in}
-use Rattle.image_rows.specs.Places.{all_methods}
-use Rattle.image_rows.specs.Pushing.{Tables}
-use Rattle.image_rows.specs.declared.classes.Class.{Class}
+use Rattle.image_members.specs.GenericRows.{IsBoundRow, IsGenericRow}
+use Rattle.image_members.specs.Lists.{class_generics, generics_in}
+use Rattle.image_members.specs.Places.{all_methods}
+use Rattle.image_members.specs.Pushing.{Tables}
+use Rattle.image_members.specs.declared.classes.Class.{Class}
 use Rattle.image_model.specs.Columns.{bound_parameter, bound_type, generic_owner}
 use Rattle.image_model.specs.Reading.{OwnerIs, IsGeneric, GenericsAre}
 use Rattle.image_model.specs.Rows.{rows_with, index_of}

@@ -11,7 +11,7 @@ use Rattle.body_codec.specs.Names.{NameMap}
 use Rattle.type_terms.specs.Order.{owner_order}
 use Rattle.type_terms.specs.declared.term.Owner.{Owner}
 use Rattle.image_tokens.specs.declared.references.References.{References}
-use Rattle.image_rows.specs.TypeIndexes.{IsTypeIndex}
+use Rattle.image_members.specs.TypeIndexes.{IsTypeIndex}
 use Rattle.image_model.specs.Columns.{interface_class, interface_type}
 use Rattle.image_model.specs.Reading.{OwnerIs, Rising, AreInterfaces}
 use Rattle.image_model.specs.Rows.{rows_with}

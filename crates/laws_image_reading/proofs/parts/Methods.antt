@@ -17,11 +17,11 @@ use Rattle.pe_layout.specs.CliHeader.{entry_token_of}
 use Rattle.pe_layout.specs.declared.parts.Kind.{Kind}
 use Rattle.type_terms.specs.declared.reference.MethodRef.{MethodRef}
 use Rattle.image_tokens.specs.declared.references.References.{References}
-use Rattle.image_rows.specs.Lists.{params_in}
+use Rattle.image_members.specs.Lists.{params_in}
 use Rattle.image_rows.specs.OverrideRows.{IsOverrideRow}
-use Rattle.image_rows.specs.Places.{all_methods}
-use Rattle.image_rows.specs.Pushing.{Tables}
-use Rattle.image_rows.specs.declared.classes.Class.{Class}
+use Rattle.image_members.specs.Places.{all_methods}
+use Rattle.image_members.specs.Pushing.{Tables}
+use Rattle.image_members.specs.declared.classes.Class.{Class}
 use Rattle.laws_image_parts.specs.bodies.Bodies.{BodiesRead}
 use Rattle.image_model.specs.Columns.{method_signature, override_body, override_declaration}
 use Rattle.image_model.specs.Reading.{IsMethod, IsParam, MethodIs, overrides_of}

@@ -12,13 +12,13 @@ use Rattle.assembly_tree.proofs.FormedFacts.{properties_named}
 use Rattle.body_codec.specs.Names.{NameMap}
 use Rattle.pe_layout.specs.declared.parts.Kind.{Kind}
 use Rattle.image_tokens.specs.declared.references.References.{References}
-use Rattle.image_rows.specs.ConstantRows.{stated_constant}
+use Rattle.image_members.specs.ConstantRows.{stated_constant}
 use Rattle.image_rows.specs.EventRows.{IsEventRow}
-use Rattle.image_rows.specs.Lists.{properties_in, events_in, access_of, access_from, event_access, property_access}
-use Rattle.image_rows.specs.Places.{class_properties, class_events}
+use Rattle.image_members.specs.Lists.{properties_in, events_in, access_of, access_from, event_access, property_access}
+use Rattle.image_members.specs.Places.{class_properties, class_events}
 use Rattle.image_rows.specs.PropertyRows.{IsPropertyRow}
-use Rattle.image_rows.specs.Pushing.{Tables}
-use Rattle.image_rows.specs.declared.classes.Class.{Class}
+use Rattle.image_members.specs.Pushing.{Tables}
+use Rattle.image_members.specs.declared.classes.Class.{Class}
 use Rattle.image_model.specs.Columns.{property_signature, event_type}
 use Rattle.image_model.specs.Reading.{AttributesAre, IsAccessor, IsProperty, IsEvent}
 use Rattle.image_model.specs.Members.{semantics_of}

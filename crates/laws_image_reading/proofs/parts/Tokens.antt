@@ -11,8 +11,8 @@ use Rattle.type_terms.specs.declared.term.Owner.{Owner}
 use Rattle.image_tokens.specs.Indexes.{index_of, index_of_token}
 use Rattle.image_tokens.specs.Members.{HasMethod}
 use Rattle.image_tokens.specs.declared.references.References.{References}
-use Rattle.image_rows.specs.CodeBytes.{all_tokens}
-use Rattle.image_rows.specs.TypeIndexes.{IsTypeIndex}
+use Rattle.image_members.specs.CodeBytes.{all_tokens}
+use Rattle.image_members.specs.TypeIndexes.{IsTypeIndex}
 use Rattle.image_layout.specs.Laws.{ReadsHeaps}
 use Rattle.image_model.specs.Naming.{IsToken, NamesMethod, NamesOwner, RowOwner}
 use Rattle.image_model.specs.Namings.{AreNamings}

@@ -6,8 +6,8 @@ use Rattle.type_terms.specs.declared.name.TypeId.{TypeId}
 use Rattle.assembly_tree.specs.DataSize.{named, with_type, type_below, type_at}
 use Rattle.assembly_tree.specs.declared.typedef.TypeDef.{TypeDef}
 use Rattle.assembly_tree.specs.declared.typedef.TypeDef.TheViews.{out-TypeDef}
-use Rattle.image_rows.specs.Classes.{AreClasses}
-use Rattle.image_rows.specs.declared.classes.Class.{Class}
+use Rattle.image_members.specs.Classes.{AreClasses}
+use Rattle.image_members.specs.declared.classes.Class.{Class}
 use Rattle.image_model.specs.Naming.{HasId, HasPath}
 use Rattle.image_model.specs.Rows.{enclosing}
 use Rattle.laws_image_parts.specs.AtRows.{AtEach}

@@ -8,12 +8,12 @@ use Rattle.body_codec.specs.Names.{NameMap}
 use Rattle.pe_layout.specs.declared.parts.Kind.{Kind}
 use Rattle.type_terms.specs.declared.term.Owner.{Owner}
 use Rattle.image_tokens.specs.declared.references.References.{References}
-use Rattle.image_rows.specs.DeclaredMembers.{class_fields, class_methods}
+use Rattle.image_members.specs.DeclaredMembers.{class_fields, class_methods}
 use Rattle.image_rows.specs.InterfaceRows.{class_interfaces}
-use Rattle.image_rows.specs.Places.{all_fields, all_methods, class_properties, class_events}
-use Rattle.image_rows.specs.Pushing.{Tables}
+use Rattle.image_members.specs.Places.{all_fields, all_methods, class_properties, class_events}
+use Rattle.image_members.specs.Pushing.{Tables}
 use Rattle.image_rows.specs.TypeRows.{IsBase, base_of}
-use Rattle.image_rows.specs.declared.classes.Class.{Class}
+use Rattle.image_members.specs.declared.classes.Class.{Class}
 use Rattle.image_model.specs.Columns.{type_extends}
 use Rattle.image_model.specs.Reading.{ExtendsIs, IsField, IsMethod, IsProperty, IsEvent, IsTypeButNested}
 use Rattle.image_model.specs.Rows.{fields_of, methods_of, properties_of, events_of}

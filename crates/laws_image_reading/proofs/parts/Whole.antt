@@ -5,9 +5,9 @@ use Rattle.assembly_tree.specs.declared.typedef.TypeDef.TheViews.{out-TypeDef}
 use Rattle.body_codec.specs.Names.{NameMap}
 use Rattle.pe_layout.specs.declared.parts.Kind.{Kind}
 use Rattle.image_tokens.specs.declared.references.References.{References}
-use Rattle.image_rows.specs.Places.{all_fields, all_methods}
-use Rattle.image_rows.specs.Pushing.{Tables}
-use Rattle.image_rows.specs.declared.classes.Class.{Class}
+use Rattle.image_members.specs.Places.{all_fields, all_methods}
+use Rattle.image_members.specs.Pushing.{Tables}
+use Rattle.image_members.specs.declared.classes.Class.{Class}
 use Rattle.image_model.specs.Reading.{IsField, IsMethod, IsManifest, IsTypeButNested, IsAssembly}
 use Rattle.image_model.specs.Rows.{fields_of, methods_of}
 use Rattle.laws_image_parts.specs.AtRows.{AtEach}

@@ -8,10 +8,10 @@ use Rattle.body_codec.specs.Back.{NamesBack}
 use Rattle.body_codec.specs.Names.{NameMap}
 use Rattle.pe_layout.specs.declared.parts.Kind.{Kind}
 use Rattle.image_tokens.specs.declared.references.References.{References}
-use Rattle.image_rows.specs.CodeBytes.{all_tokens}
+use Rattle.image_members.specs.CodeBytes.{all_tokens}
 use Rattle.image_rows.specs.Filled.{IsFilled}
-use Rattle.image_rows.specs.Pushing.{Tables}
-use Rattle.image_rows.specs.declared.classes.Class.{Class}
+use Rattle.image_members.specs.Pushing.{Tables}
+use Rattle.image_members.specs.declared.classes.Class.{Class}
 use Rattle.image_layout.specs.LaidOut.{IsLaidOut}
 use Rattle.image_model.specs.Faults.{Holds, signatures, values}
 use Rattle.image_model.specs.Namings.{AreNamings}

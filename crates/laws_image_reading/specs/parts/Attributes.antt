@@ -7,9 +7,9 @@ use Rattle.assembly_tree.specs.declared.members.Method.{Method}
 use Rattle.assembly_tree.specs.declared.members.Param.{Param}
 use Rattle.assembly_tree.specs.declared.members.Property.{Property}
 use Rattle.body_codec.specs.Names.{NameMap}
-use Rattle.image_rows.specs.Lists.{class_attributes, params_in, properties_in, events_in}
-use Rattle.image_rows.specs.Places.{all_fields, all_methods}
-use Rattle.image_rows.specs.declared.classes.Class.{Class}
+use Rattle.image_members.specs.Lists.{class_attributes, params_in, properties_in, events_in}
+use Rattle.image_members.specs.Places.{all_fields, all_methods}
+use Rattle.image_members.specs.declared.classes.Class.{Class}
 use Rattle.image_model.specs.Reading.{AttributesAre}
 use Rattle.laws_image_parts.specs.AtRows.{AtEach}
 use Rattle.laws_image_reading.specs.parts.Held.{WhereHeld}

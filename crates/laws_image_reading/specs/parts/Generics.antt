@@ -3,9 +3,9 @@ use Rattle.std.specs.Prelude.{ℕ, List}
 use Rattle.assembly_tree.specs.declared.assembly.Assembly.{Assembly}
 use Rattle.assembly_tree.specs.declared.members.Method.{Method}
 use Rattle.body_codec.specs.Names.{NameMap}
-use Rattle.image_rows.specs.Lists.{class_generics}
-use Rattle.image_rows.specs.Places.{all_methods}
-use Rattle.image_rows.specs.declared.classes.Class.{Class}
+use Rattle.image_members.specs.Lists.{class_generics}
+use Rattle.image_members.specs.Places.{all_methods}
+use Rattle.image_members.specs.declared.classes.Class.{Class}
 use Rattle.image_model.specs.Reading.{GenericsAre}
 use Rattle.laws_image_parts.specs.AtRows.{AtEach}
 use Rattle.laws_image_reading.specs.parts.Held.{WhereHeld}

@@ -1,6 +1,6 @@
 -- Fields, methods, properties and events are what their rows give (ECMA-335 II.22.13, II.22.15, II.22.26, II.22.34).
 use Rattle.std.specs.List.{AllZip}
-use Rattle.image_rows.specs.Places.{all_fields, all_methods, class_properties, class_events}
+use Rattle.image_members.specs.Places.{all_fields, all_methods, class_properties, class_events}
 use Rattle.image_model.specs.Reading.{IsField, IsMethod, IsProperty, IsEvent}
 use Rattle.image_model.specs.Rows.{properties_of, events_of}
 use Rattle.laws_image_parts.specs.AtRows.{AtEach}

@@ -9,10 +9,10 @@ use Rattle.assembly_tree.specs.declared.members.Constant.TheVariants as constant
 use Rattle.assembly_tree.specs.declared.members.Field.{Field}
 use Rattle.assembly_tree.specs.declared.members.Param.{Param}
 use Rattle.assembly_tree.specs.declared.members.Property.{Property}
-use Rattle.image_rows.specs.ConstantRows.{stated_constant}
-use Rattle.image_rows.specs.Lists.{params_in, properties_in}
-use Rattle.image_rows.specs.Places.{all_fields}
-use Rattle.image_rows.specs.declared.classes.Class.{Class}
+use Rattle.image_members.specs.ConstantRows.{stated_constant}
+use Rattle.image_members.specs.Lists.{params_in, properties_in}
+use Rattle.image_members.specs.Places.{all_fields}
+use Rattle.image_members.specs.declared.classes.Class.{Class}
 
 -- a well-formed tree says the range of an integer itself
 abbrev pub IsConstantInRange : Constant → Type 0

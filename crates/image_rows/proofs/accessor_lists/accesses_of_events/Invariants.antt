@@ -1,5 +1,5 @@
 use Rattle.std.proofs.Common.{drop, map}
-use Rattle.image_rows.specs.Lists.{event_access}
+use Rattle.image_members.specs.Lists.{event_access}
 use Rattle.image_rows.specs.SemanticsRows.{methods_of}
 use Rattle.image_rows.proofs.AccessLemmas.{AccessesTo}
 use Rattle.image_rows.proofs.accessor_lists.accesses_of_events.Given as goal

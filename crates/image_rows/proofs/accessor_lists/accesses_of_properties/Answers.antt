@@ -1,9 +1,9 @@
 use Rattle.std.proofs.Common.{◌≡◌, ◌∙◌, ap, sym, subst, ℕ, ◌+◌, List, ◌∷◌, ◌++◌, drop, drop_of_length-le, map, arith}
 use Rattle.std.proofs.lemmas.List.{drop_more}
 use Rattle.assembly_tree.specs.declared.members.Property.{Property}
-use Rattle.image_rows.specs.Lists.{access_of, access_from, property_access}
+use Rattle.image_members.specs.Lists.{access_of, access_from, property_access}
 use Rattle.image_rows.specs.SemanticsRows.{methods_of}
-use Rattle.image_rows.specs.declared.classes.Class.{Class}
+use Rattle.image_members.specs.declared.classes.Class.{Class}
 use Rattle.image_rows.proofs.AccessLemmas.{AccessesTo, accesses_begin, accesses_on, accesses_end, row_within}
 use Rattle.image_rows.proofs.accessor_lists.accesses_of_properties.Goals as goal
 

@@ -1,9 +1,9 @@
 use Rattle.std.proofs.Common.{◌≡◌, ◌∙◌, ap, sym, ◌+◌, [], ◌∷◌, ◌++◌, drop, drop_of_length-le, map, arith}
 use Rattle.std.proofs.lemmas.List.{drop_more, map-append}
-use Rattle.image_rows.specs.Lists.{access_of}
+use Rattle.image_members.specs.Lists.{access_of}
 use Rattle.image_rows.specs.SemanticsRows.{methods_of}
 use Rattle.image_rows.proofs.AccessLemmas.{access_by}
-use Rattle.image_rows.proofs.PlaceLemmas.{filled_begin, filled_on, filled_end}
+use Rattle.image_members.proofs.PlaceLemmas.{filled_begin, filled_on, filled_end}
 use Rattle.image_rows.proofs.accessor_lists.add_accesses.Goals as goal
 
 pub loop-carrier-init : goal.loop-carrier-init

@@ -1,7 +1,7 @@
 use Rattle.std.proofs.Common.{drop, map}
-use Rattle.image_rows.specs.Lists.{access_of}
+use Rattle.image_members.specs.Lists.{access_of}
 use Rattle.image_rows.specs.SemanticsRows.{methods_of}
-use Rattle.image_rows.proofs.PlaceLemmas.{FilledTo}
+use Rattle.image_members.proofs.PlaceLemmas.{FilledTo}
 use Rattle.image_rows.proofs.accessor_lists.add_accesses.Given as goal
 
 abbrev pub invariant-loop-carrier : goal.invariant-loop-carrier

@@ -1,7 +1,7 @@
 use Rattle.std.proofs.Common.{◌∙◌, ap, sym}
 use Rattle.std.proofs.lemmas.Bool.{false≢true}
-use Rattle.image_rows.specs.Places.{lent}
-use Rattle.image_rows.proofs.EmptinessLemmas.{lent_none}
+use Rattle.image_members.specs.Places.{lent}
+use Rattle.image_members.proofs.EmptinessLemmas.{lent_none}
 use Rattle.image_rows.proofs.accessor_lists.have_no_accessors.Goals as goal
 
 pub returns-then-is_empty : goal.returns-then-is_empty

@@ -2,9 +2,9 @@ use Rattle.std.proofs.Common.{◌∙◌, sym, rules, tests}
 use Rattle.std.proofs.lemmas.Iterator.{YieldsList-from_slice}
 use Rattle.std.proofs.lemmas.Iterator.Search.{any_from_yields_List}
 use Rattle.metadata_tables.specs.declared.coded.Coded.TheVariants.{HasCustomAttribute}
-use Rattle.image_rows.specs.Emptiness.{any_has_item}
-use Rattle.image_rows.specs.Places.{lent}
-use Rattle.image_rows.proofs.EmptinessLemmas.{none_at, none_tested}
+use Rattle.image_members.specs.Emptiness.{any_has_item}
+use Rattle.image_members.specs.Places.{lent}
+use Rattle.image_members.proofs.EmptinessLemmas.{none_at, none_tested}
 use Rattle.image_rows.proofs.attribute_rows.have_attributes.Goals as goal
 
 pub returns-clause-any : goal.returns-clause-any

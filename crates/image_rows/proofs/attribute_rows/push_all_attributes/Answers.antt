@@ -1,10 +1,10 @@
 use Rattle.std.proofs.Common.{◌≡◌, ap, sym, subst, rules, ℕ, ◌+◌, ◌-◌, ◌<◌, ◌≤◌, List, [], ◌∷◌, arith}
 use Rattle.std.specs.List.{flat_map, range_with_len}
 use Rattle.image_rows.specs.AttributeRows.{attributes_at, attribute_bytes, IsAttributeRow}
-use Rattle.image_rows.specs.Pushing.{Pushes}
-use Rattle.image_rows.proofs.ByNumberLemmas.{next_number, no_number}
-use Rattle.image_rows.proofs.EmptinessLemmas.{nothing_in_all}
-use Rattle.image_rows.proofs.KindLemmas.{Pushing, begin, front, go_on, end, none_pushed}
+use Rattle.image_members.specs.Pushing.{Pushes}
+use Rattle.image_members.proofs.ByNumberLemmas.{next_number, no_number}
+use Rattle.image_members.proofs.EmptinessLemmas.{nothing_in_all}
+use Rattle.image_members.proofs.KindLemmas.{Pushing, begin, front, go_on, end, none_pushed}
 use Rattle.image_rows.proofs.AttributeLemmas.{attribute_kind}
 use Rattle.image_rows.proofs.attribute_rows.push_all_attributes.Goals as goal
 

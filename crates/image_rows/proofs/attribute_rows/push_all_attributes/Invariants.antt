@@ -1,7 +1,7 @@
 use Rattle.std.proofs.Common.{◌-◌}
 use Rattle.std.specs.List.{flat_map, range_with_len}
 use Rattle.image_rows.specs.AttributeRows.{attributes_at}
-use Rattle.image_rows.proofs.KindLemmas.{Pushing}
+use Rattle.image_members.proofs.KindLemmas.{Pushing}
 use Rattle.image_rows.proofs.AttributeLemmas.{attribute_kind}
 use Rattle.image_rows.proofs.attribute_rows.push_all_attributes.Given as goal
 

@@ -1,7 +1,7 @@
 use Rattle.std.proofs.Common.{◌≡◌, ap, subst, ℕ, [], ◌∷◌, ◌+◌, ◌≤◌, length, arith}
 use Rattle.metadata_tables.specs.Encoding.{AddsRow}
 use Rattle.image_rows.proofs.AttributeLemmas.{attribute_kind, attribute_cells, attribute_bytes_are, attribute_pushed}
-use Rattle.image_rows.proofs.KindLemmas.{one_can, one_few, one_room}
+use Rattle.image_members.proofs.KindLemmas.{one_can, one_few, one_room}
 use Rattle.image_rows.proofs.attribute_rows.push_attribute.Goals as goal
 
 pub refer_method-requires-clause-known : goal.refer_method-requires-clause-known

@@ -2,7 +2,7 @@ use Rattle.std.proofs.Common.{◌≡◌, ◌∙◌, ap, sym, ℕ, ◌+◌, ◌�
 use Rattle.std.proofs.lemmas.List.{drop_more}
 use Rattle.assembly_tree.specs.declared.members.Attribute.{Attribute}
 use Rattle.image_rows.specs.AttributeRows.{attributes_with}
-use Rattle.image_rows.proofs.KindLemmas.{begin, front, go_on, end}
+use Rattle.image_members.proofs.KindLemmas.{begin, front, go_on, end}
 use Rattle.image_rows.proofs.AttributeLemmas.{attribute_kind}
 use Rattle.image_rows.proofs.attribute_rows.push_attributes.Goals as goal
 

@@ -1,7 +1,7 @@
 use Rattle.std.proofs.Common.{drop}
 use Rattle.assembly_tree.specs.declared.members.Attribute.{Attribute}
 use Rattle.image_rows.specs.AttributeRows.{attributes_with}
-use Rattle.image_rows.proofs.KindLemmas.{Pushing}
+use Rattle.image_members.proofs.KindLemmas.{Pushing}
 use Rattle.image_rows.proofs.AttributeLemmas.{attribute_kind}
 use Rattle.image_rows.proofs.attribute_rows.push_attributes.Given as goal
 

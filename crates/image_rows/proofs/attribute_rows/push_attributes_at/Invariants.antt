@@ -1,7 +1,7 @@
 use Rattle.std.proofs.Common.{List, drop}
 use Rattle.image_rows.specs.AttributeRows.{attributes_in, attributes_at}
 use Rattle.image_rows.specs.declared.attribute_rows.Attributed.{Attributed}
-use Rattle.image_rows.proofs.KindLemmas.{Pushing}
+use Rattle.image_members.proofs.KindLemmas.{Pushing}
 use Rattle.image_rows.proofs.AttributeLemmas.{attribute_kind}
 use Rattle.image_rows.proofs.attribute_rows.push_attributes_at.Given as goal
 

@@ -3,10 +3,10 @@ use Rattle.std.specs.Option.{option_copied}
 use Rattle.std.proofs.lemmas.Result.{on_ok_weaker}
 use Rattle.metadata_tables.specs.declared.coded.Coded.TheVariants.{HasCustomAttribute}
 use Rattle.image_rows.specs.AttributeRows.{attributes_with, attribute_bytes, IsAttributeRow, CanPushAttribute}
-use Rattle.image_rows.specs.Pushing.{Pushes, CanPush}
+use Rattle.image_members.specs.Pushing.{Pushes, CanPush}
 use Rattle.image_rows.proofs.AttributeLemmas.{attribute_kind}
-use Rattle.image_rows.proofs.ByNumberLemmas.{none_owned, some_owned}
-use Rattle.image_rows.proofs.KindLemmas.{none_pushed}
+use Rattle.image_members.proofs.ByNumberLemmas.{none_owned, some_owned}
+use Rattle.image_members.proofs.KindLemmas.{none_pushed}
 use Rattle.image_rows.proofs.attribute_rows.push_attributes_in.Goals as goal
 
 pub returns-in-None : goal.returns-in-None

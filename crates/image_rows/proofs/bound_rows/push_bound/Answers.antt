@@ -1,6 +1,6 @@
 use Rattle.std.proofs.Common.{◌≡◌, subst, ℕ, [], ◌∷◌}
 use Rattle.image_rows.proofs.BoundLemmas.{bound_kind, bound_cells, bound_pushed}
-use Rattle.image_rows.proofs.KindLemmas.{one_can, one_few, one_room}
+use Rattle.image_members.proofs.KindLemmas.{one_can, one_few, one_room}
 use Rattle.image_rows.proofs.bound_rows.push_bound.Goals as goal
 
 pub type_index-requires-clause-known : goal.type_index-requires-clause-known

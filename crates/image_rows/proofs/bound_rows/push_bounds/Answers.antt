@@ -1,8 +1,8 @@
 use Rattle.std.proofs.Common.{◌≡◌, ◌∙◌, ap, sym, ℕ, ◌+◌, ◌≤◌, List, [], ◌∷◌, drop, drop_of_length-le, map, arith}
 use Rattle.std.proofs.lemmas.List.{drop_more}
 use Rattle.type_terms.specs.declared.term.Owner.{Owner}
-use Rattle.image_rows.specs.GenericRows.{bounds_with}
-use Rattle.image_rows.proofs.KindLemmas.{begin, front, go_on, end}
+use Rattle.image_members.specs.GenericRows.{bounds_with}
+use Rattle.image_members.proofs.KindLemmas.{begin, front, go_on, end}
 use Rattle.image_rows.proofs.BoundLemmas.{bound_kind}
 use Rattle.image_rows.proofs.bound_rows.push_bounds.Goals as goal
 

@@ -1,7 +1,7 @@
 use Rattle.std.proofs.Common.{drop}
 use Rattle.type_terms.specs.declared.term.Owner.{Owner}
-use Rattle.image_rows.specs.GenericRows.{bounds_with}
-use Rattle.image_rows.proofs.KindLemmas.{Pushing}
+use Rattle.image_members.specs.GenericRows.{bounds_with}
+use Rattle.image_members.proofs.KindLemmas.{Pushing}
 use Rattle.image_rows.proofs.BoundLemmas.{bound_kind}
 use Rattle.image_rows.proofs.bound_rows.push_bounds.Given as goal
 

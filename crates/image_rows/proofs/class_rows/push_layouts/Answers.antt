@@ -1,7 +1,7 @@
 use Rattle.std.proofs.Common.{◌≡◌, ◌∙◌, ap, sym, ◌+◌, ◌<◌, ◌≤◌, ◌∷◌, drop, drop_of_length-le, arith}
 use Rattle.std.proofs.lemmas.List.{drop_more}
 use Rattle.image_rows.specs.ClassRows.{layout_rows}
-use Rattle.image_rows.specs.declared.classes.Class.{Class}
+use Rattle.image_members.specs.declared.classes.Class.{Class}
 use Rattle.image_rows.proofs.ClassRowLemmas.{pushed_begin, pushed_few, pushed_next, pushed_on, pushed_end, layout_short}
 use Rattle.image_rows.proofs.class_rows.push_layouts.Goals as goal
 

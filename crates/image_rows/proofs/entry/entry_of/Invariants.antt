@@ -1,5 +1,5 @@
 use Rattle.std.proofs.Common.{drop}
-use Rattle.image_rows.specs.Places.{lent}
+use Rattle.image_members.specs.Places.{lent}
 use Rattle.image_rows.proofs.EntryLemmas.{SoughtTo}
 use Rattle.image_rows.proofs.entry.entry_of.Given as goal
 

@@ -1,7 +1,7 @@
 use Rattle.std.proofs.Common.{rules, ◌≡◌, subst, ℕ, [], ◌∷◌, ◌+◌, ◌≤◌, length, arith}
 use Rattle.metadata_tables.specs.Encoding.{AddsRow}
 use Rattle.image_rows.proofs.EventLemmas.{event_kind, event_cells, event_bytes_are, event_pushed}
-use Rattle.image_rows.proofs.KindLemmas.{one_can, one_few, one_room}
+use Rattle.image_members.proofs.KindLemmas.{one_can, one_few, one_room}
 use Rattle.image_tokens.proofs.WritableLemmas.{still_writable_owner}
 use Rattle.image_rows.proofs.event_rows.push_event.Goals as goal
 

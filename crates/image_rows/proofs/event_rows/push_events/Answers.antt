@@ -2,8 +2,8 @@ use Rattle.std.proofs.Common.{◌≡◌, ◌∙◌, ap, sym, ◌+◌, ◌≤◌,
 use Rattle.std.specs.Borrow.{Bor}
 use Rattle.std.proofs.lemmas.List.{drop_more}
 use Rattle.assembly_tree.specs.declared.members.Event.{Event}
-use Rattle.image_rows.specs.Places.{lent}
-use Rattle.image_rows.proofs.KindLemmas.{begin, front, go_on, end}
+use Rattle.image_members.specs.Places.{lent}
+use Rattle.image_members.proofs.KindLemmas.{begin, front, go_on, end}
 use Rattle.image_rows.proofs.EventLemmas.{event_kind}
 use Rattle.image_rows.proofs.event_rows.push_events.Goals as goal
 

@@ -2,7 +2,7 @@ use Rattle.std.proofs.Common.{rules, ◌≡◌, subst, ℕ, [], ◌∷◌}
 use Rattle.metadata_tables.specs.Encoding.{AddsRow}
 use Rattle.image_rows.specs.FieldRows.{field_flags}
 use Rattle.image_rows.proofs.FieldLemmas.{field_cells}
-use Rattle.image_rows.proofs.PushLemmas.{rows_one}
+use Rattle.image_members.proofs.PushLemmas.{rows_one}
 use Rattle.image_rows.proofs.field_rows.push_field.Goals as goal
 
 pub push-requires-clause-cells : goal.push-requires-clause-cells

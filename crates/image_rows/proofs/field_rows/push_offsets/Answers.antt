@@ -2,7 +2,7 @@ use Rattle.std.proofs.Common.{◌≡◌, ◌∙◌, ap, sym, subst, ◌+◌, ◌
 use Rattle.std.specs.Borrow.{Bor}
 use Rattle.std.proofs.lemmas.List.{drop_more}
 use Rattle.assembly_tree.specs.declared.members.Field.{Field}
-use Rattle.image_rows.specs.Pushing.{AddsRows}
+use Rattle.image_members.specs.Pushing.{AddsRows}
 use Rattle.image_rows.proofs.ClassRowLemmas.{lent_offset_rows, offset_short, lent_offsets, pushed_begin, pushed_few, pushed_next, pushed_on, pushed_end}
 use Rattle.image_rows.proofs.field_rows.push_offsets.Goals as goal
 

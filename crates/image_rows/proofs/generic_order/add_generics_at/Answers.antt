@@ -1,9 +1,9 @@
 use Rattle.std.proofs.Common.{◌≡◌, ◌∙◌, ap, sym, ℕ, ◌+◌, ◌≤◌, List, [], ◌∷◌, drop, drop_of_length-le, map, arith}
 use Rattle.std.proofs.lemmas.List.{drop_more, map-append}
-use Rattle.image_rows.specs.GenericRows.{generic_of, generics_in, generics_at}
-use Rattle.image_rows.specs.Places.{lent}
-use Rattle.image_rows.specs.declared.generic_rows.Parametric.{Parametric}
-use Rattle.image_rows.proofs.PlaceLemmas.{filled_begin, filled_on, filled_end}
+use Rattle.image_members.specs.GenericRows.{generic_of, generics_in, generics_at}
+use Rattle.image_members.specs.Places.{lent}
+use Rattle.image_members.specs.declared.generic_rows.Parametric.{Parametric}
+use Rattle.image_members.proofs.PlaceLemmas.{filled_begin, filled_on, filled_end}
 use Rattle.image_rows.proofs.generic_order.add_generics_at.Goals as goal
 
 pub loop-table-init : goal.loop-table-init

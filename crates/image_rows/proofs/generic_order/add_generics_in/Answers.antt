@@ -3,10 +3,10 @@ use Rattle.std.specs.Option.{option_copied}
 use Rattle.std.proofs.lemmas.List.{append-nil}
 use Rattle.std.proofs.lemmas.Result.{on_ok_weaker}
 use Rattle.metadata_tables.specs.declared.coded.Coded.TheVariants.{TypeOrMethodDef}
-use Rattle.image_rows.specs.GenericRows.{generic_of}
+use Rattle.image_members.specs.GenericRows.{generic_of}
 use Rattle.image_tokens.specs.Indexes.{index_of}
-use Rattle.image_rows.specs.Places.{lent}
-use Rattle.image_rows.proofs.GenericLemmas.{no_generics, some_generics, same_generics}
+use Rattle.image_members.specs.Places.{lent}
+use Rattle.image_members.proofs.GenericLemmas.{no_generics, some_generics, same_generics}
 use Rattle.image_rows.proofs.generic_order.add_generics_in.Goals as goal
 
 pub returns-in-None : goal.returns-in-None

@@ -1,11 +1,11 @@
 use Rattle.std.proofs.Common.{◌≡◌, ◌∙◌, ap, sym, subst, rules, ℕ, ◌+◌, ◌-◌, ◌<◌, ◌≤◌, List, [], ◌∷◌, ◌++◌, map, arith}
 use Rattle.std.specs.List.{flat_map, range_with_len}
 use Rattle.std.proofs.lemmas.List.{map-append}
-use Rattle.image_rows.specs.GenericRows.{generic_of, generics_at}
-use Rattle.image_rows.specs.Places.{lent}
-use Rattle.image_rows.proofs.ByNumberLemmas.{next_number, no_number}
-use Rattle.image_rows.proofs.EmptinessLemmas.{nothing_in_all}
-use Rattle.image_rows.proofs.PlaceLemmas.{FilledTo, filled_begin, filled_on, filled_end}
+use Rattle.image_members.specs.GenericRows.{generic_of, generics_at}
+use Rattle.image_members.specs.Places.{lent}
+use Rattle.image_members.proofs.ByNumberLemmas.{next_number, no_number}
+use Rattle.image_members.proofs.EmptinessLemmas.{nothing_in_all}
+use Rattle.image_members.proofs.PlaceLemmas.{FilledTo, filled_begin, filled_on, filled_end}
 use Rattle.image_rows.proofs.generic_order.generics_in_order.Goals as goal
 
 pub loop-place-init : goal.loop-place-init

@@ -1,8 +1,8 @@
 use Rattle.std.proofs.Common.{◌-◌, map}
 use Rattle.std.specs.List.{flat_map, range_with_len}
-use Rattle.image_rows.specs.GenericRows.{generic_of, generics_at}
-use Rattle.image_rows.specs.Places.{lent}
-use Rattle.image_rows.proofs.PlaceLemmas.{FilledTo}
+use Rattle.image_members.specs.GenericRows.{generic_of, generics_at}
+use Rattle.image_members.specs.Places.{lent}
+use Rattle.image_members.proofs.PlaceLemmas.{FilledTo}
 use Rattle.image_rows.proofs.generic_order.generics_in_order.Given as goal
 
 abbrev pub invariant-loop-place : goal.invariant-loop-place

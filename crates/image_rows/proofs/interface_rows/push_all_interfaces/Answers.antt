@@ -1,6 +1,6 @@
 use Rattle.std.proofs.Common.{◌≡◌, ◌∙◌, ap, sym, subst, ℕ, ◌+◌, ◌<◌, ◌≤◌, List, [], ◌∷◌, drop, drop_of_length-le, arith}
 use Rattle.std.proofs.lemmas.List.{drop_more}
-use Rattle.image_rows.specs.declared.classes.Class.{Class}
+use Rattle.image_members.specs.declared.classes.Class.{Class}
 use Rattle.image_rows.proofs.InterfaceLemmas.{interfaces_begin, interface_row, interfaces_can, interfaces_on, interfaces_end}
 use Rattle.image_rows.proofs.interface_rows.push_all_interfaces.Goals as goal
 

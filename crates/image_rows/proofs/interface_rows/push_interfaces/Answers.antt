@@ -3,7 +3,7 @@ use Rattle.std.proofs.lemmas.List.{nil_from_length}
 use Rattle.std.proofs.lemmas.Result.{on_ok_weaker}
 use Rattle.metadata_tables.specs.Encoding.{rows_in}
 use Rattle.image_rows.specs.InterfaceRows.{IsRising}
-use Rattle.image_rows.specs.Pushing.{AddsRows}
+use Rattle.image_members.specs.Pushing.{AddsRows}
 use Rattle.image_rows.proofs.InterfaceLemmas.{nothing_pushed, interfaces_room, interfaces_few, interfaces_pushed}
 use Rattle.image_rows.proofs.interface_rows.push_interfaces.Goals as goal
 

@@ -1,5 +1,5 @@
 use Rattle.std.proofs.Common.{drop, map}
-use Rattle.image_rows.specs.GenericRows.{counted}
+use Rattle.image_members.specs.GenericRows.{counted}
 use Rattle.image_rows.proofs.LongestLemmas.{LongestTo}
 use Rattle.image_rows.proofs.longest.longest_parametric.Given as goal
 

@@ -1,5 +1,5 @@
 use Rattle.std.proofs.Common.{drop, map}
-use Rattle.image_rows.specs.ConstantRows.{with_constants}
+use Rattle.image_members.specs.ConstantRows.{with_constants}
 use Rattle.image_rows.proofs.LongestLemmas.{LongestTo}
 use Rattle.image_rows.proofs.longest.longest_valued.Given as goal
 

@@ -1,5 +1,5 @@
 use Rattle.std.proofs.Common.{rules}
-use Rattle.image_rows.proofs.ManifestLemmas.{assembly_row}
+use Rattle.image_members.proofs.ManifestLemmas.{assembly_row}
 use Rattle.image_rows.proofs.manifest_rows.assembly_cells.Goals as goal
 
 pub returns-clause-row : goal.returns-clause-row

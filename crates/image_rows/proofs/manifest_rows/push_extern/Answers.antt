@@ -2,7 +2,7 @@ use Rattle.std.proofs.Common.{◌≡◌, ap, subst, ℕ, List, ◌∷◌, [], �
 use Rattle.metadata_tables.specs.Encoding.{AddsRow}
 use Rattle.image_tokens.specs.Blobs.{HoldsBlob}
 use Rattle.image_tokens.specs.References.{Goes}
-use Rattle.image_rows.proofs.ManifestLemmas.{extern_bytes_are, extern_pushed}
+use Rattle.image_members.proofs.ManifestLemmas.{extern_bytes_are, extern_pushed}
 use Rattle.image_rows.proofs.manifest_rows.push_extern.Goals as goal
 
 pub refer_blob-requires-clause-room : goal.refer_blob-requires-clause-room

@@ -1,9 +1,9 @@
 use Rattle.std.proofs.Common.{◌≡◌, ◌∙◌, ap, sym, ◌+◌, ◌≤◌, ◌∷◌, drop, drop_of_length-le, arith}
 use Rattle.std.proofs.lemmas.List.{drop_more}
 use Rattle.assembly_tree.specs.declared.assembly.ExternAssembly.{ExternAssembly}
-use Rattle.image_rows.specs.ManifestRows.{IsExternRow, extern_bytes}
-use Rattle.image_rows.proofs.ManifestLemmas.{extern_kept, CanPush, can_push}
-use Rattle.image_rows.proofs.PushLemmas.{pushes_begin, pushes_can, pushes_few, pushes_room, pushes_on, pushes_end}
+use Rattle.image_members.specs.ManifestRows.{IsExternRow, extern_bytes}
+use Rattle.image_members.proofs.ManifestLemmas.{extern_kept, CanPush, can_push}
+use Rattle.image_members.proofs.PushLemmas.{pushes_begin, pushes_can, pushes_few, pushes_room, pushes_on, pushes_end}
 use Rattle.image_rows.proofs.manifest_rows.push_externs.Goals as goal
 
 pub loop-named-init : goal.loop-named-init

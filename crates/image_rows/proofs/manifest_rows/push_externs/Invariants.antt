@@ -1,7 +1,7 @@
 use Rattle.std.proofs.Common.{drop}
-use Rattle.image_rows.specs.ManifestRows.{IsExternRow, extern_bytes}
-use Rattle.image_rows.proofs.ManifestLemmas.{extern_kept, CanPush, can_push}
-use Rattle.image_rows.proofs.PushLemmas.{PushesTo}
+use Rattle.image_members.specs.ManifestRows.{IsExternRow, extern_bytes}
+use Rattle.image_members.proofs.ManifestLemmas.{extern_kept, CanPush, can_push}
+use Rattle.image_members.proofs.PushLemmas.{PushesTo}
 use Rattle.image_rows.proofs.manifest_rows.push_externs.Given as goal
 
 abbrev pub invariant-loop-named : goal.invariant-loop-named

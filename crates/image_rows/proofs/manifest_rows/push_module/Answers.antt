@@ -1,5 +1,5 @@
 use Rattle.std.proofs.Common.{◌+◌, ◌≤◌, arith}
-use Rattle.image_rows.proofs.ManifestLemmas.{module_row, module_bytes_are, module_pushed}
+use Rattle.image_members.proofs.ManifestLemmas.{module_row, module_bytes_are, module_pushed}
 use Rattle.image_rows.proofs.manifest_rows.push_module.Goals as goal
 
 pub refer_text-requires-clause-room : goal.refer_text-requires-clause-room

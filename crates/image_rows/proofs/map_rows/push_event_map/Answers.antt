@@ -2,8 +2,8 @@ use Rattle.std.proofs.Common.{◌≡◌, ◌∙◌, ap, sym, subst, ℕ, ◌+◌
 use Rattle.std.proofs.lemmas.List.{drop_more}
 use Rattle.metadata_tables.specs.Indexes.{run_cell}
 use Rattle.image_rows.specs.MapRows.{run_rows, event_count}
-use Rattle.image_rows.specs.Pushing.{AddsRows}
-use Rattle.image_rows.specs.declared.classes.Class.{Class}
+use Rattle.image_members.specs.Pushing.{AddsRows}
+use Rattle.image_members.specs.declared.classes.Class.{Class}
 use Rattle.image_rows.proofs.MapRowLemmas.{event_map_cells, Mapped, mapped_begin, mapped_few, mapped_row, mapped_first, mapped_on, mapped_end}
 use Rattle.image_rows.proofs.map_rows.push_event_map.Goals as goal
 

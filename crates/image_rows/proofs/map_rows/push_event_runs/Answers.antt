@@ -2,10 +2,10 @@ use Rattle.std.proofs.Common.{rules, ◌≡◌, ◌∙◌, ap, sym, subst, ℕ, 
 use Rattle.std.specs.List.{flat_map}
 use Rattle.std.proofs.lemmas.List.{nil_from_length}
 use Rattle.assembly_tree.specs.declared.members.Event.{Event}
-use Rattle.image_rows.specs.Places.{lent, class_events}
-use Rattle.image_rows.specs.Pushing.{AddsRows}
+use Rattle.image_members.specs.Places.{lent, class_events}
+use Rattle.image_members.specs.Pushing.{AddsRows}
 use Rattle.image_rows.proofs.MapRowLemmas.{no_runs}
-use Rattle.image_rows.proofs.PushLemmas.{rows_none}
+use Rattle.image_members.proofs.PushLemmas.{rows_none}
 use Rattle.image_rows.proofs.map_rows.push_event_runs.Goals as goal
 
 pub returns-then-is_empty : goal.returns-then-is_empty

@@ -1,6 +1,6 @@
 use Rattle.std.proofs.Common.{rules}
 use Rattle.image_rows.proofs.MethodRowLemmas.{method_row}
-use Rattle.image_rows.proofs.PushLemmas.{rows_one}
+use Rattle.image_members.proofs.PushLemmas.{rows_one}
 use Rattle.image_rows.proofs.method_rows.push_method.Goals as goal
 
 pub push-requires-clause-cells : goal.push-requires-clause-cells

@@ -4,7 +4,7 @@ use Rattle.std.specs.Prelude.{slice_index}
 use Rattle.std.proofs.lemmas.List.{drop_more}
 use Rattle.assembly_tree.specs.declared.members.Method.{Method}
 use Rattle.image_rows.specs.MethodRows.{PlacedMethod, method_cells}
-use Rattle.image_rows.specs.Pushing.{AddsRows}
+use Rattle.image_members.specs.Pushing.{AddsRows}
 use Rattle.image_rows.proofs.MethodRowLemmas.{MethodsTo, methods_begin, methods_within, bodies_within, methods_few, params_few, methods_on, methods_end}
 use Rattle.image_rows.proofs.method_rows.push_methods.Goals as goal
 

@@ -2,7 +2,7 @@ use Rattle.std.proofs.Common.{◌≡◌, subst, ℕ, [], ◌∷◌}
 use Rattle.metadata_tables.specs.Encoding.{AddsRow}
 use Rattle.metadata_tables.specs.declared.coded.Coded.TheVariants.{MethodDefOrRef}
 use Rattle.image_tokens.specs.Indexes.{index_of}
-use Rattle.image_rows.proofs.KindLemmas.{one_can, one_few, one_room}
+use Rattle.image_members.proofs.KindLemmas.{one_can, one_few, one_room}
 use Rattle.image_rows.proofs.OverrideLemmas.{override_kind, override_cells, override_pushed}
 use Rattle.image_rows.proofs.override_rows.push_override.Goals as goal
 

@@ -2,7 +2,7 @@ use Rattle.std.proofs.Common.{◌≡◌, ◌∙◌, ap, sym, ◌+◌, ◌≤◌,
 use Rattle.std.proofs.lemmas.List.{drop_more}
 use Rattle.type_terms.specs.declared.reference.MethodRef.{MethodRef}
 use Rattle.image_rows.specs.OverrideRows.{overrides}
-use Rattle.image_rows.proofs.KindLemmas.{begin, front, go_on, end}
+use Rattle.image_members.proofs.KindLemmas.{begin, front, go_on, end}
 use Rattle.image_rows.proofs.OverrideLemmas.{override_kind}
 use Rattle.image_rows.proofs.override_rows.push_overrides.Goals as goal
 

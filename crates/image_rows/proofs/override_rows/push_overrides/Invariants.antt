@@ -1,6 +1,6 @@
 use Rattle.std.proofs.Common.{drop}
 use Rattle.image_rows.specs.OverrideRows.{overrides}
-use Rattle.image_rows.proofs.KindLemmas.{Pushing}
+use Rattle.image_members.proofs.KindLemmas.{Pushing}
 use Rattle.image_rows.proofs.OverrideLemmas.{override_kind}
 use Rattle.image_rows.proofs.override_rows.push_overrides.Given as goal
 

@@ -7,8 +7,8 @@ use Rattle.assembly_tree.specs.declared.members.Param.{Param}
 use Rattle.assembly_tree.specs.declared.members.Property.{Property}
 use Rattle.assembly_tree.specs.declared.typedef.TypeDef.{TypeDef}
 use Rattle.image_rows.specs.AttributeRows.{tables_of}
-use Rattle.image_rows.specs.Lists.{type_attributes}
-use Rattle.image_rows.specs.Places.{lent}
+use Rattle.image_members.specs.Lists.{type_attributes}
+use Rattle.image_members.specs.Places.{lent}
 use Rattle.image_rows.proofs.OwnedLemmas.{next, table_added, attributes_listed}
 use Rattle.image_rows.proofs.owned_lists.attribute_tables.Goals as goal
 

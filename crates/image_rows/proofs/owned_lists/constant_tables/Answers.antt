@@ -3,7 +3,7 @@ use Rattle.std.specs.Borrow.{Bor}
 use Rattle.assembly_tree.specs.declared.members.Field.{Field}
 use Rattle.assembly_tree.specs.declared.members.Param.{Param}
 use Rattle.assembly_tree.specs.declared.members.Property.{Property}
-use Rattle.image_rows.specs.Places.{lent}
+use Rattle.image_members.specs.Places.{lent}
 use Rattle.image_rows.proofs.OwnedLemmas.{next, constants_listed}
 use Rattle.image_rows.proofs.owned_lists.constant_tables.Goals as goal
 

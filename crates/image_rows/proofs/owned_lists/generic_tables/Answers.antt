@@ -3,8 +3,8 @@ use Rattle.std.specs.Borrow.{Bor}
 use Rattle.assembly_tree.specs.declared.members.Generic.{Generic}
 use Rattle.assembly_tree.specs.declared.members.Method.{Method}
 use Rattle.assembly_tree.specs.declared.typedef.TypeDef.{TypeDef}
-use Rattle.image_rows.specs.Lists.{type_generics}
-use Rattle.image_rows.specs.Places.{lent}
+use Rattle.image_members.specs.Lists.{type_generics}
+use Rattle.image_members.specs.Places.{lent}
 use Rattle.image_rows.proofs.OwnedLemmas.{next, generics_listed}
 use Rattle.image_rows.proofs.owned_lists.generic_tables.Goals as goal
 

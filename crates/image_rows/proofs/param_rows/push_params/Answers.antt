@@ -3,9 +3,9 @@ use Rattle.std.specs.Borrow.{Bor}
 use Rattle.std.proofs.lemmas.List.{drop_more}
 use Rattle.assembly_tree.specs.declared.members.Param.{Param}
 use Rattle.image_rows.specs.ParamRows.{IsParamRow, param_bytes}
-use Rattle.image_rows.specs.Places.{lent}
+use Rattle.image_members.specs.Places.{lent}
 use Rattle.image_rows.proofs.ParamLemmas.{param_kept, CanPushParam, param_can}
-use Rattle.image_rows.proofs.PushLemmas.{pushes_begin, pushes_can, pushes_few, pushes_room, pushes_on, pushes_end}
+use Rattle.image_members.proofs.PushLemmas.{pushes_begin, pushes_can, pushes_few, pushes_room, pushes_on, pushes_end}
 use Rattle.image_rows.proofs.param_rows.push_params.Goals as goal
 
 pub loop-param-init : goal.loop-param-init

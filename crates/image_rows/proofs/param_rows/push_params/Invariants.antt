@@ -1,8 +1,8 @@
 use Rattle.std.proofs.Common.{drop}
 use Rattle.image_rows.specs.ParamRows.{IsParamRow, param_bytes}
-use Rattle.image_rows.specs.Places.{lent}
+use Rattle.image_members.specs.Places.{lent}
 use Rattle.image_rows.proofs.ParamLemmas.{param_kept, CanPushParam, param_can}
-use Rattle.image_rows.proofs.PushLemmas.{PushesTo}
+use Rattle.image_members.proofs.PushLemmas.{PushesTo}
 use Rattle.image_rows.proofs.param_rows.push_params.Given as goal
 
 abbrev pub invariant-loop-param : goal.invariant-loop-param

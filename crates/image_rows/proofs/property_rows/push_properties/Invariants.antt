@@ -1,6 +1,6 @@
 use Rattle.std.proofs.Common.{drop}
-use Rattle.image_rows.specs.Places.{lent}
-use Rattle.image_rows.proofs.KindLemmas.{Pushing}
+use Rattle.image_members.specs.Places.{lent}
+use Rattle.image_members.proofs.KindLemmas.{Pushing}
 use Rattle.image_rows.proofs.PropertyLemmas.{property_kind}
 use Rattle.image_rows.proofs.property_rows.push_properties.Given as goal
 

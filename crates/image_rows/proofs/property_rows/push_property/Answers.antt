@@ -1,7 +1,7 @@
 use Rattle.std.proofs.Common.{rules, ◌≡◌, subst, ℕ, [], ◌∷◌, ◌+◌, ◌≤◌, length, arith}
 use Rattle.metadata_tables.specs.Encoding.{AddsRow}
 use Rattle.image_rows.specs.PropertyRows.{property_flags}
-use Rattle.image_rows.proofs.KindLemmas.{one_can, one_few, one_room}
+use Rattle.image_members.proofs.KindLemmas.{one_can, one_few, one_room}
 use Rattle.image_rows.proofs.PropertyLemmas.{property_kind, property_cells, property_sig_can, property_bytes_are, property_pushed}
 use Rattle.image_rows.proofs.property_rows.push_property.Goals as goal
 

@@ -1,10 +1,10 @@
 use Rattle.std.proofs.Common.{◌≡◌, ◌∙◌, ap, sym, subst, ℕ, ◌+◌, List, [], ◌∷◌, map, Option, Some, None}
 use Rattle.std.specs.Option.{option_copied}
 use Rattle.std.proofs.lemmas.Result.{on_ok_weaker}
-use Rattle.image_rows.specs.Pushing.{AddsRows}
+use Rattle.image_members.specs.Pushing.{AddsRows}
 use Rattle.image_rows.specs.SemanticsRows.{accessors_with, semantics_row, CanAddAccessors}
 use Rattle.image_rows.proofs.AccessorLemmas.{no_access, an_access}
-use Rattle.image_rows.proofs.PushLemmas.{rows_none}
+use Rattle.image_members.proofs.PushLemmas.{rows_none}
 use Rattle.image_rows.proofs.semantics_rows.push_accessors_in.Goals as goal
 
 pub returns-in-None : goal.returns-in-None

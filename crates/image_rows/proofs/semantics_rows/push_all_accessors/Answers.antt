@@ -2,7 +2,7 @@ use Rattle.std.proofs.Common.{◌≡◌, ap, subst, rules, ℕ, ◌+◌, ◌-◌
 use Rattle.std.specs.List.{flat_map, range_with_len}
 use Rattle.image_rows.specs.SemanticsRows.{accessors_at}
 use Rattle.image_rows.proofs.AccessorLemmas.{Adding, begin, front, go_on, end}
-use Rattle.image_rows.proofs.ByNumberLemmas.{next_number, no_number}
+use Rattle.image_members.proofs.ByNumberLemmas.{next_number, no_number}
 use Rattle.image_rows.proofs.semantics_rows.push_all_accessors.Goals as goal
 
 pub loop-place-init : goal.loop-place-init

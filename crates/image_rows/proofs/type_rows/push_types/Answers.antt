@@ -1,7 +1,7 @@
 use Rattle.std.proofs.Common.{◌≡◌, ◌∙◌, ap, sym, subst, ℕ, ◌+◌, ◌<◌, ◌≤◌, ◌∷◌, drop, drop_of_length-le, length, arith}
 use Rattle.std.proofs.lemmas.List.{drop_more}
-use Rattle.image_rows.specs.DeclaredMembers.{class_fields}
-use Rattle.image_rows.specs.declared.classes.Class.{Class}
+use Rattle.image_members.specs.DeclaredMembers.{class_fields}
+use Rattle.image_members.specs.declared.classes.Class.{Class}
 use Rattle.image_rows.proofs.TypeRowLemmas.{TypesTo, types_begin, types_stand, types_base, types_few, types_room, types_on, types_end}
 use Rattle.image_rows.proofs.type_rows.push_types.Goals as goal
 

@@ -3,8 +3,8 @@ use Rattle.std.specs.Borrow.{Bor}
 use Rattle.std.specs.Prelude.{sum_by}
 use Rattle.assembly_tree.specs.declared.members.Field.{Field}
 use Rattle.image_tokens.proofs.GrowthLemmas.{grows_refl}
-use Rattle.image_rows.specs.DataRows.{all_data, data_room}
-use Rattle.image_rows.specs.Places.{lent, all_fields}
+use Rattle.image_members.specs.DataRows.{all_data, data_room}
+use Rattle.image_members.specs.Places.{lent, all_fields}
 use Rattle.image_tables.specs.FieldPart.{FillsFields}
 use Rattle.image_tables.specs.Filling.{property_part, Lengthens}
 use Rattle.image_tables.proofs.FillLemmas.{fields_can, all_full, all_grown, all_room, all_code}

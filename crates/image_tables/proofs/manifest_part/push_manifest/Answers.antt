@@ -4,8 +4,8 @@ use Rattle.std.specs.List.{AllByRecursion}
 use Rattle.assembly_tree.specs.declared.assembly.ExternAssembly.{ExternAssembly}
 use Rattle.metadata_tables.specs.Encoding.{rows_in}
 use Rattle.image_tokens.specs.References.{size}
-use Rattle.image_rows.specs.ManifestRows.{IsExternRow, extern_bytes, IsPlainExtern}
-use Rattle.image_rows.specs.Pushing.{Pushes}
+use Rattle.image_members.specs.ManifestRows.{IsExternRow, extern_bytes, IsPlainExtern}
+use Rattle.image_members.specs.Pushing.{Pushes}
 use Rattle.image_tables.proofs.ManifestPart.{no_modules, module_room, no_assemblies, assembly_room, few_externs, extern_room, manifest_filled}
 use Rattle.image_tables.proofs.manifest_part.push_manifest.Goals as goal
 

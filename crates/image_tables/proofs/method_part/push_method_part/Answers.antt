@@ -7,8 +7,8 @@ use Rattle.image_tokens.specs.References.{size}
 use Rattle.image_rows.specs.FieldRows.{AddsItems}
 use Rattle.image_rows.specs.MethodRows.{placed_methods, IsMethodRow}
 use Rattle.image_rows.specs.ParamRows.{all_params, param_bytes, IsParamRow, IsPlainParam}
-use Rattle.image_rows.specs.Places.{lent}
-use Rattle.image_rows.specs.Pushing.{Pushes}
+use Rattle.image_members.specs.Places.{lent}
+use Rattle.image_members.specs.Pushing.{Pushes}
 use Rattle.image_rows.proofs.FieldLemmas.{lent_long}
 use Rattle.image_tables.proofs.MethodPart.{bodies_can, methods_can, as_many_bodies, few_methods, few_runs, plain_params, params_room, few_params, declared_long, methods_few, overrides_pushable, methods_filled, code_lengthened}
 use Rattle.image_tables.proofs.OrderLemmas.{params_same}

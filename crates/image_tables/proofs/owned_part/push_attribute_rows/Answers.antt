@@ -1,8 +1,8 @@
 use Rattle.std.proofs.Common.{◌≡◌, ap, sym, ◌∙◌, subst, ℕ, ◌<◌, ◌^◌, List, arith}
 use Rattle.metadata_tables.specs.declared.coded.Coded.TheVariants.{HasCustomAttribute}
-use Rattle.image_rows.specs.ByNumber.{by_number}
+use Rattle.image_members.specs.ByNumber.{by_number}
 use Rattle.image_rows.specs.AttributeRows.{tables_of, attribute_bytes, IsAttributeRow, CanPushAttribute}
-use Rattle.image_rows.specs.Pushing.{Pushes, CanPush}
+use Rattle.image_members.specs.Pushing.{Pushes, CanPush}
 use Rattle.image_tables.proofs.owned_part.push_attribute_rows.Goals as goal
 
 pub longest_attributed-count-requires : goal.longest_attributed-count-requires

@@ -1,8 +1,8 @@
 use Rattle.std.proofs.Common.{◌≡◌, ap, sym, ◌∙◌, subst, ℕ, ◌<◌, ◌^◌, List, map, arith}
 use Rattle.metadata_tables.specs.declared.coded.Coded.TheVariants.{HasConstant}
-use Rattle.image_rows.specs.ByNumber.{by_number}
-use Rattle.image_rows.specs.ConstantRows.{with_constants, constant_bytes, IsConstantRow, CanPushConstant}
-use Rattle.image_rows.specs.Pushing.{Pushes, CanPush}
+use Rattle.image_members.specs.ByNumber.{by_number}
+use Rattle.image_members.specs.ConstantRows.{with_constants, constant_bytes, IsConstantRow, CanPushConstant}
+use Rattle.image_members.specs.Pushing.{Pushes, CanPush}
 use Rattle.image_tables.proofs.owned_part.push_constant_rows.Goals as goal
 
 pub longest_valued-count-requires : goal.longest_valued-count-requires

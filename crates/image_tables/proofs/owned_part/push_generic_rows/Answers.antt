@@ -2,14 +2,14 @@ use Rattle.std.proofs.Common.{◌≡◌, ap, sym, ◌∙◌, subst, ℕ, map, ar
 use Rattle.std.specs.List.{range_with_len}
 use Rattle.assembly_tree.specs.declared.members.Generic.{Generic}
 use Rattle.metadata_tables.specs.declared.coded.Coded.TheVariants.{TypeOrMethodDef}
-use Rattle.image_rows.specs.ByNumber.{by_number}
-use Rattle.image_rows.specs.GenericRows.{counted, generic_of, generics_at, generic_bytes, IsGenericRow, CanPushGeneric}
-use Rattle.image_rows.specs.Lists.{longest_of}
-use Rattle.image_rows.specs.Places.{lent}
-use Rattle.image_rows.specs.Pushing.{Pushes, CanPush}
-use Rattle.image_rows.proofs.EmptinessLemmas.{nothing_in_all}
-use Rattle.image_rows.proofs.GenericLemmas.{generic_kind}
-use Rattle.image_rows.proofs.KindLemmas.{none_pushed}
+use Rattle.image_members.specs.ByNumber.{by_number}
+use Rattle.image_members.specs.GenericRows.{counted, generic_of, generics_at, generic_bytes, IsGenericRow, CanPushGeneric}
+use Rattle.image_members.specs.Lists.{longest_of}
+use Rattle.image_members.specs.Places.{lent}
+use Rattle.image_members.specs.Pushing.{Pushes, CanPush}
+use Rattle.image_members.proofs.EmptinessLemmas.{nothing_in_all}
+use Rattle.image_members.proofs.GenericLemmas.{generic_kind}
+use Rattle.image_members.proofs.KindLemmas.{none_pushed}
 use Rattle.image_tables.proofs.owned_part.push_generic_rows.Goals as goal
 
 pub longest_parametric-count-requires : goal.longest_parametric-count-requires

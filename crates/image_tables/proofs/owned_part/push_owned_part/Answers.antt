@@ -5,12 +5,12 @@ use Rattle.assembly_tree.specs.declared.members.Constant.{Constant}
 use Rattle.assembly_tree.specs.declared.members.Generic.{Generic}
 use Rattle.metadata_tables.specs.declared.coded.Coded.TheVariants.{HasConstant, HasCustomAttribute, TypeOrMethodDef}
 use Rattle.image_rows.specs.AttributeRows.{tables_of, attribute_bytes, IsAttributeRow, CanPushAttribute}
-use Rattle.image_rows.specs.ByNumber.{by_number}
-use Rattle.image_rows.specs.ConstantRows.{with_constants, constant_bytes, IsConstantRow, CanPushConstant}
-use Rattle.image_rows.specs.GenericRows.{counted, generic_of, bounds_from, bound_bytes, IsBoundRow, CanPushBound, generic_bytes, IsGenericRow, CanPushGeneric}
-use Rattle.image_rows.specs.Lists.{Owned, longest_of, attribute_lists, attribute_items, constant_lists, constant_items, generic_lists, generic_items, generics_in}
-use Rattle.image_rows.specs.Places.{lent}
-use Rattle.image_rows.specs.Pushing.{Pushes, CanPush}
+use Rattle.image_members.specs.ByNumber.{by_number}
+use Rattle.image_members.specs.ConstantRows.{with_constants, constant_bytes, IsConstantRow, CanPushConstant}
+use Rattle.image_members.specs.GenericRows.{counted, generic_of, bounds_from, bound_bytes, IsBoundRow, CanPushBound, generic_bytes, IsGenericRow, CanPushGeneric}
+use Rattle.image_members.specs.Lists.{Owned, longest_of, attribute_lists, attribute_items, constant_lists, constant_items, generic_lists, generic_items, generics_in}
+use Rattle.image_members.specs.Places.{lent}
+use Rattle.image_members.specs.Pushing.{Pushes, CanPush}
 use Rattle.image_rows.proofs.FieldLemmas.{lent_long}
 use Rattle.image_tables.proofs.OwnedPart.{generics_can, generics_few, bounds_can, constants_can, attributes_can, owned_filled}
 use Rattle.image_tables.proofs.owned_part.push_owned_part.Goals as goal

@@ -1,11 +1,11 @@
 use Rattle.std.proofs.Common.{◌≡◌, ap, sym, ◌∙◌, subst, ℕ, ◌<◌, ◌^◌, List, [], map}
 use Rattle.metadata_tables.specs.declared.coded.Coded.TheVariants.{HasSemantics}
-use Rattle.image_rows.specs.ByNumber.{by_number}
-use Rattle.image_rows.specs.Lists.{Owned, longest_of, accessor_lists, accessor_items}
-use Rattle.image_rows.specs.Pushing.{AddsRows}
+use Rattle.image_members.specs.ByNumber.{by_number}
+use Rattle.image_members.specs.Lists.{Owned, longest_of, accessor_lists, accessor_items}
+use Rattle.image_members.specs.Pushing.{AddsRows}
 use Rattle.image_rows.specs.SemanticsRows.{semantics_row, with_methods, CanAddAccessors}
-use Rattle.image_rows.proofs.EmptinessLemmas.{no_accessors}
-use Rattle.image_rows.proofs.PushLemmas.{rows_none}
+use Rattle.image_members.proofs.EmptinessLemmas.{no_accessors}
+use Rattle.image_members.proofs.PushLemmas.{rows_none}
 use Rattle.image_tables.proofs.property_part.push_accessor_rows.Goals as goal
 
 pub longest_accessing-count-requires : goal.longest_accessing-count-requires

@@ -2,10 +2,10 @@ use Rattle.std.proofs.Common.{◌≡◌, ap, ◌∙◌, subst, ◌<◌, ◌^◌,
 use Rattle.assembly_tree.specs.declared.members.Event.{Event}
 use Rattle.assembly_tree.specs.declared.members.Property.{Property}
 use Rattle.image_rows.specs.EventRows.{event_bytes, IsEventRow}
-use Rattle.image_rows.specs.Lists.{properties_in, events_in}
-use Rattle.image_rows.specs.Places.{lent}
+use Rattle.image_members.specs.Lists.{properties_in, events_in}
+use Rattle.image_members.specs.Places.{lent}
 use Rattle.image_rows.specs.PropertyRows.{property_bytes, IsPropertyRow}
-use Rattle.image_rows.specs.Pushing.{Pushes}
+use Rattle.image_members.specs.Pushing.{Pushes}
 use Rattle.image_tables.proofs.PropertyPart.{properties_can, events_can, accessors_can, properties_filled}
 use Rattle.image_tables.proofs.property_part.push_property_part.Goals as goal
 

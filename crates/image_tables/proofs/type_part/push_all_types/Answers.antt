@@ -3,8 +3,8 @@ use Rattle.std.specs.List.{AllByRecursion}
 use Rattle.assembly_tree.specs.declared.members.Field.{Field}
 use Rattle.assembly_tree.specs.declared.members.Method.{Method}
 use Rattle.image_tokens.proofs.GrowthLemmas.{grows_refl}
-use Rattle.image_rows.specs.Places.{all_fields, all_methods}
-use Rattle.image_rows.specs.Pushing.{Pushes}
+use Rattle.image_members.specs.Places.{all_fields, all_methods}
+use Rattle.image_members.specs.Pushing.{Pushes}
 use Rattle.image_rows.specs.TypeRows.{numbered, numbered_weight, IsTypeDefRow}
 use Rattle.image_rows.proofs.FieldLemmas.{lent_long}
 use Rattle.image_tables.proofs.TypePart.{module_stands, no_types, classes_count, fields_few, methods_few, few_types, type_rows_added}

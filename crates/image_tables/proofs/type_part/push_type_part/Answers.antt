@@ -1,10 +1,10 @@
 use Rattle.std.proofs.Common.{ap, sym, ◌∙◌, subst, ℕ, length}
 use Rattle.assembly_tree.specs.declared.members.Event.{Event}
 use Rattle.assembly_tree.specs.declared.members.Property.{Property}
-use Rattle.image_rows.specs.Lists.{properties_in, events_in}
+use Rattle.image_members.specs.Lists.{properties_in, events_in}
 use Rattle.image_rows.specs.MapRows.{map_rows, event_count, property_count}
-use Rattle.image_rows.specs.Places.{lent}
-use Rattle.image_rows.specs.Pushing.{AddsRows}
+use Rattle.image_members.specs.Places.{lent}
+use Rattle.image_members.specs.Pushing.{AddsRows}
 use Rattle.image_rows.proofs.FieldLemmas.{lent_long}
 use Rattle.image_tables.proofs.TypePart.{bases_ready, few_classes, interfaces_can, few_layouts, few_nested, few_event_maps, few_events, few_properties, few_property_maps, types_filled}
 use Rattle.image_tables.proofs.type_part.push_type_part.Goals as goal

@@ -1,7 +1,7 @@
 use Rattle.std.proofs.Common.{◌≡◌, ap, ◌∙◌, subst, ℕ, ◌+◌, ◌-◌, ◌<◌, ◌≤◌, ◌^◌, List, length, arith}
 use Rattle.std.specs.List.{AllByRecursion}
 use Rattle.assembly_tree.specs.declared.members.Method.{Method}
-use Rattle.image_rows.specs.Places.{lent}
+use Rattle.image_members.specs.Places.{lent}
 use Rattle.image_writer.proofs.BeginLemmas.{members_declarable, all_declared, members_room}
 use Rattle.image_writer.proofs.ContentsLemmas.{can_declare, begun_room}
 use Rattle.image_writer.proofs.beginning.declare_all.Goals as goal

@@ -1,7 +1,7 @@
 use Rattle.std.proofs.Common.{◌≡◌, ap, ◌∙◌, ℕ, ◌<◌, ◌≤◌, ◌^◌, length, arith}
 use Rattle.assembly_tree.specs.declared.members.Method.{Method}
 use Rattle.image_rows.specs.Filled.{entry_from}
-use Rattle.image_rows.specs.Places.{lent}
+use Rattle.image_members.specs.Places.{lent}
 use Rattle.image_rows.proofs.FieldLemmas.{lent_long}
 use Rattle.image_writer.proofs.finishing.entry_in.Goals as goal
 

@@ -4,7 +4,7 @@ use Rattle.assembly_tree.specs.declared.members.Field.{Field}
 use Rattle.assembly_tree.specs.declared.members.Param.{Param}
 use Rattle.assembly_tree.specs.declared.members.Property.{Property}
 use Rattle.laws_image_reading.specs.parts.Ranges.{IsFieldInRange, IsParamInRange, IsPropertyInRange}
-use Rattle.image_rows.specs.Places.{lent}
+use Rattle.image_members.specs.Places.{lent}
 use Rattle.image_writer.proofs.finishing.numbers_in_range.Goals as goal
 
 pub returns : goal.returns

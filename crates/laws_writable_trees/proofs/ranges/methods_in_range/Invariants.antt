@@ -1,6 +1,6 @@
 use Rattle.std.proofs.Common.{take}
 use Rattle.std.specs.List.{AllByRecursion}
-use Rattle.image_rows.specs.Places.{lent}
+use Rattle.image_members.specs.Places.{lent}
 use Rattle.laws_writable_trees.specs.Ranges.{IsMethodInRange}
 use Rattle.laws_writable_trees.proofs.ranges.methods_in_range.Given as goal
 

@@ -1,0 +1,17 @@
+pub mod ByNumber
+pub mod Classes
+pub mod CodeBytes
+pub mod ConstantRows
+pub mod Constants
+pub mod DataRows
+pub mod DeclaredMembers
+pub mod Declaring
+pub mod Emptiness
+pub mod GenericRows
+pub mod Lists
+pub mod ManifestRows
+pub mod Ordered
+pub mod Places
+pub mod Placing
+pub mod Pushing
+pub mod TypeIndexes

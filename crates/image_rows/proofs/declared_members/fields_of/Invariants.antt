@@ -1,8 +1,0 @@
-use Rattle.std.proofs.Common.{drop}
-use Rattle.image_rows.specs.DeclaredMembers.{IsFieldOf, field_bytes, IsFieldDeclarable}
-use Rattle.image_rows.proofs.DeclaredLemmas.{OwnedTo, field_kept, field_still}
-use Rattle.image_rows.proofs.declared_members.fields_of.Given as goal
-
-abbrev pub invariant-loop-field : goal.invariant-loop-field
-invariant-loop-field l =
-    OwnedTo IsFieldOf field_bytes field_kept IsFieldDeclarable field_still l.row l.initial.refs l.refs l.initial.rows l.rows l.fields (drop l.field-index l.fields)

@@ -1,9 +1,0 @@
-use Rattle.std.proofs.Common.{List, drop}
-use Rattle.image_rows.specs.GenericRows.{generics_in, generics_at}
-use Rattle.image_rows.specs.declared.generic_rows.Parametric.{Parametric}
-use Rattle.image_rows.proofs.KindLemmas.{Pushing}
-use Rattle.image_rows.proofs.GenericLemmas.{generic_kind}
-use Rattle.image_rows.proofs.generic_rows.push_generics_at.Given as goal
-
-abbrev pub invariant-loop-table : goal.invariant-loop-table
-invariant-loop-table l = Pushing generic_kind l.initial.refs l.refs l.initial.rows l.rows ((λ (ts : List Parametric). generics_at ts l.place) l.tables) ((λ (ts : List Parametric). generics_at ts l.place) (drop l.table-index l.tables))

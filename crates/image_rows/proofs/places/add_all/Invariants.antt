@@ -1,7 +1,0 @@
-use Rattle.std.proofs.Common.{drop}
-use Rattle.image_rows.specs.Places.{lent}
-use Rattle.image_rows.proofs.PlaceLemmas.{FilledTo}
-use Rattle.image_rows.proofs.places.add_all.Given as goal
-
-abbrev pub invariant-loop-item : goal.invariant-loop-item
-invariant-loop-item g l = FilledTo (lent l.initial.all) (lent l.all) l.items (drop l.item-index l.items)
