@@ -1,73 +1,44 @@
-//! Changes of the body of the last method that stands in no class.
+//! Changes of bodies: of the whole, of the last instruction, and of the last clause.
 
+use super::{Changeable, patch_of_last, put};
 use crate::fault::Fault;
 use crate::terms::{method_of, numbers, outside};
 use crate::values::{number, number16, number32, two};
-use assembly_tree::{Assembly, Body, Clause, ClauseKind, Clauses, Code, Ins, Method, Operand};
+use assembly_tree::{Body, Clause, ClauseKind, Clauses, Code, Ins, Operand};
 use il_lists::{Boxed, Items, NoMemory};
 use opcode_table::{Op, op_of_word};
 use std::alloc::Global;
 
-/// Changes the body, its last instruction, or its last clause.
-pub fn patch_body(
-    alloc: Global,
-    a: &mut Assembly,
-    part: &str,
-    field: &str,
-    value: &str,
-) -> Result<(), Fault> {
-    let Some(mut of) = a.methods.pop() else {
-        return Err(Fault::Meaningless);
-    };
-    let patched = patch_of_method(alloc, &mut of, part, field, value);
-    a.methods.push(of)?;
-    patched
-}
-
-fn patch_of_method(
-    alloc: Global,
-    method: &mut Method,
-    part: &str,
-    field: &str,
-    value: &str,
-) -> Result<(), Fault> {
-    let Some(mut body) = method.body.take() else {
-        return Err(Fault::Meaningless);
-    };
-    let patched = patch_part(alloc, &mut body, part, field, value);
-    method.body = Some(body);
-    patched
-}
-
-fn patch_part(
-    alloc: Global,
-    body: &mut Body,
-    part: &str,
-    field: &str,
-    value: &str,
-) -> Result<(), Fault> {
-    match part {
-        "body" => patch_whole(alloc, body, field, value),
-        "ins" => patch_instruction(alloc, &mut body.code, field, value),
-        _ => patch_clause(&mut body.clauses, field, value),
+impl Changeable for Body {
+    fn change(&mut self, alloc: Global, field: &str, value: &str) -> Result<(), Fault> {
+        let (inner, rest) = two(value)?;
+        match field {
+            "body" => patch_whole(alloc, self, inner, rest),
+            "ins" => patch_instruction(alloc, &mut self.code, inner, rest),
+            "clause" => patch_of_last(alloc, &mut self.clauses, inner, rest),
+            _ => Err(Fault::Meaningless),
+        }
     }
 }
 
 /// `locals COUNT`, `code COUNT` for so many `nop`, or `catches COUNT NAME`.
 fn patch_whole(alloc: Global, of: &mut Body, field: &str, value: &str) -> Result<(), Fault> {
     match field {
-        "locals" => of.locals = numbers(alloc, number32(value)?)?,
-        "code" => of.code = nops(alloc, number32(value)?)?,
-        "catches" => {
-            let (count, name) = two(value)?;
-            of.clauses.truncate(0);
-            for _ in 0..number32(count)? {
-                push_catch(alloc, of, name)?;
-            }
-        }
-        _ => return Err(Fault::Meaningless),
+        "locals" => put(&mut of.locals, numbers(alloc, number32(value)?)),
+        "code" => put(&mut of.code, nops(alloc, number32(value)?)),
+        "catches" => put(&mut of.clauses, catches(alloc, value)),
+        _ => Err(Fault::Meaningless),
     }
-    Ok(())
+}
+
+/// So many clauses that catch the type of a name: `COUNT NAME`.
+fn catches(alloc: Global, value: &str) -> Result<Clauses, Fault> {
+    let (count, name) = two(value)?;
+    let mut clauses = Items::new(alloc);
+    for _ in 0..number32(count)? {
+        push_catch(alloc, &mut clauses, name)?;
+    }
+    Ok(clauses)
 }
 
 fn nops(alloc: Global, count: u32) -> Result<Code, NoMemory> {
@@ -81,9 +52,9 @@ fn nops(alloc: Global, count: u32) -> Result<Code, NoMemory> {
     Ok(code)
 }
 
-fn push_catch(alloc: Global, of: &mut Body, name: &str) -> Result<(), NoMemory> {
+fn push_catch(alloc: Global, clauses: &mut Clauses, name: &str) -> Result<(), NoMemory> {
     let owner = outside(alloc, name)?;
-    of.clauses.push(Clause {
+    clauses.push(Clause {
         kind: ClauseKind::Catch(owner),
         try_start: 0,
         try_end: 1,
@@ -143,24 +114,17 @@ fn of_method(alloc: Global, words: &str) -> Result<Operand, Fault> {
     Ok(Operand::Method(Boxed::new(alloc, method)?))
 }
 
-fn patch_clause(clauses: &mut Clauses, field: &str, value: &str) -> Result<(), Fault> {
-    let Some(mut of) = clauses.pop() else {
-        return Err(Fault::Meaningless);
-    };
-    let patched = patch_the_clause(&mut of, field, value);
-    clauses.push(of)?;
-    patched
-}
-
-fn patch_the_clause(of: &mut Clause, field: &str, value: &str) -> Result<(), Fault> {
-    let number = number32(value)?;
-    match field {
-        "try_start" => of.try_start = number,
-        "try_end" => of.try_end = number,
-        "handler_start" => of.handler_start = number,
-        "handler_end" => of.handler_end = number,
-        "filter" => of.kind = ClauseKind::Filter(number),
-        _ => return Err(Fault::Meaningless),
+impl Changeable for Clause {
+    fn change(&mut self, _alloc: Global, field: &str, value: &str) -> Result<(), Fault> {
+        let number = number32(value)?;
+        match field {
+            "try_start" => self.try_start = number,
+            "try_end" => self.try_end = number,
+            "handler_start" => self.handler_start = number,
+            "handler_end" => self.handler_end = number,
+            "filter" => self.kind = ClauseKind::Filter(number),
+            _ => return Err(Fault::Meaningless),
+        }
+        Ok(())
     }
-    Ok(())
 }

@@ -1,44 +1,39 @@
 //! Changes of fields and methods that stand in no class.
 
-use super::attributes_of;
+use super::{Changeable, attributes_of, patch_last, patch_some, put};
 use crate::fault::Fault;
 use crate::terms::{method_of, option32, outside, text_of, type_of};
 use crate::values::{number16, number32, two};
-use assembly_tree::{Assembly, Constant, Field, Generic, Method, Param};
+use assembly_tree::{Constant, Field, Generic, Method, Param};
 use il_lists::{Bytes, Items, NoMemory};
 use std::alloc::Global;
-use type_terms::{Prim, SigType};
+use type_terms::{MethodRef, Owner, Prim, SigType};
 
-/// Changes the last field.
-pub fn patch_field(alloc: Global, a: &mut Assembly, field: &str, value: &str) -> Result<(), Fault> {
-    let Some(mut of) = a.fields.pop() else {
-        return Err(Fault::Meaningless);
-    };
-    let patched = patch_the_field(alloc, &mut of, field, value);
-    a.fields.push(of)?;
-    patched
-}
-
-fn patch_the_field(alloc: Global, of: &mut Field, field: &str, value: &str) -> Result<(), Fault> {
-    match field {
-        "name" => of.name = text_of(alloc, value)?,
-        "flags" => of.flags = number16(value)?,
-        "prim" => of.of = SigType::Prim(prim(value)?),
-        "of" => of.of = type_of(alloc, value)?,
-        "data" => of.content = Some(zeros(alloc, number32(value)?)?),
-        "number" => of.constant = Some(constant(value)?),
-        "attribute" => of.attributes = attributes_of(alloc, value)?,
-        _ => return Err(Fault::Meaningless),
+impl Changeable for Field {
+    fn change(&mut self, alloc: Global, field: &str, value: &str) -> Result<(), Fault> {
+        match field {
+            "name" => put(&mut self.name, text_of(alloc, value)),
+            "flags" => put(&mut self.flags, number16(value)),
+            "prim" => put(&mut self.of, of_prim(value)),
+            "of" => put(&mut self.of, type_of(alloc, value)),
+            "data" => put(&mut self.content, zeros(alloc, number32(value)?)),
+            "number" => put(&mut self.constant, constant(value)),
+            "attribute" => put(&mut self.attributes, attributes_of(alloc, value)),
+            _ => Err(Fault::Meaningless),
+        }
     }
-    Ok(())
 }
 
-fn zeros(alloc: Global, count: u32) -> Result<Bytes, NoMemory> {
+fn zeros(alloc: Global, count: u32) -> Result<Option<Bytes>, NoMemory> {
     let mut bytes = Items::new(alloc);
     for _ in 0..count {
         bytes.push(0)?;
     }
-    Ok(bytes)
+    Ok(Some(bytes))
+}
+
+fn of_prim(word: &str) -> Result<SigType, Fault> {
+    Ok(SigType::Prim(prim(word)?))
 }
 
 fn prim(word: &str) -> Result<Prim, Fault> {
@@ -60,104 +55,62 @@ fn prim(word: &str) -> Result<Prim, Fault> {
 }
 
 /// A number as a constant: `TYPE NUMBER`.
-fn constant(value: &str) -> Result<Constant, Fault> {
+fn constant(value: &str) -> Result<Option<Constant>, Fault> {
     let (of, number) = two(value)?;
     let of = prim(of)?;
     match number.parse::<i128>() {
-        Ok(value) => Ok(Constant::Int { of, value }),
+        Ok(value) => Ok(Some(Constant::Int { of, value })),
         Err(_) => Err(Fault::Meaningless),
     }
 }
 
-/// Changes the last method, its last generic parameter, or the last of its parameters of which something is said.
-pub fn patch_method(
-    alloc: Global,
-    a: &mut Assembly,
-    part: &str,
-    field: &str,
-    value: &str,
-) -> Result<(), Fault> {
-    let Some(mut of) = a.methods.pop() else {
-        return Err(Fault::Meaningless);
-    };
-    let patched = patch_within(alloc, &mut of, part, field, value);
-    a.methods.push(of)?;
-    patched
-}
-
-fn patch_within(
-    alloc: Global,
-    of: &mut Method,
-    part: &str,
-    field: &str,
-    value: &str,
-) -> Result<(), Fault> {
-    match part {
-        "method" => patch_the_method(alloc, of, field, value),
-        "generic" => patch_generic(alloc, of, field, value),
-        _ => patch_param(alloc, of, field, value),
+impl Changeable for Method {
+    fn change(&mut self, alloc: Global, field: &str, value: &str) -> Result<(), Fault> {
+        match field {
+            "name" => put(&mut self.name, text_of(alloc, value)),
+            "impl" => put(&mut self.impl_flags, number16(value)),
+            "generic" => put(&mut self.sig.generic, number32(value)),
+            "sentinel" => put(&mut self.sig.sentinel, option32(value)),
+            "entry" => Ok(self.entry = value == "yes"),
+            "override" => put(&mut self.overrides, one_method(alloc, value)),
+            "attribute" => put(&mut self.attributes, attributes_of(alloc, value)),
+            "generics" => patch_last(alloc, &mut self.generics, value),
+            "params" => patch_last(alloc, &mut self.params, value),
+            "body" | "ins" | "clause" => patch_some(alloc, &mut self.body, field, value),
+            _ => Err(Fault::Meaningless),
+        }
     }
 }
 
-fn patch_the_method(alloc: Global, of: &mut Method, field: &str, value: &str) -> Result<(), Fault> {
-    match field {
-        "name" => of.name = text_of(alloc, value)?,
-        "impl" => of.impl_flags = number16(value)?,
-        "generic" => of.sig.generic = number32(value)?,
-        "sentinel" => of.sig.sentinel = option32(value)?,
-        "entry" => of.entry = value == "yes",
-        "override" => of.overrides = Items::one(alloc, method_of(alloc, value)?)?,
-        "attribute" => of.attributes = attributes_of(alloc, value)?,
-        _ => return Err(Fault::Meaningless),
+fn one_method(alloc: Global, value: &str) -> Result<Items<MethodRef>, Fault> {
+    let method = method_of(alloc, value)?;
+    Ok(Items::one(alloc, method)?)
+}
+
+fn one_owner(alloc: Global, name: &str) -> Result<Items<Owner>, NoMemory> {
+    let owner = outside(alloc, name)?;
+    Items::one(alloc, owner)
+}
+
+impl Changeable for Generic {
+    fn change(&mut self, alloc: Global, field: &str, value: &str) -> Result<(), Fault> {
+        match field {
+            "name" => put(&mut self.name, text_of(alloc, value)),
+            "bound" => put(&mut self.bounds, one_owner(alloc, value)),
+            "attribute" => put(&mut self.attributes, attributes_of(alloc, value)),
+            _ => Err(Fault::Meaningless),
+        }
     }
-    Ok(())
 }
 
-fn patch_generic(
-    alloc: Global,
-    method: &mut Method,
-    field: &str,
-    value: &str,
-) -> Result<(), Fault> {
-    let Some(mut of) = method.generics.pop() else {
-        return Err(Fault::Meaningless);
-    };
-    let patched = patch_the_generic(alloc, &mut of, field, value);
-    method.generics.push(of)?;
-    patched
-}
-
-fn patch_the_generic(
-    alloc: Global,
-    of: &mut Generic,
-    field: &str,
-    value: &str,
-) -> Result<(), Fault> {
-    match field {
-        "name" => of.name = text_of(alloc, value)?,
-        "bound" => of.bounds = Items::one(alloc, outside(alloc, value)?)?,
-        "attribute" => of.attributes = attributes_of(alloc, value)?,
-        _ => return Err(Fault::Meaningless),
+impl Changeable for Param {
+    fn change(&mut self, alloc: Global, field: &str, value: &str) -> Result<(), Fault> {
+        match field {
+            "number" => put(&mut self.number, number16(value)),
+            "name" => put(&mut self.name, text_of(alloc, value)),
+            "flags" => put(&mut self.flags, number16(value)),
+            "attribute" => put(&mut self.attributes, attributes_of(alloc, value)),
+            _ => Err(Fault::Meaningless),
+        }
     }
-    Ok(())
-}
-
-fn patch_param(alloc: Global, method: &mut Method, field: &str, value: &str) -> Result<(), Fault> {
-    let Some(mut of) = method.params.pop() else {
-        return Err(Fault::Meaningless);
-    };
-    let patched = patch_the_param(alloc, &mut of, field, value);
-    method.params.push(of)?;
-    patched
-}
-
-fn patch_the_param(alloc: Global, of: &mut Param, field: &str, value: &str) -> Result<(), Fault> {
-    match field {
-        "number" => of.number = number16(value)?,
-        "name" => of.name = text_of(alloc, value)?,
-        "flags" => of.flags = number16(value)?,
-        "attribute" => of.attributes = attributes_of(alloc, value)?,
-        _ => return Err(Fault::Meaningless),
-    }
-    Ok(())
 }
