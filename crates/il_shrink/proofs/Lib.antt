@@ -1,3 +1,4 @@
+pub mod Choosing
 pub mod Codes
 pub mod Formed
 pub mod InsForms
@@ -5,6 +6,7 @@ pub mod Joins
 pub mod Kept
 pub mod Lists
 pub mod Moves
+pub mod Nested
 pub mod OperandKinds
 pub mod Ops
 pub mod Pairs
@@ -12,4 +14,5 @@ pub mod Results
 pub mod SameConditions
 pub mod Shrinking
 pub mod Sums
+pub mod Turning
 pub mod Twins

@@ -1,6 +1,6 @@
--- What holds of a value that a call may answer.
-use Rattle.std.proofs.Common.{Result, Ok, Err, IfOk}
+-- What holds where a call has an answer.
+use Rattle.std.proofs.Common.{Result, Ok, Err, OnOk}
 
-pub if_ok : {X E : Type 0} (P Q : X → Type 0) (r : Result X E) → ((x : X) → P x → Q x) → IfOk r P → IfOk r Q
-if_ok P Q (Ok x) f h = f x h
-if_ok P Q (Err e) f h = h
+pub on_ok : {X E : Type 0} {P Q : Type 0} (r : Result X E) → (P → Q) → OnOk r P → OnOk r Q
+on_ok (Ok x) f h = f h
+on_ok (Err e) f h = h

@@ -1,41 +1,33 @@
-ghost use Rattle.std.specs.Prelude.{◌≡◌, IsTrue, IfOk};
+ghost use Rattle.std.specs.Prelude.{◌≡◌, IsTrue, IfOk, OnOk};
 ghost use Rattle.assembly_tree.specs.Room.{room};
 ghost use Rattle.assembly_tree.specs.Weight.{weight_of};
 ghost use Rattle.assembly_tree.specs.WellFormed.{is_well_formed};
 ghost use Rattle.il_shrink.specs.ShrunkAll.{IsShrunkAll};
 
-use crate::methods::shrunk_methods;
-use crate::types::shrunk_types;
-use assembly_tree::{Assembly, Methods, TypeDefs};
-use il_lists::{NoMemory, three};
+use crate::methods::shrink_methods;
+use crate::types::shrink_types;
+use assembly_tree::Assembly;
+use il_lists::{Copies, NoMemory};
 use std::alloc::Global;
 
-/// A copy of the assembly with these methods and types.
-fn with_members(
-    alloc: Global,
-    a: &Assembly,
-    methods: Methods,
-    types: TypeDefs,
-) -> Result<Assembly, NoMemory>
-    ensures { IfOk result (λ c. c ≡ record a.now { methods = methods; types = types }) }
+/// Shrinks each body of the assembly.
+fn shrink_bodies(alloc: Global, a: &mut Assembly) -> Result<(), NoMemory>
+    ensures { OnOk result (IsShrunkAll a.old a.new) }
 {
-    let (manifest, externs, fields) = three(&a.manifest, &a.externs, &a.fields, alloc)?;
-    Ok(Assembly {
-        manifest,
-        externs,
-        fields,
-        methods,
-        types,
-    })
+    shrink_methods(alloc, &mut a.methods)?;
+    shrink_types(alloc, &mut a.types)
 }
 
-/// A copy of the assembly with each body shrunk.
-fn shrunk_assembly(alloc: Global, a: &Assembly) -> Result<Assembly, NoMemory>
-    ensures { IfOk result (IsShrunkAll a.now) }
+/// Makes a branch of the assembly's bodies short wherever it is in any choice of forms in which each short branch of the body
+/// reaches its target (III.3). Where there was no memory, the assembly may have lost methods and types.
+pub fn shrink_in_place(alloc: Global, a: &mut Assembly) -> Result<(), NoMemory>
+    requires { IsTrue (is_well_formed a.old) }
+    ensures shrunk { OnOk result (IsShrunkAll a.old a.new) }
+    ensures formed { OnOk result (IsTrue (is_well_formed a.new)) }
+    ensures weight { OnOk result (weight_of a.new ≡ weight_of a.old) }
+    ensures room { OnOk result (room a.new ≡ room a.old) }
 {
-    let methods = shrunk_methods(alloc, a.methods.as_slice())?;
-    let types = shrunk_types(alloc, a.types.as_slice())?;
-    with_members(alloc, a, methods, types)
+    shrink_bodies(alloc, a)
 }
 
 /// A copy of the assembly in whose bodies a branch is short wherever it is in any choice of forms in which each short branch
@@ -47,5 +39,7 @@ pub fn shrink_all(alloc: Global, a: &Assembly) -> Result<Assembly, NoMemory>
     ensures weight { IfOk result (λ c. weight_of c ≡ weight_of a.now) }
     ensures room { IfOk result (λ c. room c ≡ room a.now) }
 {
-    shrunk_assembly(alloc, a)
+    let mut shrunk = a.copy(alloc)?;
+    shrink_in_place(alloc, &mut shrunk)?;
+    Ok(shrunk)
 }

@@ -1,49 +1,38 @@
-ghost use Rattle.std.specs.Prelude.{◌≡◌, IsTrue, IfOk};
+ghost use Rattle.std.specs.Prelude.{◌≡◌, IsTrue, IfOk, OnOk};
 ghost use Rattle.assembly_tree.specs.Weight.{body_weight};
 ghost use Rattle.assembly_tree.specs.WellFormedBodies.{has_body_form, short_branches_reach};
 ghost use Rattle.il_shrink.specs.Shrunk.{IsShrunkCode, IsShrunk};
 ghost use Rattle.il_shrink.specs.ShrunkAll.{IsShrunkBody};
 
-use crate::forms::{chosen, first_forms};
-use assembly_tree::{Body, Code, Ins};
+use crate::forms::{choose, first_forms};
+use assembly_tree::{Body, Code};
 use branch_forms::shorten;
-use il_lists::{NoMemory, two};
+use il_lists::{Copies, NoMemory};
 use std::alloc::Global;
 
-/// A copy of the code with as many short branches as can be.
-fn shrunk_code(alloc: Global, code: &[Ins]) -> Result<Code, NoMemory>
-    ensures { IfOk result (IsShrunkCode code.now) }
+/// Gives the code as many short branches as can be.
+fn shrink_code(alloc: Global, code: &mut Code) -> Result<(), NoMemory>
+    ensures { OnOk result (IsShrunkCode code.old code.new) }
 {
-    let mut forms = first_forms(alloc, code)?;
+    let mut forms = first_forms(alloc, code.as_slice())?;
     shorten(forms.as_mut_slice());
-    chosen(alloc, code, forms.as_slice())
+    choose(alloc, code, forms.as_slice())
 }
 
-/// A copy of the body with as many short branches as can be.
-fn shrunk_body(alloc: Global, b: &Body) -> Result<Body, NoMemory>
-    ensures { IfOk result (IsShrunk b.now) }
+/// Gives the body as many short branches as can be.
+fn shrink_body(alloc: Global, b: &mut Body) -> Result<(), NoMemory>
+    ensures { OnOk result (IsShrunk b.old b.new) }
 {
-    let code = shrunk_code(alloc, b.code.as_slice())?;
-    let (locals, clauses) = two(&b.locals, &b.clauses, alloc)?;
-    Ok(Body {
-        bound: b.bound,
-        init: b.init,
-        locals,
-        code,
-        clauses,
-    })
+    shrink_code(alloc, &mut b.code)
 }
 
 /// The same where there may be no body.
-pub fn shrunk_option(alloc: Global, b: &Option<Body>) -> Result<Option<Body>, NoMemory>
-    ensures { IfOk result (IsShrunkBody b.now) }
+pub fn shrink_option(alloc: Global, b: &mut Option<Body>) -> Result<(), NoMemory>
+    ensures { OnOk result (IsShrunkBody b.old b.new) }
 {
     match b {
-        None => Ok(None),
-        Some(b) => {
-            let body = shrunk_body(alloc, b)?;
-            Ok(Some(body))
-        }
+        None => Ok(()),
+        Some(b) => shrink_body(alloc, b),
     }
 }
 
@@ -55,5 +44,7 @@ pub fn shrink(alloc: Global, b: &Body) -> Result<Body, NoMemory>
     ensures reach { IfOk result (λ c. IsTrue (short_branches_reach c.code)) }
     ensures weight { IfOk result (λ c. body_weight c ≡ body_weight b.now) }
 {
-    shrunk_body(alloc, b)
+    let mut shrunk = b.copy(alloc)?;
+    shrink_body(alloc, &mut shrunk)?;
+    Ok(shrunk)
 }

@@ -1,4 +1,4 @@
-ghost use Rattle.std.specs.Prelude.{◌≡◌, ◌≤◌, length, map, min, IfOk};
+ghost use Rattle.std.specs.Prelude.{◌≡◌, ◌≤◌, length, map, min, IfOk, IsTrue, OnOk};
 ghost use Rattle.assembly_tree.specs.WellFormedBodies.{operand_size};
 ghost use Rattle.branch_forms.specs.Forms.{shortened};
 ghost use Rattle.opcode_table.specs.declared.kind.OperandKind.TheVariants.{Switch};
@@ -8,7 +8,7 @@ ghost use Rattle.il_shrink.specs.Forms.{form_in, short_size, first_form, op_in, 
 use crate::branches::{long_form, short_form};
 use assembly_tree::{Code, Ins, Operand};
 use branch_forms::Form;
-use il_lists::{Copies, Items, NoMemory};
+use il_lists::{Copies, NoMemory};
 use opcode_table::{Op, OperandKind, kind_of, opcode_size};
 use std::alloc::Global;
 
@@ -103,6 +103,13 @@ fn op_in(op: Op, form: Form) -> Op
     }
 }
 
+/// Whether the opcode is in that form.
+fn keeps(op: Op, form: Form) -> bool
+    ensures { IsTrue result → op_in form op ≡ op }
+{
+    op_in(op, form) == op
+}
+
 /// A copy of the instruction in that form.
 fn in_form(alloc: Global, ins: &Ins, form: Form) -> Result<Ins, NoMemory>
     ensures { IfOk result (λ i. i ≡ in_form form ins.now) }
@@ -114,15 +121,17 @@ fn in_form(alloc: Global, ins: &Ins, form: Form) -> Result<Ins, NoMemory>
     })
 }
 
-/// A copy of the code in which each instruction is in its form.
-pub fn chosen(alloc: Global, code: &[Ins], forms: &[Form]) -> Result<Code, NoMemory>
-    requires { length code.now ≡ length forms.now }
-    ensures { IfOk result (λ c. c ≡ chosen code.now forms.now) }
+/// Gives each instruction its form.
+pub fn choose(alloc: Global, code: &mut Code, forms: &[Form]) -> Result<(), NoMemory>
+    requires { length code.old ≡ length forms.now }
+    ensures { OnOk result (code.new ≡ chosen code.old forms.now) }
 {
-    let mut made = Items::with_capacity(alloc, code.len())?;
-    for k in 0..code.len() {
-        let ins = in_form(alloc, &code[k], forms[k])?;
-        made.push(ins)?;
+    for k in 0..forms.len() {
+        let ins = code.at(k);
+        if !keeps(ins.op, forms[k]) {
+            let changed = in_form(alloc, ins, forms[k])?;
+            code.set(k, changed);
+        }
     }
-    Ok(made)
+    Ok(())
 }

@@ -8,8 +8,9 @@ mod branches;
 mod forms;
 mod laws;
 mod methods;
+mod order;
 mod types;
 
-pub use assemblies::shrink_all;
+pub use assemblies::{shrink_all, shrink_in_place};
 pub use bodies::shrink;
 pub use laws::{one_is_shrunk, short_ones_stay, valid_choices_join};

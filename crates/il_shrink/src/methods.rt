@@ -1,54 +1,28 @@
-ghost use Rattle.std.specs.Prelude.{◌≡◌, IfOk};
+ghost use Rattle.std.specs.Prelude.{OnOk};
 ghost use Rattle.il_shrink.specs.ShrunkAll.{IsShrunkMethod, AreShrunkMethods};
 
-use crate::bodies::shrunk_option;
-use assembly_tree::{Body, Method, Methods};
-use il_lists::{Items, NoMemory, six};
+use crate::bodies::shrink_option;
+use crate::order::turned;
+use assembly_tree::{Method, Methods};
+use il_lists::NoMemory;
 use std::alloc::Global;
 
-/// A copy of the method with `body` for its own.
-fn with_body(alloc: Global, m: &Method, body: Option<Body>) -> Result<Method, NoMemory>
-    ensures { IfOk result (λ n. n ≡ record m.now { body = body }) }
+/// Shrinks the method's body.
+fn shrink_method(alloc: Global, m: &mut Method) -> Result<(), NoMemory>
+    ensures { OnOk result (IsShrunkMethod m.old m.new) }
 {
-    let (name, sig, generics, params, overrides, attributes) = six(
-        &m.name,
-        &m.sig,
-        &m.generics,
-        &m.params,
-        &m.overrides,
-        &m.attributes,
-        alloc,
-    )?;
-    Ok(Method {
-        name,
-        flags: m.flags,
-        impl_flags: m.impl_flags,
-        sig,
-        generics,
-        params,
-        overrides,
-        entry: m.entry,
-        body,
-        attributes,
-    })
+    shrink_option(alloc, &mut m.body)
 }
 
-/// A copy of the method with its body shrunk.
-fn shrunk_method(alloc: Global, m: &Method) -> Result<Method, NoMemory>
-    ensures { IfOk result (IsShrunkMethod m.now) }
+/// Shrinks the bodies of the methods.
+pub fn shrink_methods(alloc: Global, methods: &mut Methods) -> Result<(), NoMemory>
+    ensures { OnOk result (AreShrunkMethods methods.old methods.new) }
 {
-    let body = shrunk_option(alloc, &m.body)?;
-    with_body(alloc, m, body)
-}
-
-/// Copies of the methods with their bodies shrunk.
-pub fn shrunk_methods(alloc: Global, methods: &[Method]) -> Result<Methods, NoMemory>
-    ensures { IfOk result (AreShrunkMethods methods.now) }
-{
-    let mut made = Items::with_capacity(alloc, methods.len())?;
-    for method in methods {
-        let shrunk = shrunk_method(alloc, method)?;
-        made.push(shrunk)?;
+    let mut rest = turned(alloc, methods)?;
+    while let Some(method) = rest.pop() {
+        let mut method = method;
+        shrink_method(alloc, &mut method)?;
+        methods.push(method)?;
     }
-    Ok(made)
+    Ok(())
 }

@@ -1,2 +1,3 @@
-pub mod FitsLemmas
 pub mod CommandLemmas
+pub mod FitsLemmas
+pub mod WrittenLemmas

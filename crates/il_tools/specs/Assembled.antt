@@ -24,6 +24,14 @@ abbrev pub IsChosen : Bool → Assembly → Assembly → Type 0
 IsChosen false meant written = written ≡ meant
 IsChosen true meant written = IsShrunkAll meant written
 
+-- this is written of the assembly that the source denotes, and is as large as that
+pub record IsWrittenOf (source : List ℕ) (optimize : Bool) (written : Assembly) : Type 0 where
+  pub meant : Assembly
+  pub denoted : IsAssemblyOf source meant
+  pub chosen : IsChosen optimize meant written
+  pub weight : weight_of written ≡ weight_of meant
+  pub room : room_in written ≡ room_in meant
+
 -- the image reads as the assembly that the source denotes, or as that with short branches where they are asked for; it is tidy, and
 -- has at most as many bytes as the assembly weighs
 pub record IsImageOf (source : List ℕ) (kind : Kind) (optimize : Bool) (image : List ℕ) : Type 0 where

@@ -2,9 +2,7 @@
 ghost use Rattle.std.specs.Prelude.{◌≡◌, ℕ, ◌≤◌, ◌^◌, length, IsTrue, IfOk, IfErr};
 ghost use Rattle.assembly_tree.specs.WellFormed.{is_well_formed};
 ghost use Rattle.source_assembly.specs.Reading.{IsAssemblyOf};
-ghost use Rattle.assembly_tree.specs.Room.{room};
-ghost use Rattle.assembly_tree.specs.Weight.{weight_of};
-ghost use Rattle.il_tools.specs.Assembled.{identifier_of, IsChosen, IsImageOf, IsRefused};
+ghost use Rattle.il_tools.specs.Assembled.{identifier_of, IsImageOf, IsRefused, IsWrittenOf};
 ghost use Rattle.il_tools.specs.Commands.{GivesImage, MeritsImage};
 ghost use Rattle.il_tools.specs.Texts.{content_text};
 ghost use Rattle.run_endings.specs.Ends.{says_only};
@@ -14,7 +12,7 @@ use crate::kept::KeptTree;
 use crate::texts::content_message;
 use assembly_tree::Assembly;
 use il_base::{Bytes, NoMemory, Text};
-use il_shrink::shrink_all;
+use il_shrink::shrink_in_place;
 use image_writer::{WriteFault, write};
 use pe_layout::Kind;
 use run_endings::{Ending, Written, makes, says};
@@ -73,7 +71,8 @@ fn image_of(
 {
     match assembly_of(alloc, source) {
         Ok(assembly) => {
-            let image = image_of_meant(alloc, source, &assembly, kind, optimize);
+            let mut assembly = assembly;
+            let image = image_of_meant(alloc, source, &mut assembly, kind, optimize);
             kept.keep(assembly);
             image
         }
@@ -82,43 +81,40 @@ fn image_of(
     }
 }
 
-/// The image of the assembly that a source denotes, with short branches where they are asked for.
+/// The image of the assembly that a source denotes; where short branches are asked for, its bodies are given them first.
+#[tactic(auto, using(crate::proofs::WrittenLemmas::as_it_is, crate::proofs::WrittenLemmas::with_short_branches))]
 fn image_of_meant(
     alloc: Global,
     source: &[u8],
-    meant: &Assembly,
+    meant: &mut Assembly,
     kind: Kind,
     optimize: bool,
 ) -> Result<Bytes, ImageFault>
-    requires denoted { IsAssemblyOf source.now meant.now }
-    requires formed { IsTrue (is_well_formed meant.now) }
+    requires denoted { IsAssemblyOf source.now meant.old }
+    requires formed { IsTrue (is_well_formed meant.old) }
     ensures image { IfOk result (IsImageOf source.now kind optimize) }
     ensures fault { IfErr result (IsRefused source.now) }
 {
     if optimize {
-        match shrink_all(alloc, meant) {
-            Ok(shrunk) => image_of_assembly(alloc, source, meant, &shrunk, kind, true),
+        match shrink_in_place(alloc, meant) {
+            Ok(()) => image_of_written(alloc, source, meant, kind, true),
             Err(NoMemory) => Err(ImageFault::NoMemory),
         }
     } else {
-        image_of_assembly(alloc, source, meant, meant, kind, false)
+        image_of_written(alloc, source, meant, kind, false)
     }
 }
 
 /// The image of what is written of the assembly that a source denotes. Its identifier is the front of the source's SHA-256.
-fn image_of_assembly(
+fn image_of_written(
     alloc: Global,
     source: &[u8],
-    meant: &Assembly,
     written: &Assembly,
     kind: Kind,
     optimize: bool,
 ) -> Result<Bytes, ImageFault>
-    requires denoted { IsAssemblyOf source.now meant.now }
+    requires written { IsWrittenOf source.now optimize written.now }
     requires formed { IsTrue (is_well_formed written.now) }
-    requires chosen { IsChosen optimize meant.now written.now }
-    requires weight { weight_of written.now ≡ weight_of meant.now }
-    requires room { room written.now ≡ room meant.now }
     ensures image { IfOk result (IsImageOf source.now kind optimize) }
     ensures fault { IfErr result (IsRefused source.now) }
 {

@@ -8,6 +8,7 @@
 //! | `+TEXT`, `times N TEXT`, `blanks N`, `hex BYTES` | adds TEXT, TEXT or blanks so many times, or bytes |
 //! | `watch NAME..` | which files are looked at after a run |
 //! | `run WORDS` | runs the program over the files (`''` is an empty word): the status with the watched files that it made or changed, and what it said |
+//! | `holds BYTES WORDS` | runs the program, and prints how often the first watched file that it made or changed has the bytes |
 //! | `short N WORDS` | the same where each call takes at most N bytes |
 //! | `shelf N WORDS` | the first, second, .. call of the shelf fails, each call taking at most N bytes, until a run ends without a failure |
 //! | `console N WORDS` | the same for calls of the console |

@@ -17,6 +17,15 @@ pub struct Plan {
     pub console: Option<u64>,
 }
 
+impl Plan {
+    /// No call fails, and each takes what it is given.
+    pub const ANY: Plan = Plan {
+        most: None,
+        shelf: None,
+        console: None,
+    };
+}
+
 /// What a run leaves.
 #[derive(Drop)]
 pub struct Outcome {

@@ -49,6 +49,10 @@ fn play_line(rt: &HostRuntime, stores: &mut Stores, line: &str) -> Result<(), Se
             Ok(())
         }
         "run" => show_run(rt, stores, rest, None),
+        "holds" => match rest.split_once(' ') {
+            Some((digits, words)) => show_held(rt, stores, digits, words),
+            None => Err(SessionFault::Meaningless),
+        },
         _ => play_counted(rt, stores, verb, rest),
     }
 }
@@ -83,6 +87,12 @@ fn play_counted(
 
 /// Adds the bytes that pairs of digits spell.
 fn add_hex(alloc: Global, stores: &mut Stores, digits: &str) -> Result<(), SessionFault> {
+    let bytes = bytes_of(alloc, digits)?;
+    stores.add(bytes.as_slice(), 1)
+}
+
+/// The bytes that pairs of digits spell.
+fn bytes_of(alloc: Global, digits: &str) -> Result<Bytes, SessionFault> {
     let mut bytes = Bytes::new(alloc);
     let mut high: Option<u8> = None;
     for digit in digits.bytes() {
@@ -99,7 +109,7 @@ fn add_hex(alloc: Global, stores: &mut Stores, digits: &str) -> Result<(), Sessi
             None => high = Some(value),
         }
     }
-    stores.add(bytes.as_slice(), 1)
+    Ok(bytes)
 }
 
 /// Adds a text so many times; a thousand of them at once, since there may be many.
@@ -139,11 +149,7 @@ fn show_run(
     most: Option<usize>,
 ) -> Result<(), SessionFault> {
     let words = words_of(rt.alloc(), line)?;
-    let plan = Plan {
-        most,
-        shelf: None,
-        console: None,
-    };
+    let plan = Plan { most, ..Plan::ANY };
     let left = left_by(rt.alloc(), stores, &words, plan)?;
     let head = match most {
         Some(most) => format!(in rt.alloc(); "> {line} ({most} bytes a call)")?,
@@ -152,6 +158,35 @@ fn show_run(
     };
     say(rt, head.as_str())?;
     show_outcome(rt, stores, &left)
+}
+
+/// Runs the program, and prints how often the file that was made has these bytes.
+fn show_held(
+    rt: &HostRuntime,
+    stores: &Stores,
+    digits: &str,
+    line: &str,
+) -> Result<(), SessionFault> {
+    let bytes = bytes_of(rt.alloc(), digits)?;
+    let words = words_of(rt.alloc(), line)?;
+    let left = left_by(rt.alloc(), stores, &words, Plan::ANY)?;
+    let count = match left.made(stores) {
+        Some((_, file)) => times_in(file, bytes.as_slice()),
+        None => 0,
+    };
+    let text = format!(in rt.alloc(); "> {line}: {count} times {digits}")?;
+    say(rt, text.as_str())
+}
+
+/// How often bytes stand in a file.
+fn times_in(file: &[u8], bytes: &[u8]) -> u64 {
+    let mut count = 0u64;
+    for start in 0..file.len() {
+        if file[start..].starts_with(bytes) {
+            count = count.saturating_add(1);
+        }
+    }
+    count
 }
 
 /// Prints what a run left.

@@ -1,0 +1,3 @@
+pub mod Members
+pub mod OneReport
+pub mod SortedLists
