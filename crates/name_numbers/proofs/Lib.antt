@@ -1,0 +1,9 @@
+pub mod BothSorts
+pub mod Chaining
+pub mod Fronts
+pub mod Giving
+pub mod Growing
+pub mod Naming
+pub mod Noting
+pub mod Passes
+pub mod Roots

@@ -1,0 +1,5 @@
+pub mod Chains
+pub mod Names
+pub mod Numbering
+pub mod Table
+pub mod Texts

@@ -1,0 +1,4 @@
+pub mod Encloses
+pub mod Enclosing
+pub mod Owning
+pub mod Ranges
