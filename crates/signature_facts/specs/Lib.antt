@@ -1,0 +1,4 @@
+pub mod Facts
+pub mod Owners
+pub mod Scanning
+pub mod Sizes

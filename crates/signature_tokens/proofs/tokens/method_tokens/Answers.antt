@@ -1,0 +1,20 @@
+use Rattle.std.proofs.Common.{List}
+use Rattle.std.specs.List.{flat_map}
+use Rattle.type_terms.specs.declared.term.SigType.{SigType}
+use Rattle.sig_codec.specs.Reading.{whole_method}
+use Rattle.image_model.specs.Tokens.{marked, type_tokens, sig_tokens}
+use Rattle.signature_facts.specs.Facts.{method_facts}
+use Rattle.signature_tokens.specs.Collecting.{method_at}
+use Rattle.signature_tokens.proofs.Answering.{nameless, all_named, marked_bounded, none_told, some_told}
+use Rattle.signature_tokens.proofs.Collected.{whole_method_collected}
+use Rattle.signature_tokens.proofs.tokens.method_tokens.Goals as goal
+
+pub returns-then-is_none : goal.returns-then-is_none
+returns-then-is_none c =
+    none_told (method_facts nameless) sig_tokens (whole_method marked c.args.bytes.now) c.scan_method.result c.is_none.result (c.scan_method.ensures.read nameless marked all_named marked_bounded) c.is_none.ensures c.if-is_none.true
+    c.args.into.now
+
+pub returns : goal.returns
+returns c =
+    some_told (method_facts nameless) sig_tokens (whole_method marked c.args.bytes.now) c.scan_method.result c.is_none.result (c.scan_method.ensures.read nameless marked all_named marked_bounded) c.is_none.ensures c.if-is_none.false
+    c.args.into.now c.method_at.new.into c.method_at.result c.is_walked.result (method_at c.args.into.now c.args.bytes.now) c.method_at.ensures c.is_walked.ensures (whole_method_collected c.args.into.now c.args.bytes.now)

@@ -1,0 +1,20 @@
+use Rattle.std.proofs.Common.{List}
+use Rattle.std.specs.List.{flat_map}
+use Rattle.type_terms.specs.declared.term.SigType.{SigType}
+use Rattle.sig_codec.specs.Reading.{whole_type}
+use Rattle.image_model.specs.Tokens.{marked, type_tokens, sig_tokens}
+use Rattle.signature_facts.specs.Facts.{type_facts}
+use Rattle.signature_tokens.specs.Collecting.{type_at}
+use Rattle.signature_tokens.proofs.Answering.{nameless, all_named, marked_bounded, none_told, some_told}
+use Rattle.signature_tokens.proofs.Collected.{whole_type_collected}
+use Rattle.signature_tokens.proofs.tokens.type_tokens.Goals as goal
+
+pub returns-then-is_none : goal.returns-then-is_none
+returns-then-is_none c =
+    none_told (type_facts nameless) type_tokens (whole_type marked c.args.bytes.now) c.scan_type.result c.is_none.result (c.scan_type.ensures.read nameless marked all_named marked_bounded) c.is_none.ensures c.if-is_none.true
+    c.args.into.now
+
+pub returns : goal.returns
+returns c =
+    some_told (type_facts nameless) type_tokens (whole_type marked c.args.bytes.now) c.scan_type.result c.is_none.result (c.scan_type.ensures.read nameless marked all_named marked_bounded) c.is_none.ensures c.if-is_none.false
+    c.args.into.now c.type_at.new.into c.type_at.result c.is_walked.result (type_at 100 c.args.into.now c.args.bytes.now) c.type_at.ensures c.is_walked.ensures (whole_type_collected c.args.into.now c.args.bytes.now)
