@@ -66,7 +66,7 @@ methods_number : (k : ℕ) → Stands n.METHOD_ATTR (item p.METHOD_ATTR_FLAGS (b
 unfolding ilasm rule_by
 methods_number k = (refl, (refl, (refl, (refl, (refl, (refl, tt)))), tt))
 
-methods_grow : (k : ℕ) → Grows (Nonterminal n.METHOD_ATTR_STAR ∷ []) (star p.METHOD_ATTR_STAR_MORE p.METHOD_ATTR_STAR_END (flag_items n.METHOD_ATTR p.METHOD_ATTR_FLAGS method_words k) none)
+pub methods_grow : (k : ℕ) → Grows (Nonterminal n.METHOD_ATTR_STAR ∷ []) (star p.METHOD_ATTR_STAR_MORE p.METHOD_ATTR_STAR_END (flag_items n.METHOD_ATTR p.METHOD_ATTR_FLAGS method_words k) none)
 methods_grow k = star_grows methods_row (flag_items n.METHOD_ATTR p.METHOD_ATTR_FLAGS method_words k) (row_stands n.METHOD_ATTR p.METHOD_ATTR_FLAGS method_words methods_words methods_number k) [] none tt
 
 -- ---- implementations
@@ -83,7 +83,7 @@ implementations_number : (k : ℕ) → Stands n.IMPL_ATTR (item p.IMPL_ATTR_FLAG
 unfolding ilasm rule_by
 implementations_number k = (refl, (refl, (refl, (refl, (refl, (refl, tt)))), tt))
 
-implementations_grow : (k : ℕ) → Grows (Nonterminal n.IMPL_ATTR_STAR ∷ []) (star p.IMPL_ATTR_STAR_MORE p.IMPL_ATTR_STAR_END (flag_items n.IMPL_ATTR p.IMPL_ATTR_FLAGS implementation_words k) none)
+pub implementations_grow : (k : ℕ) → Grows (Nonterminal n.IMPL_ATTR_STAR ∷ []) (star p.IMPL_ATTR_STAR_MORE p.IMPL_ATTR_STAR_END (flag_items n.IMPL_ATTR p.IMPL_ATTR_FLAGS implementation_words k) none)
 implementations_grow k = star_grows implementations_row (flag_items n.IMPL_ATTR p.IMPL_ATTR_FLAGS implementation_words k) (row_stands n.IMPL_ATTR p.IMPL_ATTR_FLAGS implementation_words implementations_words implementations_number k) [] none tt
 
 -- ---- parameters
@@ -100,7 +100,7 @@ parameters_number : (k : ℕ) → Stands n.PARAM_ATTR (item p.PARAM_ATTR_FLAGS (
 unfolding ilasm rule_by
 parameters_number k = (refl, (refl, (refl, (refl, (refl, (refl, tt)))), tt))
 
-parameters_grow : (k : ℕ) → Grows (Nonterminal n.PARAM_ATTR_STAR ∷ []) (star p.PARAM_ATTR_STAR_MORE p.PARAM_ATTR_STAR_END (flag_items n.PARAM_ATTR p.PARAM_ATTR_FLAGS parameter_words k) none)
+pub parameters_grow : (k : ℕ) → Grows (Nonterminal n.PARAM_ATTR_STAR ∷ []) (star p.PARAM_ATTR_STAR_MORE p.PARAM_ATTR_STAR_END (flag_items n.PARAM_ATTR p.PARAM_ATTR_FLAGS parameter_words k) none)
 parameters_grow k = star_grows parameters_row (flag_items n.PARAM_ATTR p.PARAM_ATTR_FLAGS parameter_words k) (row_stands n.PARAM_ATTR p.PARAM_ATTR_FLAGS parameter_words parameters_words parameters_number k) [] none tt
 
 -- ---- properties
@@ -117,7 +117,7 @@ properties_number : (k : ℕ) → Stands n.PROPERTY_ATTR (item p.PROPERTY_ATTR_F
 unfolding ilasm rule_by
 properties_number k = (refl, (refl, (refl, (refl, (refl, (refl, tt)))), tt))
 
-properties_grow : (k : ℕ) → Grows (Nonterminal n.PROPERTY_ATTR_STAR ∷ []) (star p.PROPERTY_ATTR_STAR_MORE p.PROPERTY_ATTR_STAR_END (flag_items n.PROPERTY_ATTR p.PROPERTY_ATTR_FLAGS property_words k) none)
+pub properties_grow : (k : ℕ) → Grows (Nonterminal n.PROPERTY_ATTR_STAR ∷ []) (star p.PROPERTY_ATTR_STAR_MORE p.PROPERTY_ATTR_STAR_END (flag_items n.PROPERTY_ATTR p.PROPERTY_ATTR_FLAGS property_words k) none)
 properties_grow k = star_grows properties_row (flag_items n.PROPERTY_ATTR p.PROPERTY_ATTR_FLAGS property_words k) (row_stands n.PROPERTY_ATTR p.PROPERTY_ATTR_FLAGS property_words properties_words properties_number k) [] none tt
 
 -- ---- typars
@@ -137,7 +137,7 @@ typars_number k = (refl, (refl, (refl, (refl, (refl, (refl, tt)))), tt))
 pub typars_items : (k : ℕ) → EachStands n.TYPAR_ATTR (flag_items n.TYPAR_ATTR p.TYPAR_ATTR_FLAGS typar_words k)
 typars_items k = row_stands n.TYPAR_ATTR p.TYPAR_ATTR_FLAGS typar_words typars_words typars_number k
 
-typars_grow : (k : ℕ) → Grows (Nonterminal n.TYPAR_ATTR_STAR ∷ []) (star p.TYPAR_ATTR_STAR_MORE p.TYPAR_ATTR_STAR_END (flag_items n.TYPAR_ATTR p.TYPAR_ATTR_FLAGS typar_words k) none)
+pub typars_grow : (k : ℕ) → Grows (Nonterminal n.TYPAR_ATTR_STAR ∷ []) (star p.TYPAR_ATTR_STAR_MORE p.TYPAR_ATTR_STAR_END (flag_items n.TYPAR_ATTR p.TYPAR_ATTR_FLAGS typar_words k) none)
 typars_grow k = star_grows typars_row (flag_items n.TYPAR_ATTR p.TYPAR_ATTR_FLAGS typar_words k) (row_stands n.TYPAR_ATTR p.TYPAR_ATTR_FLAGS typar_words typars_words typars_number k) [] none tt
 
 -- ---- assemblies
@@ -154,7 +154,7 @@ assemblies_number : (k : ℕ) → Stands n.ASSEMBLY_ATTR (item p.ASSEMBLY_ATTR_F
 unfolding ilasm rule_by
 assemblies_number k = (refl, (refl, (refl, (refl, (refl, (refl, tt)))), tt))
 
-assemblies_grow : (k : ℕ) → Grows (Nonterminal n.ASSEMBLY_ATTR_STAR ∷ []) (star p.ASSEMBLY_ATTR_STAR_MORE p.ASSEMBLY_ATTR_STAR_END (flag_items n.ASSEMBLY_ATTR p.ASSEMBLY_ATTR_FLAGS assembly_words k) none)
+pub assemblies_grow : (k : ℕ) → Grows (Nonterminal n.ASSEMBLY_ATTR_STAR ∷ []) (star p.ASSEMBLY_ATTR_STAR_MORE p.ASSEMBLY_ATTR_STAR_END (flag_items n.ASSEMBLY_ATTR p.ASSEMBLY_ATTR_FLAGS assembly_words k) none)
 assemblies_grow k = star_grows assemblies_row (flag_items n.ASSEMBLY_ATTR p.ASSEMBLY_ATTR_FLAGS assembly_words k) (row_stands n.ASSEMBLY_ATTR p.ASSEMBLY_ATTR_FLAGS assembly_words assemblies_words assemblies_number k) [] none tt
 
 -- ---- types
@@ -188,7 +188,7 @@ types_stand k =
     (said_stand n.CLASS_ATTR k nested_item nested_access nested_words))
     (row_stands n.CLASS_ATTR p.CLASS_ATTR_FLAGS type_words types_words types_number (without_bits 7 k))
 
-types_grow : (k : ℕ) → Grows (Nonterminal n.CLASS_ATTR_STAR ∷ []) (star p.CLASS_ATTR_STAR_MORE p.CLASS_ATTR_STAR_END (type_flag_items k) none)
+pub types_grow : (k : ℕ) → Grows (Nonterminal n.CLASS_ATTR_STAR ∷ []) (star p.CLASS_ATTR_STAR_MORE p.CLASS_ATTR_STAR_END (type_flag_items k) none)
 types_grow k = star_grows types_row (type_flag_items k) (types_stand k) [] none tt
 
 pub flags_stand : FlagsStand

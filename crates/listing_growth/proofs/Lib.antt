@@ -4,3 +4,11 @@ mod References
 mod Values
 mod Flags
 mod Members
+mod Formed
+mod Accessors
+mod Opcodes
+mod Bodies
+mod Methods
+mod Classes
+mod Manifests
+mod Canon

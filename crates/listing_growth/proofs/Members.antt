@@ -28,7 +28,7 @@ use Rattle.listing_growth.proofs.Types.{types_stand, owners_stand}
 use Rattle.listing_growth.proofs.Values.{constant_grows}
 use Rattle.listing_growth.proofs.Flags.{fields_row, fields_items, typars_row, typars_items}
 
-spec_commas : IsCommas n.SPEC n.COMMA_SPEC_STAR p.COMMA_SPEC p.COMMA_SPEC_STAR_MORE p.COMMA_SPEC_STAR_END n.COMMA_SPEC
+pub spec_commas : IsCommas n.SPEC n.COMMA_SPEC_STAR p.COMMA_SPEC p.COMMA_SPEC_STAR_MORE p.COMMA_SPEC_STAR_END n.COMMA_SPEC
 unfolding ilasm rule_by
 spec_commas = record { row = record { more_head = refl; more_body = refl; end_head = refl; end_body = refl }; head = refl; body = refl }
 
@@ -44,7 +44,7 @@ typars_option : IsOption n.TYPARS_OPT p.TYPARS_OPT_SOME p.TYPARS_OPT_NONE (Nonte
 unfolding ilasm rule_by
 typars_option = record { some_head = refl; some_body = refl; none_head = refl; none_body = refl }
 
-offset_option : IsOption n.BRACKETED_INT_OPT p.BRACKETED_INT_OPT_SOME p.BRACKETED_INT_OPT_NONE (Nonterminal n.BRACKETED_INT ∷ [])
+pub offset_option : IsOption n.BRACKETED_INT_OPT p.BRACKETED_INT_OPT_SOME p.BRACKETED_INT_OPT_NONE (Nonterminal n.BRACKETED_INT ∷ [])
 unfolding ilasm rule_by
 offset_option = record { some_head = refl; some_body = refl; none_head = refl; none_body = refl }
 
@@ -77,7 +77,7 @@ module _ (externs : List ExternAssembly) where
     tt,
   )
 
-  typar_stands : (g : Generic) → generic_stands g ≡ true → Stands n.TYPAR (typar externs g)
+  pub typar_stands : (g : Generic) → generic_stands g ≡ true → Stands n.TYPAR (typar externs g)
   unfolding ilasm rule_by
   typar_stands g h = (
     refl,

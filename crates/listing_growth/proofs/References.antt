@@ -85,11 +85,11 @@ name_stands text = name_by text (bytes_eq text (codes ".ctor")) (bytes_eq text (
 
 -- ---- arguments
 
-flags_row : IsRow n.PARAM_ATTR_STAR n.PARAM_ATTR p.PARAM_ATTR_STAR_MORE p.PARAM_ATTR_STAR_END
+pub flags_row : IsRow n.PARAM_ATTR_STAR n.PARAM_ATTR p.PARAM_ATTR_STAR_MORE p.PARAM_ATTR_STAR_END
 unfolding ilasm rule_by
 flags_row = record { more_head = refl; more_body = refl; end_head = refl; end_body = refl }
 
-name_option : IsOption n.NAME_OPT p.NAME_OPT_SOME p.NAME_OPT_NONE (body_of p.NAME_OPT_SOME)
+pub name_option : IsOption n.NAME_OPT p.NAME_OPT_SOME p.NAME_OPT_NONE (body_of p.NAME_OPT_SOME)
 unfolding ilasm rule_by
 name_option = record { some_head = refl; some_body = refl; none_head = refl; none_body = refl }
 

@@ -68,7 +68,7 @@ bytes_option : IsOption n.EQ_BYTES_OPT p.EQ_BYTES_OPT_SOME p.EQ_BYTES_OPT_NONE (
 unfolding ilasm rule_by
 bytes_option = record { some_head = refl; some_body = refl; none_head = refl; none_body = refl }
 
-custom_stands : (externs : List ExternAssembly) (a : Attribute) → method_stands a.constructor ≡ true → Stands n.CUSTOM (custom externs a)
+pub custom_stands : (externs : List ExternAssembly) (a : Attribute) → method_stands a.constructor ≡ true → Stands n.CUSTOM (custom externs a)
 unfolding ilasm rule_by
 custom_stands externs a h =
     let r = method_ref_stands externs a.constructor h in

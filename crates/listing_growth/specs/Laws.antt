@@ -1,5 +1,5 @@
 -- Pieces of a canonical source stand for their nonterminals.
-use Rattle.std.specs.Prelude.{ℕ, ◌≡◌, true, List, [], ◌∷◌, Some}
+use Rattle.std.specs.Prelude.{ℕ, ◌≡◌, true, List, [], ◌∷◌, Some, IsTrue}
 use Rattle.ilasm_grammar.specs.declared.productions.TheConstants as p
 use Rattle.ilasm_grammar.specs.declared.symbol.Symbol.TheVariants.{Nonterminal}
 use Rattle.ilasm_grammar.specs.declared.nonterminals.TheConstants as n
@@ -7,11 +7,14 @@ use Rattle.type_terms.specs.declared.reference.FieldRef.{FieldRef}
 use Rattle.type_terms.specs.declared.reference.MethodRef.{MethodRef}
 use Rattle.type_terms.specs.declared.term.Owner.{Owner}
 use Rattle.type_terms.specs.declared.term.SigType.{SigType}
+use Rattle.assembly_tree.specs.WellFormed.{is_well_formed}
+use Rattle.assembly_tree.specs.declared.assembly.Assembly.{Assembly}
 use Rattle.assembly_tree.specs.declared.assembly.ExternAssembly.{ExternAssembly}
 use Rattle.assembly_tree.specs.declared.members.Attribute.{Attribute}
 use Rattle.assembly_tree.specs.declared.members.Constant as constant
 use Rattle.assembly_tree.specs.declared.members.Field.{Field}
 use Rattle.assembly_tree.specs.declared.members.Generic.{Generic}
+use Rattle.listing_model.specs.Canon.{canon}
 use Rattle.listing_model.specs.Grown.{head_of, body_of, Grows}
 use Rattle.listing_model.specs.Flags.{flag_items, type_flag_items, field_words, method_words, implementation_words, parameter_words, property_words, typar_words, assembly_words}
 use Rattle.listing_model.specs.Shown.{Item, none, star}
@@ -19,6 +22,7 @@ use Rattle.listing_model.specs.References.{method_ref, field_ref}
 use Rattle.listing_model.specs.Types.{type_of, owner}
 use Rattle.listing_model.specs.Members.{typar, field}
 use Rattle.listing_model.specs.Values.{constant_item, custom, data_line}
+use Rattle.listing_growth.specs.Held.{is_held}
 use Rattle.listing_growth.specs.Standing.{can_stand, owner_can_stand, method_stands, field_stands, generic_stands}
 
 -- a production of the nonterminal, over its body
@@ -56,3 +60,7 @@ pub record FlagsStand : Type 0 where
 pub record MembersStand : Type 0 where
   pub generics : (externs : List ExternAssembly) (g : Generic) → generic_stands g ≡ true → Stands n.TYPAR (typar externs g)
   pub fields : (externs : List ExternAssembly) (k : ℕ) (f : Field) → can_stand f.of ≡ true → Stands n.FIELD (field externs k f)
+
+-- the canonical source of a well-formed assembly is one, whose values are such as a tree holds
+abbrev pub CanonStands : Type 0
+CanonStands = (a : Assembly) → IsTrue (is_well_formed a) → IsTrue (is_held a) → Grows (Nonterminal n.SOURCE ∷ []) (canon a)

@@ -1,5 +1,5 @@
 //! What follows of the definitions: laws, each as the contract of a function that does nothing when it is called.
-ghost use Rattle.listing_growth.specs.Laws.{FlagsStand, MembersStand, ReferencesStand, TermsStand, ValuesStand};
+ghost use Rattle.listing_growth.specs.Laws.{CanonStands, FlagsStand, MembersStand, ReferencesStand, TermsStand, ValuesStand};
 
 /// Types and owners, as a listing writes them, are derived from the nonterminals for types and for what may be a name or a type
 /// (ECMA-335 II.7.1).
@@ -30,4 +30,11 @@ pub fn flags_stand()
 #[tactic(auto, using(crate::proofs::Members::members_stand))]
 pub fn members_stand()
     ensures { MembersStand }
+{}
+
+/// The canonical source of a well-formed assembly is derived from the nonterminal of sources, where its values are such as a tree
+/// in memory holds (ECMA-335 II.5, II.6).
+#[tactic(auto, using(crate::proofs::Canon::canon_stands))]
+pub fn canon_is_derived()
+    ensures { CanonStands }
 {}
