@@ -1,7 +1,7 @@
 -- The types that a type nests are fewer than those of a list that it is in.
 use Rattle.std.proofs.Common.{◌≡◌, ◌∙◌, ap, ℕ, ◌+◌, ◌<◌, List, [], ◌∷◌, ◌++◌, reverse, arith}
 use Rattle.std.specs.List.{sum_by}
-use Rattle.std.proofs.lemmas.List.Sums.{sum-map, sum_by-append, sum_by-cons}
+use Rattle.std.proofs.lemmas.List.Sums.{sum-map, sum_by-append}
 use Rattle.assembly_tree.specs.declared.typedef.TypeDef.{TypeDef}
 use Rattle.assembly_tree.specs.declared.typedef.TypeDef.TheFolds.{fold_out-TypeDef}
 use Rattle.assembly_tree.specs.declared.typedef.TypeDef.TheViews.{out-TypeDef}

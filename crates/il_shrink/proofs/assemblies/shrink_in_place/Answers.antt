@@ -1,4 +1,3 @@
-use Rattle.std.proofs.Common.{◌≡◌, IsTrue}
 use Rattle.il_shrink.proofs.Formed.{assembly_formed}
 use Rattle.il_shrink.proofs.Results.{on_ok}
 use Rattle.il_shrink.proofs.Sums.{weight_same, room_same}

@@ -1,5 +1,4 @@
-use Rattle.std.proofs.Common.{◌≡◌, ◌∙◌, ap, subst}
-use Rattle.assembly_tree.specs.declared.body.Body.{Body}
+use Rattle.std.proofs.Common.{◌∙◌, ap}
 use Rattle.assembly_tree.specs.Weight.{body_weight}
 use Rattle.assembly_tree.specs.WellFormedBodies.{has_body_form}
 use Rattle.il_shrink.proofs.Kept.{form_kept, weight_kept}

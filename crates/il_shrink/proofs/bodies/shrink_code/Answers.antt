@@ -1,9 +1,7 @@
-use Rattle.std.proofs.Common.{◌≡◌, ◌∙◌, sym, ap, List, map}
+use Rattle.std.proofs.Common.{◌≡◌, ◌∙◌, sym, ap, map}
 use Rattle.std.specs.List.{list_all}
 use Rattle.branch_forms.specs.Forms.{has_bytes, shortened}
-use Rattle.assembly_tree.specs.declared.body.Ins.{Ins}
-use Rattle.il_shrink.specs.Forms.{first_form, chosen}
-use Rattle.il_shrink.specs.Shrunk.{IsShrunkCode}
+use Rattle.il_shrink.specs.Forms.{first_form}
 use Rattle.il_shrink.proofs.Codes.{firsts_short, firsts_have_bytes}
 use Rattle.il_shrink.proofs.Results.{on_ok}
 use Rattle.il_shrink.proofs.Shrinking.{slice_is, slice_length, shrunk_from}

@@ -1,4 +1,4 @@
-use Rattle.std.proofs.Common.{◌≡◌, ◌∙◌, true, length, rules, arith}
+use Rattle.std.proofs.Common.{◌≡◌, ◌∙◌, true, rules, arith}
 use Rattle.branch_forms.specs.declared.form.Form.TheVariants.{Fixed}
 use Rattle.il_shrink.proofs.Choosing.{all_done, low_at, next_kept, next_set}
 use Rattle.il_shrink.proofs.forms.choose.Goals as goal
