@@ -24,50 +24,25 @@ use Rattle.code_flow.specs.Methods.{Declared}
 use Rattle.stack_effects.specs.RowMeanings.{MeansFrame, IsFrameWithin}
 use Rattle.stack_effects.proofs.Growing.{all_kept}
 
--- ---- a class with its own parameters
-
-variables_end : (k n : ℕ) → variables k (suc n) ≡ variables k n ++ type.Var (k + n) ∷ []
-variables_end k zero = let e : k ≡ k + 0 = omega arith in ap (λ j. type.Var j ∷ []) e
-variables_end k (suc n) =
-    let e : k + 1 + n ≡ k + suc n = omega arith in
-    ap (λ l. type.Var k ∷ l) (variables_end (k + 1) n ∙ ap (λ j. variables (k + 1) n ++ type.Var j ∷ []) e)
-
--- one more parameter in the loop
-pub parameters_more : (k : ℕ) (ts later : List SigType) → ts ≡ variables 0 k → later ≡ ts ++ type.Var k ∷ [] → later ≡ variables 0 (k + 1)
-parameters_more k ts later is e =
-    let z : 0 + k ≡ k = omega arith in
-    let more : variables 0 (k + 1) ≡ variables 0 k ++ type.Var k ∷ [] =
-    ap (variables 0) (add-one k) ∙ variables_end 0 k ∙ ap (λ j. variables 0 k ++ type.Var j ∷ []) z in
-    e ∙ ap (λ l. l ++ type.Var k ∷ []) is ∙ sym more
-
-pub own_generic : (path : List TypeId) (n : ℕ) → (n ≡ 0 → ⊥) → own_class path n ≡ type.Inst false (record { scope = Here; path = path }) (variables 0 n)
-own_generic path zero h = absurd (h refl)
-own_generic path (suc n) h = refl
-
 -- ---- argument 0
 
 pointer_normal : (r : Reading) (t : SigType) → normal r (type.ByRef t) ≡ type.ByRef (normal r t)
 unfolding normal
 pointer_normal r t = fold-ByRef SigType SigType (normal_owner_step r) (normal_step r) t
 
-pub this_object : (a : Content) (ns : List Node) (k : ℕ) (own t : SigType) → own ≡ t → Has ns k (type_in (hierarchy a) own) → is_reference (term_of ns k) ≡ true → Has ns k (as_this (type_in (hierarchy a) t))
-this_object a ns k own t e h is =
-    let of : term_of ns k ≡ type_in (hierarchy a) t = h.term ∙ ap (type_in (hierarchy a)) e in
-    let same : as_this (type_in (hierarchy a) t) ≡ type_in (hierarchy a) t =
-    ap (λ b. if b then type_in (hierarchy a) t else type.ByRef (type_in (hierarchy a) t)) (ap is_reference (sym of) ∙ is) in
-    record { within = h.within; term = of ∙ sym same }
+pub this_object : (a : Content) (ns : List Node) (k : ℕ) (own : SigType) → Has ns k (type_in (hierarchy a) own) → is_reference (term_of ns k) ≡ true → Has ns k (as_this (type_in (hierarchy a) own))
+this_object a ns k own h is =
+    let same : as_this (type_in (hierarchy a) own) ≡ type_in (hierarchy a) own =
+    ap (λ b. if b then type_in (hierarchy a) own else type.ByRef (type_in (hierarchy a) own)) (ap is_reference (sym h.term) ∙ is) in
+    record { within = h.within; term = h.term ∙ sym same }
 
-pub this_pointer : (a b : Content) (ms : List Node) (k j : ℕ) (own of t : SigType) → Stays a b → own ≡ t → of ≡ own → Has b.nodes k (type_in (hierarchy a) own) → is_reference (term_of b.nodes k) ≡ false
-    → Has ms j (type_in (hierarchy b) (type.ByRef of)) → Has ms j (as_this (type_in (hierarchy a) t))
-this_pointer a b ms k j own of t ab e f h is g =
+pub this_pointer : (a : Content) (ns : List Node) (k j : ℕ) (own : SigType) → Has ns k (type_in (hierarchy a) own) → is_reference (term_of ns k) ≡ false → Has ns j (type_in (hierarchy a) (type.ByRef own))
+    → Has ns j (as_this (type_in (hierarchy a) own))
+this_pointer a ns k j own h is g =
     let w = hierarchy a in
-    let hb : hierarchy b ≡ w = ap hierarchy_in ab.tables in
-    let known : term_of b.nodes k ≡ type_in w t = h.term ∙ ap (type_in w) e in
-    let same : as_this (type_in w t) ≡ type.ByRef (type_in w t) =
-    ap (λ c. if c then type_in w t else type.ByRef (type_in w t)) (ap is_reference (sym known) ∙ is) in
-    let from : of ≡ t = f ∙ e in
-    let to : type_in (hierarchy b) (type.ByRef of) ≡ type_in w (type.ByRef t) = λ i. type_in (hb i) (type.ByRef (from i)) in
-    record { within = g.within; term = g.term ∙ to ∙ pointer_normal _ t ∙ sym same }
+    let same : as_this (type_in w own) ≡ type.ByRef (type_in w own) =
+    ap (λ c. if c then type_in w own else type.ByRef (type_in w own)) (ap is_reference (sym h.term) ∙ is) in
+    record { within = g.within; term = g.term ∙ pointer_normal _ own ∙ sym same }
 
 -- ---- arguments
 

@@ -3,7 +3,7 @@ ghost use Rattle.std.specs.Prelude.{◌≡◌, [], ◌∷◌, ◌++◌, if◌the
 ghost use Rattle.assembly_tree.specs.declared.assembly.Assembly.{Assembly};
 ghost use Rattle.sig_pool.specs.Pool.{Has, HasAll};
 ghost use Rattle.type_hierarchy.specs.World.{hierarchy, Stays};
-ghost use Rattle.type_order.specs.OwnTypes.{variables, own_class};
+ghost use Rattle.type_order.specs.OwnTypes.{own_class};
 ghost use Rattle.code_flow.specs.Frames.{type_in, types_in, as_this, this_argument, frame};
 ghost use Rattle.code_flow.specs.Methods.{Declared};
 ghost use Rattle.stack_effects.specs.RowMeanings.{MeansFrame, IsFrameWithin};
@@ -12,59 +12,23 @@ use crate::calls::type_keys;
 use crate::frame::CodeFrame;
 use crate::type_kinds::is_reference;
 use assembly_tree::{Body, Method};
-use il_lists::{Boxed, Copies, Items, NoMemory};
+use il_lists::{Items, NoMemory};
 use std::alloc::Global;
 use type_order::types::World;
-use type_order::{TypeKey, TypeKeys, id_of, type_key};
-use type_terms::{Path, Scope, SigType, TypeName, Types};
-
-/// The generic parameters of a class that has `count` of them, as types.
-fn own_parameters(alloc: Global, count: u32) -> Result<Types, NoMemory>
-    ensures { IfOk result (λ ts. ts ≡ variables 0 count) }
-{
-    let mut parameters = Items::new(alloc);
-    for k in 0..count {
-        parameters.push(SigType::Var(k))?;
-    }
-    Ok(parameters)
-}
-
-/// The class of that path with its own generic parameters as arguments (ECMA-335 II.9.4).
-fn own_class(alloc: Global, path: &Path, parameters: u32) -> Result<SigType, NoMemory>
-    ensures { IfOk result (λ t. t ≡ own_class path.now parameters) }
-{
-    let path = path.copy(alloc)?;
-    let name = TypeName {
-        scope: Scope::Here,
-        path,
-    };
-    if parameters == 0 {
-        return Ok(SigType::Class(name));
-    }
-    let args = own_parameters(alloc, parameters)?;
-    let name = Boxed::new(alloc, name)?;
-    let args = Boxed::new(alloc, args)?;
-    Ok(SigType::Inst {
-        value: false,
-        name,
-        args,
-    })
-}
+use type_order::{TypeKey, TypeKeys, id_of, own_keys, type_key};
+use type_terms::Path;
 
 /// Argument 0 of an instance method: the object of a reference type, and of another type a pointer to the value
 /// (ECMA-335 I.12.1.6.2.1).
-fn this_key(alloc: Global, w: &mut World, path: &Path, parameters: u32) -> Result<TypeKey, NoMemory>
+fn this_key(w: &mut World, path: &Path, parameters: u32) -> Result<TypeKey, NoMemory>
     ensures ok { IfOk result (λ k. Has w.new.nodes k (as_this (type_in (hierarchy w.old) (own_class path.now parameters)))) }
     ensures stays { Stays w.old w.new }
 {
-    let own = own_class(alloc, path, parameters)?;
-    let key = type_key(w, &own)?;
-    if is_reference(w.pool(), id_of(&key)) {
-        return Ok(key);
+    let own = own_keys(w, path, parameters)?;
+    if is_reference(w.pool(), id_of(&own.class)) {
+        return Ok(own.class);
     }
-    let of = Boxed::new(alloc, own)?;
-    let pointer = type_key(w, &SigType::ByRef(of))?;
-    Ok(pointer)
+    Ok(own.pointer)
 }
 
 /// The key of argument 0, where the method has an object.
@@ -81,7 +45,7 @@ fn this_keys(
     if !has_this {
         return Ok(Items::new(alloc));
     }
-    let this = this_key(alloc, w, path, parameters)?;
+    let this = this_key(w, path, parameters)?;
     let keys = Items::from_slice(alloc, &[this])?;
     Ok(keys)
 }

@@ -1,7 +1,5 @@
 -- Ways in which a value of one type may stand for another, by the kinds of the two.
 use Rattle.std.proofs.Common.{◌≡◌, inl, inr, refl, sym, ◌∙◌, ap, subst, ℕ, ◌<◌, ◌↔◌, Bool, true, false, ◌&&◌, List, [], length, Option, None, Some, IsTrue}
-use Rattle.std.specs.List.{Contains}
-use Rattle.std.proofs.lemmas.List.Elements.{Contains-append_cases}
 use Rattle.type_terms.specs.declared.term.Primitive.TheVariants as prim
 use Rattle.type_terms.specs.declared.term.Owner.{Owner}
 use Rattle.type_terms.specs.declared.term.Owner.TheOpen.{SigType-F, Prim, Class, Value, Inst, Var, MVar, SzArray, Array, ByRef, Pointer, Mod, Pinned}
@@ -13,12 +11,11 @@ use Rattle.sig_pool.specs.Terms.{term_of}
 use Rattle.type_order.specs.declared.arrays.Pair.{Pair}
 use Rattle.type_order.specs.Answers.{RefersTo, IsAsElements}
 use Rattle.type_order.specs.Arrays.{IsPairOf, IsObjectOrUp}
-use Rattle.type_hierarchy.specs.Hierarchy.{Hierarchy, Elements, object, Up, itself}
-use Rattle.type_hierarchy.specs.Queues.{HasType, AddsSteps, UpFromSome, IsStep}
+use Rattle.type_order.specs.Found.{IsLedTo}
+use Rattle.type_hierarchy.specs.Hierarchy.{Hierarchy, Elements, object, parent, Up, itself}
 use Rattle.type_hierarchy.specs.Relations.{AreAlike, Assignable, same, null_ref, null_boxed, ref_object, boxed_object, ref_up, boxed_parent, boxed_interface, by_elements, by_reduced}
 use Rattle.type_hierarchy.specs.Stack.{Stack, i4, i8, native, float, null, ref, boxed, val, ptr, bad, is_reference, reduced_type, primitive, layer_primitive}
-use Rattle.type_hierarchy.proofs.Climbing.{none_some, same_layer}
-use Rattle.type_hierarchy.proofs.QueueLemmas.{no_ids}
+use Rattle.type_hierarchy.proofs.Climbing.{none_some, some_same, same_layer}
 
 -- ---- elements
 
@@ -109,30 +106,26 @@ module _ (w : Hierarchy) (ns : List Node) (a b : ℕ) (e : Pair) (p : IsPairOf n
 
 -- ---- boxed values
 
--- from a queue that holds the steps from the boxed type alone
-module _ (w : Hierarchy) (ms : List Node) (s t : SigType) (old new : List ℕ) (e : old ≡ []) (a : AddsSteps w ms s old new) (other : t ≡ object → ⊥) where
-  step_only : (k : ℕ) → Contains new k → IsStep w s (term_of ms k)
-  step_only k c = elim (Contains-append_cases old a.more k (subst (λ (l : List ℕ). Contains l k) a.is c)) [
-    | inl q ↦ absurd (no_ids k (subst (λ (l : List ℕ). Contains l k) e q))
-    | inr q ↦ a.only k q
-  ]
+module _ (w : Hierarchy) (s t : SigType) (other : t ≡ object → ⊥) where
+  -- by its interfaces
+  pub boxed_led : IsLedTo w s t → Assignable w (boxed s) (ref t)
+  boxed_led l = boxed_interface l.listed l.up
 
-  from_step : {u : SigType} → IsStep w s u → Up w u t → Assignable w (boxed s) (ref t)
-  from_step (inl p) u = boxed_parent p u
-  from_step (inr c) u = boxed_interface c u
+  module _ (apart : IsLedTo w s t → ⊥) where
+    -- by its parent alone
+    pub boxed_by_parent : {p : SigType} → parent w s ≡ Some p → Up w p t ↔ Assignable w (boxed s) (ref t)
+    boxed_by_parent {p} e = (λ u. boxed_parent e u, λ a. back a)
+      where
+        back : Assignable w (boxed s) (ref t) → Up w p t
+        back (boxed_object h) = absurd (other h)
+        back (boxed_parent {p = q} f r) = subst (λ (x : SigType). Up w x t) (some_same f e) r
+        back (boxed_interface {p = q} c r) = absurd (apart (record { by = q; listed = c; up = r }))
 
-  some_up : {u : SigType} → IsStep w s u → Up w u t → UpFromSome w ms new t
-  some_up {u = u} p r =
-      let h : HasType ms new u = a.has u p in
-      record { id = h.id; among = h.among; up = subst (λ (v : SigType). Up w v t) (sym h.is) r }
-
-  to_some : Assignable w (boxed s) (ref t) → UpFromSome w ms new t
-  to_some (boxed_object h) = absurd (other h)
-  to_some (boxed_parent p r) = some_up (inl p) r
-  to_some (boxed_interface c r) = some_up (inr c) r
-
-  pub boxed_refers : UpFromSome w ms new t ↔ Assignable w (boxed s) (ref t)
-  boxed_refers = (λ u. from_step (step_only u.id u.among) u.up, to_some)
+    -- without a parent by nothing
+    pub boxed_by_none : parent w s ≡ None → Assignable w (boxed s) (ref t) → ⊥
+    boxed_by_none e (boxed_object h) = other h
+    boxed_by_none e (boxed_parent f r) = none_some e f
+    boxed_by_none e (boxed_interface {p = q} c r) = apart (record { by = q; listed = c; up = r })
 
 -- ---- kinds that never fit
 

@@ -11,7 +11,8 @@ use Rattle.sig_pool.specs.Replaced.{terms_at}
 use Rattle.sig_pool.specs.Terms.{AllBelow, term_of}
 use Rattle.type_hierarchy.specs.Hierarchy.{Hierarchy, parent, interfaces, Up, itself, to_parent, to_interface}
 use Rattle.type_hierarchy.specs.Pooled.{HasOption}
-use Rattle.type_hierarchy.specs.Queues.{IsAdded, AddsAll, optional, HasType, IsStep, AddsSteps, UpFromSome}
+use Rattle.type_hierarchy.specs.Queues.{AddsAll, optional, HasType, IsStep, AddsSteps, UpFromSome}
+use Rattle.type_order.specs.Found.{AreAbove}
 use Rattle.type_hierarchy.proofs.Climbing.{none_some}
 use Rattle.type_hierarchy.proofs.GrowLemmas.{extends_trans, below_extends, all_extends}
 use Rattle.type_hierarchy.proofs.QueueLemmas.{no_ids}
@@ -103,23 +104,20 @@ adds_steps_grown w ns ms ls id old middle new p is low x hi y hp a b =
 
 -- ---- the search
 
--- the types of the ids so far are above some at the beginning; those that are done aren't `b`, and what is one step
--- above them is there
-pub record Walk (w : Hierarchy) (ns ms : List Node) (old ids : List ℕ) (b : SigType) (done : ℕ) : Type 0 where
+-- the types of the ids so far are above some at the beginning; of those that are done what is one step above them is there
+pub record Walk (w : Hierarchy) (ns ms : List Node) (old ids : List ℕ) (done : ℕ) : Type 0 where
   pub within : AllBelow (length ms) ids
   pub extends : Extends ns ms
   pub sound : (id : ℕ) → Contains ids id → UpFromSome w ns old (term_of ms id)
   pub first : (id : ℕ) → Contains old id → Contains ids id
-  pub other : (j id : ℕ) → j < done → slice_get ids j ≡ Some id → term_of ms id ≡ b → ⊥
   pub closed : (j id : ℕ) → j < done → slice_get ids j ≡ Some id → (u : SigType) → IsStep w (term_of ms id) u → HasType ms ids u
 
-pub walk_begins : (w : Hierarchy) (ns : List Node) (ids : List ℕ) (b : SigType) → AllBelow (length ns) ids → Walk w ns ns ids ids b 0
-walk_begins w ns ids b p = record {
+pub walk_begins : (w : Hierarchy) (ns : List Node) (ids : List ℕ) → AllBelow (length ns) ids → Walk w ns ns ids ids 0
+walk_begins w ns ids p = record {
   within = p;
   extends = record { more = []; nodes = sym (append-nil ns); terms = λ k h. refl };
   sound = λ id c. record { id = id; among = c; up = itself };
   first = λ id c. c;
-  other = λ j id h e. absurd (omega arith);
   closed = λ j id h e. absurd (omega arith);
 }
 
@@ -127,10 +125,9 @@ up_step : (w : Hierarchy) {s t u : SigType} → Up w s t → IsStep w t u → Up
 up_step w a (inl e) = to_parent a e
 up_step w a (inr c) = to_interface a c
 
-pub walk_more : (w : Hierarchy) (ns ms ls : List Node) (old ids new : List ℕ) (b : SigType) (done at : ℕ)
-    → Walk w ns ms old ids b done → slice_get ids done ≡ Some at → (term_of ms at ≡ b → ⊥)
-    → AddsSteps w ls (term_of ms at) ids new → Extends ms ls → Walk w ns ls old new b (done + 1)
-walk_more w ns ms ls old ids new b done at v e not_b a x = subst (λ (l : List ℕ). Walk w ns ls old l b (done + 1)) (sym a.is) walk
+pub walk_more : (w : Hierarchy) (ns ms ls : List Node) (old ids new : List ℕ) (done at : ℕ)
+    → Walk w ns ms old ids done → slice_get ids done ≡ Some at → AddsSteps w ls (term_of ms at) ids new → Extends ms ls → Walk w ns ls old new (done + 1)
+walk_more w ns ms ls old ids new done at v e a x = subst (λ (l : List ℕ). Walk w ns ls old l (done + 1)) (sym a.is) walk
   where
     here : done < length ids
     here = slice_get_within ids done at e
@@ -171,16 +168,6 @@ walk_more w ns ms ls old ids new b done at v e not_b a x = subst (λ (l : List �
         below_or (suc j) zero h = absurd (omega arith)
         below_or (suc j) (suc n) h = elim (below_or j n (omega arith)) [ inl g ↦ inl (omega arith) | inr g ↦ inr (omega arith) ]
 
-    other : (j id : ℕ) → j < done + 1 → slice_get (ids ++ a.more) j ≡ Some id → term_of ls id ≡ b → ⊥
-    other j id h f g = elim (before j h) [
-      | inl low ↦
-          let k : slice_get ids j ≡ Some id = front ids a.more j id f (omega (arith, here)) in
-          v.other j id low k (sym (kept id (at_place ids j id k)) ∙ g)
-      | inr is ↦
-          let same : id ≡ at = same_at j id is f in
-          not_b (sym (x.terms at at_within) ∙ ap (term_of ls) (sym same) ∙ g)
-    ]
-
     closed : (j id : ℕ) → j < done + 1 → slice_get (ids ++ a.more) j ≡ Some id → (u : SigType) → IsStep w (term_of ls id) u → HasType ls (ids ++ a.more) u
     closed j id h f u s = elim (before j h) [
       | inl low ↦
@@ -193,21 +180,16 @@ walk_more w ns ms ls old ids new b done at v e not_b a x = subst (λ (l : List �
           subst (λ (l : List ℕ). HasType ls l u) a.is (a.has u t)
     ]
 
-    walk : Walk w ns ls old (ids ++ a.more) b (done + 1)
+    walk : Walk w ns ls old (ids ++ a.more) (done + 1)
     walk = record {
       within = within;
       extends = extends_trans ns ms ls v.extends x;
       sound = sound;
       first = λ id c. Contains-append_left ids a.more id (v.first id c);
-      other = other;
       closed = closed;
     }
 
-pub walk_found : (w : Hierarchy) (ns ms : List Node) (old ids : List ℕ) (b : SigType) (done at : ℕ)
-    → Walk w ns ms old ids b done → slice_get ids done ≡ Some at → term_of ms at ≡ b → UpFromSome w ns old b
-walk_found w ns ms old ids b done at v e f = subst (λ (t : SigType). UpFromSome w ns old t) f (v.sound at (at_place ids done at e))
-
-module _ (w : Hierarchy) (ns ms : List Node) (old ids : List ℕ) (b : SigType) (done : ℕ) (v : Walk w ns ms old ids b done)
+module _ (w : Hierarchy) (ns ms : List Node) (old ids : List ℕ) (done : ℕ) (v : Walk w ns ms old ids done)
     (all_done : length ids ≤ done) where
   place : (id : ℕ) → Contains ids id → (j : ℕ) × (j < done) × (slice_get ids j ≡ Some id)
   place id (j, h, e) = (j, omega arith, slice_get-get_or ids j id h ∙ ap Some e)
@@ -227,37 +209,22 @@ module _ (w : Hierarchy) (ns ms : List Node) (old ids : List ℕ) (b : SigType) 
           let p = place h.id h.among in
           v.closed p.0 h.id p.1 p.2 u (subst (λ (y : SigType). IsStep w y u) (sym h.is) s)
 
-  pub walk_ends : AllBelow (length ns) old → UpFromSome w ns old b → ⊥
-  walk_ends p s =
-      let same : term_of ms s.id ≡ term_of ns s.id = v.extends.terms s.id (within_one old (length ns) s.id p s.among) in
-      let h : HasType ms ids b = reached s.id (v.first s.id s.among) (subst (λ (t : SigType). Up w t b) (sym same) s.up) in
-      let q = place h.id h.among in
-      v.other q.0 h.id q.1 q.2 h.is
+  pub walk_ends : AllBelow (length ns) old → AreAbove w ns ms old ids
+  walk_ends p = record { within = v.within; exact = λ t. (above t, all t) }
+    where
+      above : (t : SigType) → HasType ms ids t → UpFromSome w ns old t
+      above t h = subst (λ (u : SigType). UpFromSome w ns old u) h.is (v.sound h.id h.among)
+
+      all : (t : SigType) → UpFromSome w ns old t → HasType ms ids t
+      all t s =
+          let same : term_of ms s.id ≡ term_of ns s.id = v.extends.terms s.id (within_one old (length ns) s.id p s.among) in
+          reached s.id (v.first s.id s.among) (subst (λ (u : SigType). Up w u t) (sym same) s.up)
 
 pub true_when : {P : Type 0} → P → IsTrue true ↔ P
 true_when p = (λ h. p, λ q. refl)
 
 pub false_when : {P : Type 0} → (P → ⊥) → IsTrue false ↔ P
 false_when n = (λ h. absurd (let f : ⊥ = cc in f), λ q. absurd (n q))
-
--- a queue of one id
-pub one_within : (b id : ℕ) (ids : List ℕ) → ids ≡ [] → (new : List ℕ) → IsAdded ids new id → id < b → AllBelow b new
-one_within b id ids e new a h k d g = subst (λ (j : ℕ). j < b) (sym (only (get_or new k d) (at_place new k (get_or new k d) (slice_get-get_or new k d g)))) h
-  where
-    only : (j : ℕ) → Contains new j → j ≡ id
-    only j c = elim (Contains-append_cases ids a.more j (subst (λ (l : List ℕ). Contains l j) a.is c)) [
-      | inl q ↦ absurd (no_ids j (subst (λ (l : List ℕ). Contains l j) e q))
-      | inr q ↦ a.only j q
-    ]
-
-pub from_one : (w : Hierarchy) (ns : List Node) (id : ℕ) (b : SigType) (ids : List ℕ) → ids ≡ [] → (new : List ℕ) → IsAdded ids new id → UpFromSome w ns new b ↔ Up w (term_of ns id) b
-from_one w ns id b ids e new a = (λ s. subst (λ (j : ℕ). Up w (term_of ns j) b) (only s.id s.among) s.up, λ u. record { id = id; among = a.has; up = u })
-  where
-    only : (j : ℕ) → Contains new j → j ≡ id
-    only j c = elim (Contains-append_cases ids a.more j (subst (λ (l : List ℕ). Contains l j) a.is c)) [
-      | inl q ↦ absurd (no_ids j (subst (λ (l : List ℕ). Contains l j) e q))
-      | inr q ↦ a.only j q
-    ]
 
 pub if_ok_same : {E : Type 0} {P Q : Type 0} (r : Result Bool E) → (P ↔ Q) → IfOk r (λ b. IsTrue b ↔ P) → IfOk r (λ b. IsTrue b ↔ Q)
 if_ok_same (Ok b) s h = (λ t. s.0 (h.0 t), λ q. h.1 (s.1 q))

@@ -2,6 +2,7 @@ pub mod Answers
 pub mod Arrays
 pub mod Common
 pub mod Fields
+pub mod Found
 pub mod Joining
 pub mod Keys
 pub mod OwnTypes

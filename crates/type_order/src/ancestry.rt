@@ -26,5 +26,5 @@ pub fn parent(
     ensures steps { steps.new ≡ steps.old + 1 }
 {
     steps.tick();
-    parent_of(w.alloc, &w.tables, &mut w.pool, &mut w.parents, t)
+    parent_of(w.alloc, &w.tables, &mut w.pool, &mut w.found, t)
 }

@@ -8,17 +8,17 @@ ghost use Rattle.type_hierarchy.specs.Meaning.{meant, IsWithin};
 ghost use Rattle.type_hierarchy.specs.Relations.{Assignable};
 ghost use Rattle.type_hierarchy.specs.Stack.{ref, boxed};
 ghost use Rattle.type_hierarchy.specs.Tables.{hierarchy_in};
-ghost use Rattle.type_hierarchy.specs.World.{KnowsParents};
+ghost use Rattle.type_order.specs.Found.{Knows};
 
-use crate::above::{add_steps, is_above, is_above_some};
+use crate::above::is_above;
 use crate::arrays::{Pair, alike, is_reduced_alike};
+use crate::found::{Found, found_parent};
 use crate::joining::{is_equal, is_null};
-use crate::queue::Queue;
+use crate::led::is_led;
 use crate::stack::is_object;
 use il_lists::NoMemory;
 use sig_pool::{SigId, SigPool};
 use std::alloc::Global;
-use type_hierarchy::kept::Parents;
 use type_hierarchy::stack_type::StackType;
 use type_hierarchy::tables::Tables;
 
@@ -27,22 +27,22 @@ fn is_object_or_above(
     alloc: Global,
     tables: &Tables,
     pool: &mut SigPool,
-    parents: &mut Parents,
+    found: &mut Found,
     a: SigId,
     b: SigId,
 ) -> Result<bool, NoMemory>
     requires tables { length tables.now.names ≡ length tables.now.entries }
     requires a { a < length pool.old }
     requires b { b < length pool.old }
-    requires known { KnowsParents (hierarchy_in tables.now) pool.old parents.old }
+    requires known { Knows (hierarchy_in tables.now) pool.old found.old }
     ensures ok { IfOk result (λ r. IsTrue r ↔ IsObjectOrUp (hierarchy_in tables.now) (term_of pool.old a) (term_of pool.old b)) }
     ensures extends { Extends pool.old pool.new }
-    ensures known { KnowsParents (hierarchy_in tables.now) pool.new parents.new }
+    ensures known { Knows (hierarchy_in tables.now) pool.new found.new }
 {
     if is_object(pool, b) {
         return Ok(true);
     }
-    is_above(alloc, tables, pool, parents, a, b)
+    is_above(alloc, tables, pool, found, a, b)
 }
 
 /// Whether a reference to one type may stand where one to another is wanted: known, or as it is with their
@@ -58,7 +58,7 @@ fn compare_arrays(
     alloc: Global,
     tables: &Tables,
     pool: &mut SigPool,
-    parents: &mut Parents,
+    found: &mut Found,
     a: SigId,
     b: SigId,
     pair: Pair,
@@ -66,18 +66,18 @@ fn compare_arrays(
     requires tables { length tables.now.names ≡ length tables.now.entries }
     requires a { a < length pool.old }
     requires b { b < length pool.old }
-    requires known { KnowsParents (hierarchy_in tables.now) pool.old parents.old }
+    requires known { Knows (hierarchy_in tables.now) pool.old found.old }
     requires pair { IsPairOf pool.old a b pair }
     ensures ok { IfOk result (λ r. Answers (hierarchy_in tables.now) pool.old a b r) }
     ensures extends { Extends pool.old pool.new }
-    ensures known { KnowsParents (hierarchy_in tables.now) pool.new parents.new }
+    ensures known { Knows (hierarchy_in tables.now) pool.new found.new }
 {
     let references = pair.references;
     let reduced = is_reduced_alike(tables, pool, pair.from, pair.to)?;
     if reduced {
         return Ok(Answer::Known(true));
     }
-    let above = is_object_or_above(alloc, tables, pool, parents, a, b)?;
+    let above = is_object_or_above(alloc, tables, pool, found, a, b)?;
     if above {
         return Ok(Answer::Known(true));
     }
@@ -93,22 +93,22 @@ fn compare(
     alloc: Global,
     tables: &Tables,
     pool: &mut SigPool,
-    parents: &mut Parents,
+    found: &mut Found,
     a: SigId,
     b: SigId,
 ) -> Result<Answer, NoMemory>
     requires tables { length tables.now.names ≡ length tables.now.entries }
     requires a { a < length pool.old }
     requires b { b < length pool.old }
-    requires known { KnowsParents (hierarchy_in tables.now) pool.old parents.old }
+    requires known { Knows (hierarchy_in tables.now) pool.old found.old }
     ensures ok { IfOk result (λ r. Answers (hierarchy_in tables.now) pool.old a b r) }
     ensures extends { Extends pool.old pool.new }
-    ensures known { KnowsParents (hierarchy_in tables.now) pool.new parents.new }
+    ensures known { Knows (hierarchy_in tables.now) pool.new found.new }
 {
     match alike(pool, a, b) {
-        Some(pair) => compare_arrays(alloc, tables, pool, parents, a, b, pair),
+        Some(pair) => compare_arrays(alloc, tables, pool, found, a, b, pair),
         None => {
-            let fits = is_object_or_above(alloc, tables, pool, parents, a, b)?;
+            let fits = is_object_or_above(alloc, tables, pool, found, a, b)?;
             Ok(Answer::Known(fits))
         }
     }
@@ -119,22 +119,22 @@ fn reference_fits(
     alloc: Global,
     tables: &Tables,
     pool: &mut SigPool,
-    parents: &mut Parents,
+    found: &mut Found,
     a: SigId,
     b: SigId,
 ) -> Result<bool, NoMemory>
     requires tables { length tables.now.names ≡ length tables.now.entries }
     requires a { a < length pool.old }
     requires b { b < length pool.old }
-    requires known { KnowsParents (hierarchy_in tables.now) pool.old parents.old }
+    requires known { Knows (hierarchy_in tables.now) pool.old found.old }
     ensures ok { IfOk result (λ r. IsTrue r ↔ Assignable (hierarchy_in tables.now) (ref (term_of pool.old a)) (ref (term_of pool.old b))) }
     ensures extends { Extends pool.old pool.new }
-    ensures known { KnowsParents (hierarchy_in tables.now) pool.new parents.new }
+    ensures known { Knows (hierarchy_in tables.now) pool.new found.new }
 {
     let mut from = a;
     let mut to = b;
     'elements: loop {
-        match compare(alloc, tables, pool, parents, from, to)? {
+        match compare(alloc, tables, pool, found, from, to)? {
             Answer::Known(fits) => return Ok(fits),
             Answer::AsElements(pair) => {
                 from = pair.from;
@@ -149,24 +149,29 @@ fn boxed_fits(
     alloc: Global,
     tables: &Tables,
     pool: &mut SigPool,
-    parents: &mut Parents,
+    found: &mut Found,
     a: SigId,
     b: SigId,
 ) -> Result<bool, NoMemory>
     requires tables { length tables.now.names ≡ length tables.now.entries }
     requires a { a < length pool.old }
     requires b { b < length pool.old }
-    requires known { KnowsParents (hierarchy_in tables.now) pool.old parents.old }
+    requires known { Knows (hierarchy_in tables.now) pool.old found.old }
     ensures ok { IfOk result (λ r. IsTrue r ↔ Assignable (hierarchy_in tables.now) (boxed (term_of pool.old a)) (ref (term_of pool.old b))) }
     ensures extends { Extends pool.old pool.new }
-    ensures known { KnowsParents (hierarchy_in tables.now) pool.new parents.new }
+    ensures known { Knows (hierarchy_in tables.now) pool.new found.new }
 {
     if is_object(pool, b) {
         return Ok(true);
     }
-    let mut queue = Queue::new(alloc);
-    add_steps(alloc, tables, pool, parents, &mut queue, a)?;
-    is_above_some(alloc, tables, pool, parents, &mut queue, b)
+    let led = is_led(alloc, tables, pool, found, a, b)?;
+    if led {
+        return Ok(true);
+    }
+    match found_parent(alloc, tables, pool, found, a)? {
+        Some(parent) => is_above(alloc, tables, pool, found, parent, b),
+        None => Ok(false),
+    }
 }
 
 /// Whether a value of the first type may stand where a reference to the type of `to` is wanted.
@@ -174,21 +179,21 @@ fn fits_reference(
     alloc: Global,
     tables: &Tables,
     pool: &mut SigPool,
-    parents: &mut Parents,
+    found: &mut Found,
     s: &StackType,
     to: SigId,
 ) -> Result<bool, NoMemory>
     requires tables { length tables.now.names ≡ length tables.now.entries }
     requires s { IsWithin (length pool.old) s.now }
     requires to { to < length pool.old }
-    requires known { KnowsParents (hierarchy_in tables.now) pool.old parents.old }
+    requires known { Knows (hierarchy_in tables.now) pool.old found.old }
     ensures ok { IfOk result (λ r. IsTrue r ↔ Assignable (hierarchy_in tables.now) (meant pool.old s.now) (ref (term_of pool.old to))) }
     ensures extends { Extends pool.old pool.new }
-    ensures known { KnowsParents (hierarchy_in tables.now) pool.new parents.new }
+    ensures known { Knows (hierarchy_in tables.now) pool.new found.new }
 {
     match s {
-        StackType::Ref(key) => reference_fits(alloc, tables, pool, parents, key.id(), to),
-        StackType::Boxed(key) => boxed_fits(alloc, tables, pool, parents, key.id(), to),
+        StackType::Ref(key) => reference_fits(alloc, tables, pool, found, key.id(), to),
+        StackType::Boxed(key) => boxed_fits(alloc, tables, pool, found, key.id(), to),
         StackType::Null => Ok(true),
         StackType::I4 => Ok(false),
         StackType::I8 => Ok(false),
@@ -212,23 +217,23 @@ pub fn is_assignable(
     alloc: Global,
     tables: &Tables,
     pool: &mut SigPool,
-    parents: &mut Parents,
+    found: &mut Found,
     s: &StackType,
     t: &StackType,
 ) -> Result<bool, NoMemory>
     requires tables { length tables.now.names ≡ length tables.now.entries }
     requires s { IsWithin (length pool.old) s.now }
     requires t { IsWithin (length pool.old) t.now }
-    requires known { KnowsParents (hierarchy_in tables.now) pool.old parents.old }
+    requires known { Knows (hierarchy_in tables.now) pool.old found.old }
     ensures ok { IfOk result (λ r. IsTrue r ↔ Assignable (hierarchy_in tables.now) (meant pool.old s.now) (meant pool.old t.now)) }
     ensures extends { Extends pool.old pool.new }
-    ensures known { KnowsParents (hierarchy_in tables.now) pool.new parents.new }
+    ensures known { Knows (hierarchy_in tables.now) pool.new found.new }
 {
     if is_equal(pool, s, t) {
         return Ok(!is_bad(s));
     }
     match t {
-        StackType::Ref(key) => fits_reference(alloc, tables, pool, parents, s, key.id()),
+        StackType::Ref(key) => fits_reference(alloc, tables, pool, found, s, key.id()),
         StackType::Boxed(_) => Ok(is_null(s)),
         StackType::I4 => Ok(false),
         StackType::I8 => Ok(false),

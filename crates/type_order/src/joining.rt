@@ -10,13 +10,13 @@ ghost use Rattle.type_order.specs.Joining.{is_null, as_object, beside_null, Join
 ghost use Rattle.type_hierarchy.specs.Stack.{ref};
 ghost use Rattle.type_order.specs.Starts.{start, stack_parent};
 ghost use Rattle.type_hierarchy.specs.Tables.{hierarchy_in};
-ghost use Rattle.type_hierarchy.specs.World.{KnowsParents};
+ghost use Rattle.type_order.specs.Found.{Knows};
 
 use crate::common::common_id;
+use crate::found::{Found, found_parent};
 use il_lists::NoMemory;
 use sig_pool::{SigId, SigPool};
 use std::alloc::Global;
-use type_hierarchy::kept::{Parents, kept_parent};
 use type_hierarchy::stack_type::{StackType, TypeKey};
 use type_hierarchy::tables::Tables;
 
@@ -95,19 +95,19 @@ fn start_id(
     alloc: Global,
     tables: &Tables,
     pool: &mut SigPool,
-    parents: &mut Parents,
+    found: &mut Found,
     s: &StackType,
 ) -> Result<Option<SigId>, NoMemory>
     requires tables { length tables.now.names ≡ length tables.now.entries }
     requires s { IsWithin (length pool.old) s.now }
-    requires known { KnowsParents (hierarchy_in tables.now) pool.old parents.old }
+    requires known { Knows (hierarchy_in tables.now) pool.old found.old }
     ensures ok { IfOk result (λ r. HasOption pool.new r (start (hierarchy_in tables.now) (meant pool.old s.now))) }
     ensures extends { Extends pool.old pool.new }
-    ensures known { KnowsParents (hierarchy_in tables.now) pool.new parents.new }
+    ensures known { Knows (hierarchy_in tables.now) pool.new found.new }
 {
     match s {
         StackType::Ref(key) => Ok(Some(key.id())),
-        StackType::Boxed(key) => kept_parent(alloc, tables, pool, parents, key.id()),
+        StackType::Boxed(key) => found_parent(alloc, tables, pool, found, key.id()),
         StackType::I4 => Ok(None),
         StackType::I8 => Ok(None),
         StackType::N => Ok(None),
@@ -124,17 +124,17 @@ pub fn join_of(
     alloc: Global,
     tables: &Tables,
     pool: &mut SigPool,
-    parents: &mut Parents,
+    found: &mut Found,
     s: &StackType,
     t: &StackType,
 ) -> Result<StackType, NoMemory>
     requires tables { length tables.now.names ≡ length tables.now.entries }
     requires s { IsWithin (length pool.old) s.now }
     requires t { IsWithin (length pool.old) t.now }
-    requires known { KnowsParents (hierarchy_in tables.now) pool.old parents.old }
+    requires known { Knows (hierarchy_in tables.now) pool.old found.old }
     ensures ok { IfOk result (λ j. JoinsAs (hierarchy_in tables.now) pool.old s.now t.now pool.new j) }
     ensures extends { Extends pool.old pool.new }
-    ensures known { KnowsParents (hierarchy_in tables.now) pool.new parents.new }
+    ensures known { Knows (hierarchy_in tables.now) pool.new found.new }
 {
     if is_equal(pool, s, t) {
         return Ok(*s);
@@ -142,10 +142,10 @@ pub fn join_of(
     if let Some(other) = beside_null(s, t) {
         return Ok(other);
     }
-    match start_id(alloc, tables, pool, parents, s)? {
-        Some(left) => match start_id(alloc, tables, pool, parents, t)? {
+    match start_id(alloc, tables, pool, found, s)? {
+        Some(left) => match start_id(alloc, tables, pool, found, t)? {
             Some(right) => {
-                let nearest = common_id(alloc, tables, pool, parents, left, right)?;
+                let nearest = common_id(alloc, tables, pool, found, left, right)?;
                 Ok(StackType::Ref(TypeKey::new(nearest)))
             }
             None => Ok(StackType::Bad),
@@ -159,19 +159,19 @@ pub fn parent_of(
     alloc: Global,
     tables: &Tables,
     pool: &mut SigPool,
-    parents: &mut Parents,
+    found: &mut Found,
     t: &StackType,
 ) -> Result<Option<StackType>, NoMemory>
     requires tables { length tables.now.names ≡ length tables.now.entries }
     requires t { IsWithin (length pool.old) t.now }
-    requires known { KnowsParents (hierarchy_in tables.now) pool.old parents.old }
+    requires known { Knows (hierarchy_in tables.now) pool.old found.old }
     ensures ok { IfOk result (λ r. MeansOption pool.new r (stack_parent (hierarchy_in tables.now) (meant pool.old t.now))) }
     ensures extends { Extends pool.old pool.new }
-    ensures known { KnowsParents (hierarchy_in tables.now) pool.new parents.new }
+    ensures known { Knows (hierarchy_in tables.now) pool.new found.new }
 {
     match t {
-        StackType::Ref(key) => reference_parent(alloc, tables, pool, parents, *key),
-        StackType::Boxed(key) => reference_parent(alloc, tables, pool, parents, *key),
+        StackType::Ref(key) => reference_parent(alloc, tables, pool, found, *key),
+        StackType::Boxed(key) => reference_parent(alloc, tables, pool, found, *key),
         StackType::I4 => Ok(None),
         StackType::I8 => Ok(None),
         StackType::N => Ok(None),
@@ -188,17 +188,17 @@ fn reference_parent(
     alloc: Global,
     tables: &Tables,
     pool: &mut SigPool,
-    parents: &mut Parents,
+    found: &mut Found,
     key: TypeKey,
 ) -> Result<Option<StackType>, NoMemory>
     requires tables { length tables.now.names ≡ length tables.now.entries }
     requires key { key < length pool.old }
-    requires known { KnowsParents (hierarchy_in tables.now) pool.old parents.old }
+    requires known { Knows (hierarchy_in tables.now) pool.old found.old }
     ensures ok { IfOk result (λ r. MeansOption pool.new r (option_map ref (parent (hierarchy_in tables.now) (term_of pool.old key)))) }
     ensures extends { Extends pool.old pool.new }
-    ensures known { KnowsParents (hierarchy_in tables.now) pool.new parents.new }
+    ensures known { Knows (hierarchy_in tables.now) pool.new found.new }
 {
-    match kept_parent(alloc, tables, pool, parents, key.id())? {
+    match found_parent(alloc, tables, pool, found, key.id())? {
         Some(parent) => Ok(Some(StackType::Ref(TypeKey::new(parent)))),
         None => Ok(None),
     }

@@ -9,6 +9,7 @@ ghost use Rattle.type_hierarchy.specs.Stack.{stack_of, pointer_to, boxed_of};
 ghost use Rattle.type_hierarchy.specs.World.{hierarchy, type_at, Stays};
 
 use crate::arrays::vector_element_id;
+use crate::found::found_parent;
 use crate::interfaces::interface_ids;
 use crate::stacks::{boxed_of_id, pointer_to_id, stack_of_id};
 use crate::terms::term_at;
@@ -16,7 +17,6 @@ use crate::types::World;
 use il_lists::{Items, NoMemory};
 use sig_pool::SigId;
 use std::alloc::Global;
-use type_hierarchy::kept::kept_parent;
 use type_hierarchy::stack_type::{StackType, TypeKey, TypeKeys};
 use type_terms::{Scope, SigType, TypeName};
 
@@ -96,7 +96,7 @@ pub fn parent_key(w: &mut World, k: &TypeKey) -> Result<Option<TypeKey>, NoMemor
     ensures ok { IfOk result (λ r. HasOption w.new.nodes r (parent (hierarchy w.old) (type_at w.old k.now))) }
     ensures stays { Stays w.old w.new }
 {
-    let parent = kept_parent(w.alloc, &w.tables, &mut w.pool, &mut w.parents, k.id())?;
+    let parent = found_parent(w.alloc, &w.tables, &mut w.pool, &mut w.found, k.id())?;
     Ok(key_at(parent))
 }
 

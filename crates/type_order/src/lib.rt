@@ -8,15 +8,19 @@ mod arrays;
 mod common;
 mod fields;
 mod fits;
+mod found;
 mod interfaces;
 mod joining;
 mod keys;
 mod laws;
+mod led;
 mod order;
+mod own;
 mod owners;
 mod queue;
 mod stack;
 mod stacks;
+mod standing;
 mod terms;
 pub mod types;
 mod written;
@@ -31,6 +35,7 @@ pub use laws::{
     assignable_is_a_preorder, joins_are_least_upper_bounds, keys_keep_their_types, worlds_go_on,
 };
 pub use order::{assignable, join};
+pub use own::{OwnKeys, own_keys};
 pub use owners::{
     arguments_of, core_value, is_reference_key, owner_key, primitive_key, type_key, vector_of,
 };

@@ -25,7 +25,7 @@ pub fn assignable(w: &mut World, s: &StackType, t: &StackType) -> Result<bool, N
     ensures ok { IfOk result (λ r. IsTrue r ↔ Assignable (hierarchy w.old) (meant w.old.nodes s.now) (meant w.old.nodes t.now)) }
     ensures stays { Stays w.old w.new }
 {
-    is_assignable(w.alloc, &w.tables, &mut w.pool, &mut w.parents, s, t)
+    is_assignable(w.alloc, &w.tables, &mut w.pool, &mut w.found, s, t)
 }
 
 /// What a value of either type counts as where two paths meet (ECMA-335 III.1.8.1.3): the least type that
@@ -47,5 +47,5 @@ pub fn join(
     ensures steps { steps.new ≡ steps.old + 1 }
 {
     steps.tick();
-    join_of(w.alloc, &w.tables, &mut w.pool, &mut w.parents, s, t)
+    join_of(w.alloc, &w.tables, &mut w.pool, &mut w.found, s, t)
 }

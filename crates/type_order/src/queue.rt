@@ -1,4 +1,5 @@
-ghost use Rattle.std.specs.Prelude.{◌≡◌, ◌<◌, [], length, slice_get, Some, OnOk};
+ghost use Rattle.std.specs.Prelude.{◌≡◌, ◌↔◌, [], slice_get, IsTrue, OnOk};
+ghost use Rattle.std.specs.List.{Contains};
 ghost use Rattle.std.specs.Option.{option_copied};
 ghost use Rattle.type_hierarchy.specs.Queues.{IsAdded, AddsAll, optional};
 
@@ -16,7 +17,7 @@ pub struct Queue {
 }
 
 impl Model for Queue {
-    ghost use Rattle.std.specs.Prelude.{List, ℕ, ◌≡◌, true, nat_eq};
+    ghost use Rattle.std.specs.Prelude.{List, ℕ, ◌≡◌, ◌↔◌, true, nat_eq};
     ghost use Rattle.std.specs.List.{Contains};
     ghost use Rattle.indexmap.specs.IndexSet.{contains};
 
@@ -24,7 +25,7 @@ impl Model for Queue {
 
     ghost view = { λ q. q.ids };
 
-    ghost invariant = { λ q. (k : ℕ) → contains nat_eq q.places k ≡ true → Contains q.ids k };
+    ghost invariant = { λ q. (k : ℕ) → (contains nat_eq q.places k ≡ true) ↔ Contains q.ids k };
 }
 
 impl Queue {
@@ -52,9 +53,22 @@ impl Queue {
         if self.places.contains(&id.place()) {
             return Ok(());
         }
+        let count = self.ids.len();
         self.ids.push(id)?;
-        self.places.insert(id.place())?;
-        Ok(())
+        match self.places.insert(id.place()) {
+            Ok(_) => Ok(()),
+            Err(_) => {
+                self.ids.truncate(count);
+                Err(NoMemory)
+            }
+        }
+    }
+
+    /// Whether an id is there. Takes no memory.
+    pub fn holds(&self, id: SigId) -> bool
+        ensures { IsTrue result ↔ Contains self.now id }
+    {
+        self.places.contains(&id.place())
     }
 
     /// Adds an id at the end, where there is one and it isn't there.

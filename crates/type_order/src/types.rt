@@ -1,11 +1,10 @@
 //! The types that have the names of calls.
 ghost use Rattle.std.specs.Prelude.{◌≡◌, [], length};
 
-use il_lists::Items;
+use crate::found::Found;
 use sig_pool::SigPool;
 use std::alloc::Global;
 use std::marker::Model;
-use type_hierarchy::kept::Parents;
 use type_hierarchy::tables::Tables;
 
 /// What an image and its references say of types, with the pool that keeps the types (ECMA-335 I.8.7).
@@ -15,13 +14,14 @@ pub struct World {
     pub(crate) alloc: Global,
     pub(crate) tables: Tables,
     pub(crate) pool: SigPool,
-    pub(crate) parents: Parents,
+    pub(crate) found: Found,
 }
 
 impl Model for World {
     ghost use Rattle.std.specs.Coded.{codes};
     ghost use Rattle.type_terms.specs.contracts.term.SigType as sig_type;
-    ghost use Rattle.type_hierarchy.specs.World.{Content, IsReady};
+    ghost use Rattle.type_hierarchy.specs.World.{Content};
+    ghost use Rattle.type_order.specs.Found.{IsReady};
 
     ghost Value = { Content };
 
@@ -29,7 +29,7 @@ impl Model for World {
 
     ghost view = { λ w. record { nodes = w.pool; tables = w.tables } };
 
-    ghost invariant = { λ w. IsReady w.pool w.tables w.parents };
+    ghost invariant = { λ w. IsReady w.pool w.tables w.found };
 }
 
 impl World {
@@ -43,7 +43,7 @@ impl World {
             alloc,
             tables,
             pool: SigPool::new(alloc),
-            parents: Items::new(alloc),
+            found: Found::new(alloc),
         }
     }
 

@@ -1,17 +1,17 @@
 use Rattle.type_hierarchy.specs.Tables.{hierarchy_in}
 use Rattle.type_order.proofs.FitLemmas.{reduced_refers, up_refers, up_kept, as_elements, no_elements}
-use Rattle.type_hierarchy.proofs.KeptLemmas.{knows_more}
+use Rattle.type_order.proofs.FoundLemmas.{knows_more}
 use Rattle.type_order.proofs.WalkLemmas.{true_when, false_when, false_apart}
 use Rattle.type_order.proofs.fits.compare_arrays.Goals as goal
 
 pub returns-in_err-reduced-clause-known : goal.returns-in_err-reduced-clause-known
-returns-in_err-reduced-clause-known c = knows_more (hierarchy_in c.args.tables.now) c.args.pool.now c.is_reduced_alike.new.pool c.args.parents.now c.is_reduced_alike.ensures.extends c.requires.known
+returns-in_err-reduced-clause-known c = knows_more (hierarchy_in c.args.tables.now) c.args.pool.now c.is_reduced_alike.new.pool c.args.found.now c.is_reduced_alike.ensures.extends c.requires.known
 
 pub returns-then-reduced-clause-known : goal.returns-then-reduced-clause-known
-returns-then-reduced-clause-known c = knows_more (hierarchy_in c.args.tables.now) c.args.pool.now c.is_reduced_alike.new.pool c.args.parents.now c.is_reduced_alike.ensures.extends c.requires.known
+returns-then-reduced-clause-known c = knows_more (hierarchy_in c.args.tables.now) c.args.pool.now c.is_reduced_alike.new.pool c.args.found.now c.is_reduced_alike.ensures.extends c.requires.known
 
 pub is_object_or_above-requires-clause-known : goal.is_object_or_above-requires-clause-known
-is_object_or_above-requires-clause-known c = knows_more (hierarchy_in c.args.tables.now) c.args.pool.now c.is_reduced_alike.new.pool c.args.parents.now c.is_reduced_alike.ensures.extends c.requires.known
+is_object_or_above-requires-clause-known c = knows_more (hierarchy_in c.args.tables.now) c.args.pool.now c.is_reduced_alike.new.pool c.args.found.now c.is_reduced_alike.ensures.extends c.requires.known
 
 pub returns-then-reduced-clause-ok : goal.returns-then-reduced-clause-ok
 returns-then-reduced-clause-ok c =

@@ -1,5 +1,0 @@
-use Rattle.stack_effects.proofs.FrameLemmas.{parameters_more}
-use Rattle.stack_effects.proofs.framing.own_parameters.Goals as goal
-
-pub loop-k-preserved : goal.loop-k-preserved
-loop-k-preserved c = parameters_more c.loop-k.k c.loop-k.parameters c.push.new.self c.loop-k.invariant c.in_ok-push.ensures.ok

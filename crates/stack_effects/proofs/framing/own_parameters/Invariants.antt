@@ -1,6 +1,0 @@
-use Rattle.std.proofs.Common.{◌≡◌}
-use Rattle.type_order.specs.OwnTypes.{variables}
-use Rattle.stack_effects.proofs.framing.own_parameters.Given as goal
-
-abbrev pub invariant-loop-k : goal.invariant-loop-k
-invariant-loop-k l = l.parameters ≡ variables 0 l.k
