@@ -1,0 +1,4 @@
+pub mod Based
+pub mod Ordered
+pub mod Owned
+pub mod Valued

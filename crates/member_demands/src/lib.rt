@@ -1,0 +1,16 @@
+//! The demands on types and members of an image that are asked once its names are known (II.22): bases (I22) and accessors (I23);
+//! and those of the parts of the demand on values (I16) that ask nothing of signatures.
+#![tactic(auto)]
+
+mod accessors;
+mod bases;
+mod generics;
+mod kinds;
+mod layouts;
+mod standing;
+
+pub use accessors::Accessors;
+pub use bases::Bases;
+pub use generics::{method_has_generics, type_has_generics};
+pub use kinds::{event_has_kinds, overrides_in_class, property_has_kinds};
+pub use layouts::{has_layout, has_one_data, has_one_offset};

@@ -1,0 +1,9 @@
+pub mod Facts
+pub mod Faulted
+pub mod Filling
+pub mod Leading
+pub mod Paths
+pub mod Scoping
+pub mod Sizes
+pub mod Telling
+pub mod Texts
