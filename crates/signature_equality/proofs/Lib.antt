@@ -1,0 +1,4 @@
+pub mod EachKind
+pub mod Loops
+pub mod Ties
+pub mod Told
