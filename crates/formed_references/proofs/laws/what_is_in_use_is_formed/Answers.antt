@@ -1,0 +1,19 @@
+use Rattle.std.proofs.Common.{[], refl}
+use Rattle.image_model.specs.Streams.{strings_of, blobs_of}
+use Rattle.image_namings.proofs.Standing.{stands}
+use Rattle.formed_references.proofs.References.{Laws, are_formed}
+use Rattle.formed_references.proofs.laws.what_is_in_use_is_formed.Goals as goal
+
+pub returns : goal.returns
+returns c image a short h =
+    let laws : Laws image = record {
+      text = c.one_content_at_an_index.ensures.text (strings_of image);
+      blob = c.one_content_at_an_index.ensures.blob (blobs_of image);
+      type = λ owners bytes s t k l. (c.no_type_begins_another.ensures owners s t bytes bytes [] [] k.0 l.0 refl).1;
+      method = c.bytes_spell_one_signature.ensures.method;
+      field = c.bytes_spell_one_signature.ensures.field;
+      property = c.bytes_spell_one_signature.ensures.property;
+      locals = c.bytes_spell_one_signature.ensures.locals;
+      instantiation = c.bytes_spell_one_signature.ensures.instantiation;
+    } in
+    are_formed image a h laws short (c.a_tree_holds_its_types.ensures image a h) (stands image h.names (λ earlier low. h.rows earlier)).field_there

@@ -1,0 +1,15 @@
+pub mod General
+pub mod Among
+pub mod Transfer
+pub mod OnePath
+pub mod Decided
+pub mod Runs
+pub mod Standing
+pub mod Rows
+pub mod Owners
+pub mod Members
+pub mod Texts
+pub mod Naming
+pub mod Twins
+pub mod Kept
+pub mod BodyTokens
