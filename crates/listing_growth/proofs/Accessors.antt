@@ -1,12 +1,11 @@
 -- Attributes of any owner, properties and events grow.
-use Rattle.std.proofs.Common.{◌≡◌, ◌⊎◌, inl, inr, ℕ, zero, suc, ◌+◌, ◌&&◌, nat_lt, nat_eq, Bool, true, List, [], ◌∷◌, ◌++◌, map, length, slice_get, Option, None, Some, refl, sym, subst, ◌∙◌}
+use Rattle.std.proofs.Common.{◌≡◌, inl, inr, ℕ, zero, suc, ◌+◌, nat_lt, Bool, true, List, [], ◌∷◌, length, slice_get, Option, None, Some, refl, sym, subst, ◌∙◌}
 use Rattle.std.proofs.lemmas.Bool.{and_parts, or_cases, eqb-true}
 use Rattle.std.specs.List.{list_all, flat_map}
 use Rattle.ilasm_grammar.specs.Ilasm.{ilasm, rule_by}
 use Rattle.ilasm_grammar.specs.Terminals.{terminal_of}
 use Rattle.ilasm_grammar.specs.declared.nonterminals.TheConstants as n
 use Rattle.ilasm_grammar.specs.declared.productions.TheConstants as p
-use Rattle.ilasm_grammar.specs.declared.symbol.Symbol.{Symbol}
 use Rattle.ilasm_grammar.specs.declared.symbol.Symbol.TheVariants.{Terminal, Nonterminal}
 use Rattle.ilasm_grammar.specs.declared.terminals.TheConstants.{WORDS}
 use Rattle.il_lexer.specs.declared.types.TokenKind.TheVariants as kind
@@ -23,7 +22,7 @@ use Rattle.assembly_tree.specs.declared.members.Attribute.{Attribute}
 use Rattle.assembly_tree.specs.declared.members.Event.{Event}
 use Rattle.assembly_tree.specs.declared.members.Method.{Method}
 use Rattle.assembly_tree.specs.declared.members.Property.{Property}
-use Rattle.assembly_tree.proofs.FormedFacts.{properties_named, events_named, signatures_named, methods_named}
+use Rattle.assembly_tree.proofs.FormedFacts.{properties_named, events_named, methods_named}
 use Rattle.listing_model.specs.Grown.{head_of, body_of, Grows}
 use Rattle.listing_model.specs.Members.{own_reference, accessor_line, accessor, property, event}
 use Rattle.listing_model.specs.References.{method_ref}

@@ -1,12 +1,10 @@
 -- Bodies of methods grow.
-use Rattle.std.proofs.Common.{◌≡◌, ℕ, ◌+◌, ◌&&◌, ◌||◌, not, nat_eq, Bool, true, false, cond, List, [], ◌∷◌, ◌++◌, map, length, Option, None, Some, refl}
+use Rattle.std.proofs.Common.{◌≡◌, ℕ, ◌+◌, ◌||◌, not, nat_eq, Bool, true, false, cond, List, [], ◌∷◌, map, length, None, Some, refl}
 use Rattle.std.proofs.lemmas.Bool.{and_parts, false≢true}
 use Rattle.std.specs.List.{list_all, list_any}
-use Rattle.std.specs.Prelude.{⊤}
 use Rattle.ilasm_grammar.specs.Ilasm.{ilasm, rule_by}
 use Rattle.ilasm_grammar.specs.declared.nonterminals.TheConstants as n
 use Rattle.ilasm_grammar.specs.declared.productions.TheConstants as p
-use Rattle.ilasm_grammar.specs.declared.symbol.Symbol.{Symbol}
 use Rattle.ilasm_grammar.specs.declared.symbol.Symbol.TheVariants.{Nonterminal}
 use Rattle.il_lexer.specs.declared.types.TokenKind.TheVariants as kind
 use Rattle.il_lexer.specs.declared.word.TheConstants as word
@@ -15,7 +13,7 @@ use Rattle.opcode_table.specs.declared.kind.OperandKind.{OperandKind}
 use Rattle.opcode_table.specs.declared.kind.OperandKind.TheVariants as form
 use Rattle.opcode_table.specs.declared.op.Op.{Op}
 use Rattle.type_terms.specs.declared.term.SigType.{SigType}
-use Rattle.assembly_tree.specs.WellFormedBodies.{operand_kind, fits_kind, are_targets, is_operand, is_instruction, is_handled, offset_of, size_of, is_body}
+use Rattle.assembly_tree.specs.WellFormedBodies.{operand_kind, fits_kind, is_operand, is_instruction, is_handled, offset_of, size_of, is_body}
 use Rattle.assembly_tree.specs.declared.assembly.Assembly.{Assembly}
 use Rattle.assembly_tree.specs.declared.assembly.ExternAssembly.{ExternAssembly}
 use Rattle.assembly_tree.specs.declared.body.Body.{Body}
@@ -30,10 +28,9 @@ use Rattle.listing_leaves.specs.Texts.{quoted_units, is_simple_string, unit_byte
 use Rattle.listing_model.specs.Bodies.{label_line, comma_name, targets, is_token, real_bits, token_item, operand_item, instruction, instructions, handler, handled, clause, ends_last, local, locals_from, locals_between, locals, end_label, body}
 use Rattle.listing_model.specs.Grown.{body_of, Grows}
 use Rattle.listing_model.specs.Members.{number_in_brackets}
-use Rattle.listing_model.specs.Shown.{Shown, none, Item, item, put, w, token, branch, line, optional, when}
-use Rattle.listing_model.specs.Types.{type_of, owner}
-use Rattle.listing_model.specs.Values.{one_string, string_below}
-use Rattle.listing_growth.specs.Held.{is_operand_held, is_instruction_held, is_handled_held, is_clause_held, is_body_held, is_type_held}
+use Rattle.listing_model.specs.Shown.{none, Item, item, put, w, token, branch, line, optional, when}
+use Rattle.listing_model.specs.Values.{one_string}
+use Rattle.listing_growth.specs.Held.{is_operand_held, is_instruction_held, is_handled_held, is_clause_held, is_body_held}
 use Rattle.listing_growth.specs.Laws.{Stands}
 use Rattle.listing_growth.specs.Standing.{can_stand, all_stand, owner_can_stand, method_stands, field_stands}
 use Rattle.listing_growth.proofs.Formed.{types_may, owner_may_stand, method_ref_may, field_ref_may}

@@ -1,7 +1,6 @@
 -- The canonical source of an assembly grows.
-use Rattle.std.proofs.Common.{◌≡◌, ℕ, suc, ◌&&◌, Bool, true, List, [], ◌∷◌, ◌++◌, map, length, refl}
+use Rattle.std.proofs.Common.{◌≡◌, ℕ, suc, true, List, [], ◌∷◌, ◌++◌, map, length, refl}
 use Rattle.std.proofs.lemmas.Bool.{and_parts}
-use Rattle.std.specs.List.{list_all}
 use Rattle.ilasm_grammar.specs.Ilasm.{ilasm, rule_by}
 use Rattle.ilasm_grammar.specs.declared.nonterminals.TheConstants as n
 use Rattle.ilasm_grammar.specs.declared.productions.TheConstants as p

@@ -1,12 +1,11 @@
 -- Fields in a row, and types, grow.
-use Rattle.std.proofs.Common.{◌≡◌, ℕ, zero, suc, ◌+◌, ◌&&◌, nat_lt, nat_eq, arith, Bool, true, false, List, [], ◌∷◌, ◌++◌, map, length, Option, None, Some, refl, ap, sym, subst, ◌∙◌}
-use Rattle.std.proofs.lemmas.Bool.{and_parts, eqb-true, false≢true}
+use Rattle.std.proofs.Common.{◌≡◌, ℕ, zero, suc, ◌+◌, ◌&&◌, nat_lt, arith, Bool, true, false, List, [], ◌∷◌, ◌++◌, map, length, Option, None, Some, refl, sym, subst, ◌∙◌}
+use Rattle.std.proofs.lemmas.Bool.{and_parts, eqb-true}
 use Rattle.std.specs.List.{list_all}
 use Rattle.std.specs.Prelude.{option_map}
 use Rattle.ilasm_grammar.specs.Ilasm.{ilasm, rule_by}
 use Rattle.ilasm_grammar.specs.declared.nonterminals.TheConstants as n
 use Rattle.ilasm_grammar.specs.declared.productions.TheConstants as p
-use Rattle.ilasm_grammar.specs.declared.symbol.Symbol.{Symbol}
 use Rattle.ilasm_grammar.specs.declared.symbol.Symbol.TheVariants.{Nonterminal}
 use Rattle.il_lexer.specs.declared.word.TheConstants as word
 use Rattle.type_terms.specs.declared.name.TypeId.{TypeId}
@@ -29,16 +28,16 @@ use Rattle.assembly_tree.specs.declared.typedef.TypeDef.TheOpen.{TypeDef-F}
 use Rattle.assembly_tree.specs.declared.typedef.TypeDef.TheFolds.{fold_out-TypeDef}
 use Rattle.assembly_tree.specs.declared.typedef.TypeDef.TheViews.{out-TypeDef}
 use Rattle.assembly_tree.proofs.FormedFacts.{types_named, heads_named, fields_named}
-use Rattle.listing_model.specs.Classes.{ClassShown, classes_from, layout_lines, typar_member, extends_opt, implements, class_members, class_item, class_step, class}
+use Rattle.listing_model.specs.Classes.{ClassShown, classes_from, layout_lines, typar_member, implements, class_item, class_step, class}
 use Rattle.listing_model.specs.Grown.{head_of, body_of, Grows}
-use Rattle.listing_model.specs.Members.{typar_lines, field, field_items, fields, behind_field, field_contents, property, event, specs}
+use Rattle.listing_model.specs.Members.{typar_lines, field, field_items, fields, behind_field, field_contents, property, event}
 use Rattle.listing_model.specs.Methods.{method}
-use Rattle.listing_model.specs.Shown.{Shown, none, Item, item, put, branch, w}
+use Rattle.listing_model.specs.Shown.{none, item, put, branch, w}
 use Rattle.listing_model.specs.Types.{owner}
 use Rattle.listing_model.specs.Values.{customs}
 use Rattle.listing_growth.specs.Held.{are_attributes_held, is_generic_held, is_owner_held, is_field_held, is_method_held, is_property_held, is_event_held, is_own_held, typedef_holds, is_typedef_held}
 use Rattle.listing_growth.specs.Laws.{Stands}
-use Rattle.listing_growth.specs.Standing.{owner_can_stand, all_owners_stand}
+use Rattle.listing_growth.specs.Standing.{all_owners_stand}
 use Rattle.listing_growth.proofs.Accessors.{customs_stand, methods_sign, property_stands, event_stands}
 use Rattle.listing_growth.proofs.Flags.{types_grow}
 use Rattle.listing_growth.proofs.Formed.{both, some_length, type_may, owner_may_stand, owners_may, generics_may}

@@ -5,19 +5,19 @@ use Rattle.std.specs.List.{list_all}
 use Rattle.type_terms.specs.declared.reference.FieldRef.{FieldRef}
 use Rattle.type_terms.specs.declared.reference.MethodRef.{MethodRef}
 use Rattle.type_terms.specs.declared.reference.MethodSig.{MethodSig}
-use Rattle.type_terms.specs.declared.term.Owner.{Owner, fold-Owner, fold-roll-Owner, map-Owner, roll-Owner}
+use Rattle.type_terms.specs.declared.term.Owner.{Owner, fold-Owner, fold-roll-Owner, map-Owner}
 use Rattle.type_terms.specs.declared.term.Owner.TheOpen as layer
-use Rattle.type_terms.specs.declared.term.SigType.{SigType, fold-SigType, fold-roll-SigType, map-SigType, roll-SigType}
+use Rattle.type_terms.specs.declared.term.SigType.{SigType, fold-SigType, fold-roll-SigType, map-SigType}
 use Rattle.type_terms.proofs.Layers.{OwnerWith, TypeWith, owner_values, type_values, by_layers, owner_by_layers}
 use Rattle.assembly_tree.specs.WellFormedMembers.{is_attribute, is_generic}
-use Rattle.assembly_tree.specs.WellFormedNames.{option_all, is_name}
+use Rattle.assembly_tree.specs.WellFormedNames.{option_all}
 use Rattle.assembly_tree.specs.WellFormedTerms as formed
 use Rattle.assembly_tree.specs.declared.assembly.Assembly.{Assembly}
 use Rattle.assembly_tree.specs.declared.members.Attribute.{Attribute}
 use Rattle.assembly_tree.specs.declared.members.Generic.{Generic}
 use Rattle.assembly_tree.proofs.FormedFacts.{method_refs_named, field_refs_named, signatures_named}
 use Rattle.listing_growth.specs.Held.{owner_holds, type_holds, is_type_held, is_owner_held, is_signature_held, is_method_ref_held, is_field_ref_held, is_attribute_held, is_generic_held}
-use Rattle.listing_growth.specs.Standing.{has_name, owner_stands, type_stands, can_stand, owner_can_stand, all_stand, all_owners_stand, args_stand, signature_stands, method_stands, field_stands, generic_stands, all_generics_stand}
+use Rattle.listing_growth.specs.Standing.{owner_stands, type_stands, can_stand, owner_can_stand, all_stand, all_owners_stand, args_stand, signature_stands, method_stands, field_stands, generic_stands, all_generics_stand}
 
 pub both : (x y : Bool) → x ≡ true → y ≡ true → (x && y) ≡ true
 both true y h k = k

@@ -1,11 +1,10 @@
 -- The manifest, the assemblies that it names and the numbers of the headers grow.
-use Rattle.std.proofs.Common.{◌≡◌, ℕ, suc, ◌+◌, ◌&&◌, nat_eq, Bool, true, false, cond, List, [], ◌∷◌, ◌++◌, map, length, Option, None, Some, refl, bit_and}
+use Rattle.std.proofs.Common.{◌≡◌, ℕ, suc, nat_eq, Bool, true, false, cond, List, [], ◌∷◌, ◌++◌, length, refl, bit_and}
 use Rattle.std.proofs.lemmas.Bool.{and_parts}
 use Rattle.std.specs.List.{list_all}
 use Rattle.ilasm_grammar.specs.Ilasm.{ilasm, rule_by}
 use Rattle.ilasm_grammar.specs.declared.nonterminals.TheConstants as n
 use Rattle.ilasm_grammar.specs.declared.productions.TheConstants as p
-use Rattle.ilasm_grammar.specs.declared.symbol.Symbol.{Symbol}
 use Rattle.ilasm_grammar.specs.declared.symbol.Symbol.TheVariants.{Nonterminal}
 use Rattle.il_lexer.specs.declared.types.TokenKind.TheVariants as kind
 use Rattle.il_lexer.specs.declared.word.TheConstants as word
@@ -18,9 +17,9 @@ use Rattle.assembly_tree.specs.declared.members.Attribute.{Attribute}
 use Rattle.listing_leaves.specs.Bytes.{equals_bytes}
 use Rattle.listing_leaves.specs.Texts.{quoted}
 use Rattle.listing_model.specs.Flags.{without_bits}
-use Rattle.listing_model.specs.Grown.{head_of, body_of, Grows}
+use Rattle.listing_model.specs.Grown.{Grows}
 use Rattle.listing_model.specs.Manifests.{version, key, culture, all_below, hash, extern_items, extern_item, extern_lines, hash_algorithm, assembly_items, assembly_item, header_lines, manifest_lines}
-use Rattle.listing_model.specs.Shown.{Shown, none, Item, item, put, token, w, line, branch, when}
+use Rattle.listing_model.specs.Shown.{none, Item, item, put, token, w, line, branch, when}
 use Rattle.listing_model.specs.Types.{name, has_alias, alias}
 use Rattle.listing_model.specs.Values.{one_string, customs}
 use Rattle.listing_growth.specs.Held.{are_attributes_held, is_manifest_held}
@@ -28,7 +27,7 @@ use Rattle.listing_growth.specs.Laws.{Stands}
 use Rattle.listing_growth.proofs.Accessors.{customs_stand}
 use Rattle.listing_growth.proofs.Flags.{assemblies_grow}
 use Rattle.listing_growth.proofs.Methods.{when_grows}
-use Rattle.listing_growth.proofs.Rows.{EachStands, each_append, each_put, IsOption, OptionGrows, optional_stands, IsRow, star_stands}
+use Rattle.listing_growth.proofs.Rows.{EachStands, each_append, each_put, IsOption, optional_stands, IsRow, star_stands}
 use Rattle.listing_growth.proofs.Values.{string_stands}
 
 alias_option : IsOption n.ALIAS_OPT p.ALIAS_OPT_SOME p.ALIAS_OPT_NONE (Nonterminal n.ALIAS ∷ [])

@@ -1,5 +1,5 @@
 -- Methods grow.
-use Rattle.std.proofs.Common.{◌≡◌, ℕ, suc, ◌+◌, ◌&&◌, ◌||◌, not, nat_eq, Bool, true, false, cond, is_some, List, [], ◌∷◌, ◌++◌, map, length, Option, None, Some, refl}
+use Rattle.std.proofs.Common.{◌≡◌, ℕ, suc, ◌&&◌, not, nat_eq, Bool, true, false, cond, List, [], ◌∷◌, map, length, Option, None, Some, refl}
 use Rattle.std.proofs.lemmas.Bool.{and_parts}
 use Rattle.std.specs.List.{list_all, flat_map}
 use Rattle.ilasm_grammar.specs.Ilasm.{ilasm, rule_by}
@@ -7,7 +7,6 @@ use Rattle.ilasm_grammar.specs.declared.nonterminals.TheConstants as n
 use Rattle.ilasm_grammar.specs.declared.productions.TheConstants as p
 use Rattle.ilasm_grammar.specs.declared.symbol.Symbol.{Symbol}
 use Rattle.ilasm_grammar.specs.declared.symbol.Symbol.TheVariants.{Nonterminal}
-use Rattle.il_lexer.specs.declared.word.TheConstants as word
 use Rattle.type_terms.specs.declared.reference.MethodRef.{MethodRef}
 use Rattle.type_terms.specs.declared.term.SigType.{SigType}
 use Rattle.assembly_tree.specs.WellFormedBodies.{is_body}
@@ -24,12 +23,12 @@ use Rattle.assembly_tree.specs.declared.members.Param.{Param}
 use Rattle.assembly_tree.proofs.FormedFacts.{methods_named}
 use Rattle.listing_model.specs.Flags.{flags_below}
 use Rattle.listing_model.specs.Grown.{head_of, body_of, Grows}
-use Rattle.listing_model.specs.Members.{typar_key, typar_line, typar_lines}
-use Rattle.listing_model.specs.Methods.{row_of, param_flags, param_name, wants_line, line_flags, param_line, typar_item, parameter, parameters, def_args, row_lines, override, entrypoint, body_opt, method_items, method}
-use Rattle.listing_model.specs.Shown.{Shown, none, Item, item, put, branch, when}
+use Rattle.listing_model.specs.Members.{typar_line, typar_lines}
+use Rattle.listing_model.specs.Methods.{row_of, wants_line, param_line, typar_item, parameter, parameters, def_args, row_lines, override, entrypoint, body_opt, method_items, method}
+use Rattle.listing_model.specs.Shown.{Shown, none, Item, branch, when}
 use Rattle.listing_model.specs.Types.{name}
 use Rattle.listing_model.specs.Values.{customs}
-use Rattle.listing_growth.specs.Held.{is_type_held, is_attribute_held, are_attributes_held, is_generic_held, is_param_held, is_method_ref_held, is_body_held, is_method_held}
+use Rattle.listing_growth.specs.Held.{are_attributes_held, is_generic_held, is_param_held, is_method_ref_held, is_body_held, is_method_held}
 use Rattle.listing_growth.specs.Laws.{Stands}
 use Rattle.listing_growth.specs.Standing.{can_stand, all_stand}
 use Rattle.listing_growth.proofs.Accessors.{customs_stand}

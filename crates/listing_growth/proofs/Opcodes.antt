@@ -1,5 +1,5 @@
 -- Each mnemonic stands for the nonterminal of its form.
-use Rattle.std.proofs.Common.{◌≡◌, ℕ, ◌+◌, refl}
+use Rattle.std.proofs.Common.{ℕ, ◌+◌, refl}
 use Rattle.std.specs.Prelude.{⊤}
 use Rattle.il_lexer.specs.WordList.{words}
 use Rattle.ilasm_grammar.specs.Ilasm.{ilasm, rule_by, picked, picked_by}

@@ -1,0 +1,41 @@
+-- What holds of the forest of any piece of a listing.
+use Rattle.std.specs.Prelude.{ℕ, suc, ◌+◌, ◌≡◌, ◌<◌, true, false, List, [], ◌++◌, map, take, drop, bytes_eq, position, slice_get, Some}
+use Rattle.il_lexer.specs.Unplaced.{spelling_in}
+use Rattle.ilasm_grammar.specs.declared.symbol.Symbol.{Symbol}
+use Rattle.source_model.specs.Forest as f
+use Rattle.source_model.specs.Source.{Source}
+use Rattle.assembly_tree.specs.WellFormedNames.{all_differ}
+use Rattle.listing_model.specs.Grown.{Grows, nodes}
+use Rattle.listing_model.specs.Shown.{Shown, leaves, size, Item, star_production, star_below}
+use Rattle.listing_reading.specs.Below.{cant_stand, cant_lead}
+use Rattle.listing_reading.specs.Numbered.{numbered, leaf_spelling, Agrees, rest, place}
+use Rattle.listing_reading.specs.Rows.{AreAmong, parts_at}
+
+-- The forest of a piece: its nodes in preorder, and its last token; and a source whose tokens are spelled as its leaves has it.
+pub record ForestsAgree : Type 0 where
+  pub nodes : (at : ℕ) (g : Shown) → f.preorder (numbered at g) ≡ nodes at g
+  pub tokens : (s : Source) (g : Shown) → map (spelling_in s.bytes) s.tokens ≡ map leaf_spelling (leaves g) → Agrees s 0 g
+  pub last : (at : ℕ) (g : Shown) → 0 < size g → suc (f.last_token (numbered at g)) ≡ at + size g
+
+-- What grows from symbols in which productions can't stand has no part of them. A search goes on past the first trees of a piece
+-- where what is sought can't stand in them, or can't lead them.
+pub record SearchesPass : Type 0 where
+  pub nothing : (sought : List ℕ) (symbols : List Symbol) → cant_stand sought symbols ≡ true → (g : Shown) → Grows symbols g → (at : ℕ) →
+      f.parts sought (numbered at g) ≡ []
+  pub parts : (sought : List ℕ) (k : ℕ) (symbols : List Symbol) → cant_stand sought (take k symbols) ≡ true → (g : Shown) → Grows symbols g → (at : ℕ) →
+      f.parts sought (numbered at g) ≡ f.parts sought (numbered (place k at g) (rest k g))
+  pub child : (sought : List ℕ) (k : ℕ) (symbols : List Symbol) → cant_lead sought (take k symbols) ≡ true → (g : Shown) → Grows symbols g → (at : ℕ) →
+      f.child sought (numbered at g) ≡ f.child sought (numbered (place k at g) (rest k g))
+  pub rest : (k : ℕ) (symbols : List Symbol) (g : Shown) → Grows symbols g → Grows (drop k symbols) (rest k g)
+
+-- The parts of a row are its items, in order, where its own productions aren't sought and its items are.
+pub record RowsAreRead : Type 0 where
+  pub star : (sought : List ℕ) (more end : ℕ) → f.is_among sought more ≡ false → f.is_among sought end ≡ false → (items : List Item) →
+      AreAmong sought items → (at : ℕ) (after : f.Forest) →
+      f.parts sought (f.branch (star_production more end items) (numbered at (star_below more end items)) after) ≡ parts_at at items ++ f.parts sought after
+
+-- In a list whose texts are all different the first that is equal to one of them stands at its place.
+abbrev pub FirstIsThere : Type 0
+FirstIsThere =
+    (texts : List (List ℕ)) → all_differ bytes_eq texts ≡ true → (k : ℕ) (text : List ℕ) → slice_get texts k ≡ Some text →
+    position (λ other. bytes_eq other text) texts ≡ Some k

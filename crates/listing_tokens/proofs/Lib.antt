@@ -1,0 +1,14 @@
+mod Sound
+mod Ends
+mod Words
+mod Terms
+mod References
+mod Values
+mod Members
+mod Bodies
+mod Methods
+mod Classes
+mod Manifests
+mod Canon
+mod Depth
+mod Whole

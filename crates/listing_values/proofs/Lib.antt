@@ -1,0 +1,6 @@
+mod Texts
+mod Parts
+mod Names
+mod Numbers
+mod Bytes
+mod Labels
