@@ -11,6 +11,8 @@ from made import filled, rows_of, settle, text_of
 
 CRATE = "crates/ilasm_grammar"
 TEXT = "tools/grammar.txt"
+# a copy that a program of the gate compares with the built table
+COPY = "crates/cases_tables/data/grammar.txt"
 KINDS = {"NAME": "NAME", "SCOPE": "SCOPE", "INT": "INT", "QSTRING": "QSTRING", "EQBYTES": "EQ_BYTES", "BYTEARRAY": "BYTE_ARRAY",
          "REALBYTES": "REAL_BYTES"}
 PIECE = re.compile(r"`[^`]*`[?*]?|\(|\)[?*]?|\||[^\s()|`]+")
@@ -289,7 +291,7 @@ def main():
         made[f"src/{path}"] = statics(head_of(path), [(says[name], name, of, len(values), filled(values), crate)
                                                       for name, of, values in parts])
     made["specs/Certificate.antt"] = certificate(g)
-    settle({f"{CRATE}/{path}": text for path, text in made.items()})
+    settle({**{f"{CRATE}/{path}": text for path, text in made.items()}, COPY: text_of(TEXT)})
 
 
 def pub_of(path, name):

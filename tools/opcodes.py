@@ -8,6 +8,8 @@ from made import filled, rows_of, settle, text_of
 
 CRATE = "crates/opcode_table"
 TEXT = "tools/opcodes.txt"
+# a copy that a program of the gate compares with the built tables
+COPY = "crates/cases_tables/data/opcodes.txt"
 SHIFTS, SLOTS = 128, 512
 
 
@@ -106,7 +108,8 @@ def main():
     below = f"pub number-below : (op : Op) → number_of op < {len(ops)}"
     numbers.lines = numbers.lines[:numbers.lines.index(below) + 1] + [f"number-below {op} = lit< tt" for op in ops]
 
-    settle({it.path: it.text() for it in (op_file, table, bytes_file, mnemonic, specs, numbers)})
+    made = {it.path: it.text() for it in (op_file, table, bytes_file, mnemonic, specs, numbers)}
+    settle({**made, COPY: text_of(TEXT)})
 
 
 main()

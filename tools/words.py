@@ -10,6 +10,8 @@ from made import between, filled, rows_of, settle, text_of
 
 CRATE = "crates/il_lexer"
 TEXT = "tools/words.txt"
+# a copy that a program of the gate compares with the built lists
+COPY = "crates/cases_tables/data/words.txt"
 SLOTS = 4096
 
 
@@ -56,6 +58,7 @@ def main():
     made[f"{CRATE}/src/word.rt"] = head + "\n\n" + "\n\n".join(consts) + "\n"
     made[f"{CRATE}/specs/WordList.antt"] = between(
         f"{CRATE}/specs/WordList.antt", "words =", "    []", [f'    codes "{it}" ∷' for it in words])
+    made[COPY] = text_of(TEXT)
     settle(made)
 
 
