@@ -1,0 +1,5 @@
+use Rattle.signature_verdicts.proofs.Verdicts.{arguments_said}
+use Rattle.signature_verdicts.proofs.judgements.Judgements.are_arguments.Goals as goal
+
+pub returns : goal.returns
+returns g c = rw c.of.ensures (arguments_said c.args.self.now.image.now (g.O.Owners.facts c.args.self.now.owners.now) c.args.index)

@@ -1,0 +1,9 @@
+pub mod Agreeing
+pub mod Blobs
+pub mod Complete
+pub mod Final
+pub mod Going
+pub mod Lists
+pub mod Owned
+pub mod Placing
+pub mod Sound
