@@ -1,0 +1,9 @@
+pub mod Bytes
+pub mod Constants
+pub mod Parts
+pub mod Bodies
+pub mod Members
+pub mod Types
+pub mod Trees
+pub mod Entries
+pub mod Whole
