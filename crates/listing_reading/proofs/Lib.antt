@@ -1,3 +1,4 @@
 mod Forests
 mod Searches
 mod Rows
+mod Runs

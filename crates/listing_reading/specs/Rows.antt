@@ -1,7 +1,8 @@
 -- The parts of rows in a listing.
-use Rattle.std.specs.Prelude.{ℕ, ◌+◌, ◌≡◌, true, List, [], ◌∷◌, ⊤}
+use Rattle.std.specs.Prelude.{ℕ, suc, ◌+◌, ◌≡◌, true, false, List, [], ◌∷◌, ⊤}
 use Rattle.source_model.specs.Forest as f
-use Rattle.listing_model.specs.Shown.{Item, size}
+use Rattle.source_model.specs.Items.{is_custom}
+use Rattle.listing_model.specs.Shown.{Item, size, behind_comma}
 use Rattle.listing_reading.specs.Numbered.{numbered}
 
 -- each of a row is one of these productions
@@ -17,4 +18,9 @@ parts_at at (i ∷ is) = f.part i.production (numbered at i.below) ∷ parts_at 
 -- the same where a comma stands before each
 abbrev pub parts_behind : ℕ → List Item → List f.Part
 parts_behind at [] = []
-parts_behind at (i ∷ is) = f.part i.production (numbered (1 + at) i.below) ∷ parts_behind (at + (1 + size i.below)) is
+parts_behind at (i ∷ is) = f.part i.production (numbered (suc at) i.below) ∷ parts_behind (at + size (behind_comma 0 i).below) is
+
+-- what is no attribute, if anything
+abbrev pub IsEndOfRun : List f.Part → Type 0
+IsEndOfRun [] = ⊤
+IsEndOfRun (p ∷ ps) = is_custom p ≡ false
