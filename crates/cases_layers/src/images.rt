@@ -3,6 +3,7 @@
 use crate::fault::Fault;
 use crate::files::push_line;
 use crate::values::{bytes_of, number8, number32, two};
+use assembly_tree::Assembly;
 use il_base::Bytes;
 use image_writer::{WriteFault, write};
 use metadata_tables::{TableView, columns};
@@ -214,12 +215,20 @@ fn image_of(alloc: Global, source: &[u8], kind: Kind) -> Result<Option<Bytes>, F
     if source.len() > LONGEST {
         return Err(Fault::Meaningless);
     }
-    let assembly = match assembly_of(alloc, source) {
-        Ok(assembly) => assembly,
-        Err(ReadFault::NoMemory) => return Err(Fault::NoMemory),
-        Err(ReadFault::Faulty(_)) => return Err(Fault::Meaningless),
-    };
-    match write(alloc, &assembly, ID, kind) {
+    let assembly = assembled(alloc, source)?;
+    written(alloc, &assembly, kind)
+}
+
+fn assembled(alloc: Global, source: &[u8]) -> Result<Assembly, Fault> {
+    match assembly_of(alloc, source) {
+        Ok(assembly) => Ok(assembly),
+        Err(ReadFault::NoMemory) => Err(Fault::NoMemory),
+        Err(ReadFault::Faulty(_)) => Err(Fault::Meaningless),
+    }
+}
+
+fn written(alloc: Global, assembly: &Assembly, kind: Kind) -> Result<Option<Bytes>, Fault> {
+    match write(alloc, assembly, ID, kind) {
         Ok(image) => Ok(Some(image)),
         Err(WriteFault::NoMemory) => Err(Fault::NoMemory),
         Err(_) => Ok(None),

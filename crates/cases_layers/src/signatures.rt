@@ -5,7 +5,7 @@ use crate::files::push_line;
 use crate::nameless::Nameless;
 use crate::values::{bytes_of, two};
 use sig_codec::{decode_method, decode_type};
-use sig_pool::SigPool;
+use sig_pool::{SigId, SigPool};
 use std::alloc::Global;
 use type_terms::{MethodSig, SigType};
 
@@ -54,19 +54,22 @@ impl Pooled {
         let Some((first, second)) = rest.split_once(", ") else {
             return Err(Fault::Meaningless);
         };
-        let first = spelled(alloc, first)?;
-        let second = spelled(alloc, second)?;
-        let same = self.interns_alike(&first, &second)?;
+        let first = self.interned(alloc, first)?;
+        let second = self.interned(alloc, second)?;
         let count = self.pool.len();
-        let one = if same { "one id" } else { "two ids" };
+        let one = if self.pool.same(first, second) {
+            "one id"
+        } else {
+            "two ids"
+        };
         write!(out, "{one}, {count} types")?;
         Ok(())
     }
 
-    fn interns_alike(&mut self, first: &SigType, second: &SigType) -> Result<bool, Fault> {
-        let first = self.pool.intern(first)?;
-        let second = self.pool.intern(second)?;
-        Ok(self.pool.same(first, second))
+    /// The id in the pool of the type that bytes spell.
+    fn interned(&mut self, alloc: Global, bytes: &str) -> Result<SigId, Fault> {
+        let of = spelled(alloc, bytes)?;
+        Ok(self.pool.intern(&of)?)
     }
 }
 
@@ -80,9 +83,18 @@ fn spelled(alloc: Global, bytes: &str) -> Result<SigType, Fault> {
 }
 
 fn push_type(alloc: Global, out: &mut String, bytes: &[u8]) -> Result<(), Fault> {
-    let found = decode_type(alloc, bytes, &Nameless)?;
-    out.push_str(if found.is_some() { "a type" } else { "none" })?;
+    let answer = if spells_type(alloc, bytes)? {
+        "a type"
+    } else {
+        "none"
+    };
+    out.push_str(answer)?;
     Ok(())
+}
+
+fn spells_type(alloc: Global, bytes: &[u8]) -> Result<bool, Fault> {
+    let found = decode_type(alloc, bytes, &Nameless)?;
+    Ok(found.is_some())
 }
 
 fn push_method(alloc: Global, out: &mut String, bytes: &[u8]) -> Result<(), Fault> {

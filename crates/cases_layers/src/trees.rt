@@ -7,6 +7,7 @@ use assembly_tree::{Assembly, Field, weight, well_formed};
 use il_lists::{Copies, NoMemory};
 use source_assembly::{ReadFault, assembly_of};
 use std::alloc::{AllocError, Global};
+use std::cmp::Ordering;
 use type_terms::{SigType, compare_terms, fits};
 
 /// The longest source.
@@ -72,12 +73,17 @@ fn stands_at(
     place: usize,
 ) -> Result<bool, NoMemory> {
     for (k, other) in fields.iter().enumerate() {
-        let copied = other.of.copy(alloc)?;
-        if compare_terms(of, &copied) != place.cmp(&k) {
+        if compared(alloc, of, &other.of)? != place.cmp(&k) {
             return Ok(false);
         }
     }
     Ok(true)
+}
+
+/// How a type compares with a copy of another.
+fn compared(alloc: Global, of: &SigType, other: &SigType) -> Result<Ordering, NoMemory> {
+    let copied = other.copy(alloc)?;
+    Ok(compare_terms(of, &copied))
 }
 
 /// The answers to lines. `begin TEXT` begins each source from there on; `formed TEXT ~ CHANGE ..` asks whether the tree of a source is

@@ -4,7 +4,7 @@ use super::{Changeable, attributes_of, patch_last, put};
 use crate::fault::Fault;
 use crate::terms::{outside, text_of};
 use crate::values::{number16, number32, two};
-use assembly_tree::{Accessor, Accessors, Event, Layout, Property, TypeDef};
+use assembly_tree::{Accessor, Accessors, Event, Layout, Property, TypeDef, TypeDefs};
 use il_lists::{Items, NoMemory};
 use std::alloc::Global;
 use type_terms::Owner;
@@ -19,12 +19,27 @@ impl Changeable for TypeDef {
             "base" => put(&mut self.extends, base(alloc, value)),
             "implements" => Ok(self.implements.push(outside(alloc, value)?)?),
             "attribute" => put(&mut self.attributes, attributes_of(alloc, value)),
-            "nested" => patch_last(alloc, &mut self.nested, value),
+            "nested" => patch_nested(alloc, &mut self.nested, value),
             "property" => patch_last(alloc, &mut self.properties, value),
             "event" => patch_last(alloc, &mut self.events, value),
             _ => Err(Fault::Meaningless),
         }
     }
+}
+
+/// Changes the class that a class nests last: its name or its base.
+fn patch_nested(alloc: Global, nested: &mut TypeDefs, value: &str) -> Result<(), Fault> {
+    let (field, value) = two(value)?;
+    let Some(mut of) = nested.pop() else {
+        return Err(Fault::Meaningless);
+    };
+    let patched = match field {
+        "name" => put(&mut of.id.name, text_of(alloc, value)),
+        "base" => put(&mut of.extends, base(alloc, value)),
+        _ => Err(Fault::Meaningless),
+    };
+    nested.push(of)?;
+    patched
 }
 
 fn packed(value: &str) -> Result<Option<Layout>, Fault> {
