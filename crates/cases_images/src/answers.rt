@@ -1,25 +1,49 @@
 //! What is printed of an image.
 
-ghost use Rattle.std.specs.Prelude.{◌≤◌, length};
+ghost use Rattle.std.specs.Prelude.{◌≤◌, ◌^◌, length};
 
 use crate::fault::Fault;
+use il_base::NoMemory;
 use image_model::{Place, demand_text};
-use image_streams::{Unmet, open};
+use image_streams::{Image, Unmet, open};
 use row_demands::first_unmet;
+use row_groups::Outers;
+use std::alloc::Global;
+use type_names::{TypeNames, first_unmet_scope};
 
-/// Prints the first demand that an image fails, or that there is none among I1 to I12.
+/// The greatest length of an image that is looked at.
+const MAX_IMAGE: usize = 1 << 26;
+
+/// Prints the first demand that an image fails, or that there is none among I1 to I13.
 pub fn show(rt: &HostRuntime, name: &str, image: &[u8]) -> Result<(), Fault> {
+    if image.len() > MAX_IMAGE {
+        return Err(Fault::Line);
+    }
     match first_fault(rt, image)? {
         Some(unmet) => show_fault(rt, name, &unmet),
-        None => Ok(println!(rt; "{name}: meets I1 to I12")?),
+        None => Ok(println!(rt; "{name}: meets I1 to I13")?),
     }
 }
 
-fn first_fault(rt: &HostRuntime, image: &[u8]) -> Result<Option<Unmet>, Fault> {
+fn first_fault(rt: &HostRuntime, image: &[u8]) -> Result<Option<Unmet>, Fault>
+    requires { length image.now ≤ 2 ^ 26 }
+{
     match open(image) {
-        Ok(image) => Ok(first_unmet(rt.alloc(), &image)?),
+        Ok(image) => Ok(unmet_row(rt.alloc(), &image)?),
         Err(unmet) => Ok(Some(unmet)),
     }
+}
+
+/// The first of the demands on rows that an opened image fails.
+fn unmet_row(alloc: Global, image: &Image<'_>) -> Result<Option<Unmet>, NoMemory>
+    requires { length image.now ≤ 2 ^ 26 }
+{
+    if let Some(unmet) = first_unmet(alloc, image)? {
+        return Ok(Some(unmet));
+    }
+    let outers = Outers::new(alloc, image)?;
+    let names = TypeNames::new(alloc, image, &outers)?;
+    Ok(first_unmet_scope(image, &names))
 }
 
 fn show_fault(rt: &HostRuntime, name: &str, unmet: &Unmet) -> Result<(), Fault> {

@@ -1,5 +1,5 @@
 -- What is asked of bases, apart.
-use Rattle.std.proofs.Common.{◌≡◌, ◌≢◌, ℕ, ◌⊎◌, List, refl, sym, subst, arith}
+use Rattle.std.proofs.Common.{◌≡◌, ◌≢◌, ℕ, ◌⊎◌, List, refl, sym, subst}
 use Rattle.std.specs.Prelude.{◌↔◌}
 use Rattle.image_model.specs.Columns.{type_extends}
 use Rattle.image_model.specs.Members.{HasBase, IsInterface, MayLackBase}

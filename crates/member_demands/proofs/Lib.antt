@@ -1,4 +1,5 @@
 pub mod Based
+pub mod ConstantCases
 pub mod Ordered
 pub mod Owned
 pub mod Valued

@@ -1,10 +1,10 @@
 -- What the order of tables and of runs says to those who look rows up.
-use Rattle.std.proofs.Common.{◌≡◌, ℕ, ◌-◌, ◌<◌, ◌≤◌, ◌⊎◌, inl, inr, List, [], ◌∷◌, map, refl, subst, arith}
+use Rattle.std.proofs.Common.{◌≡◌, ℕ, ◌-◌, ◌<◌, ◌≤◌, inl, inr, List, [], ◌∷◌, map, refl, subst, arith}
 use Rattle.metadata_tables.specs.Order.{sort_columns, IsNotAfter}
-use Rattle.metadata_tables.specs.Schema.{schema, columns_of}
+use Rattle.metadata_tables.specs.Schema.{schema}
 use Rattle.metadata_tables.specs.Stream.{cell, column_of}
 use Rattle.metadata_tables.specs.declared.schema.Column.TheVariants.{Row}
-use Rattle.image_model.specs.Cells.{HasIndexes, IsIndex}
+use Rattle.image_model.specs.Cells.{IsIndex}
 use Rattle.image_model.specs.Columns.{event_map_parent, property_map_parent}
 use Rattle.image_model.specs.Rows.{count_of, HasRow}
 use Rattle.image_model.specs.Streams.{tables_of}
@@ -38,6 +38,10 @@ layouts_columns : sort_columns 0x0F ≡ 2 ∷ []
 unfolding sort_columns
 layouts_columns = refl
 
+constants_columns : sort_columns 0x0B ≡ 2 ∷ []
+unfolding sort_columns
+constants_columns = refl
+
 offsets_columns : sort_columns 0x10 ≡ 1 ∷ []
 unfolding sort_columns
 offsets_columns = refl
@@ -63,6 +67,9 @@ module _ (image : List ℕ) (meets : MeetStructure image) where
 
   pub layouts_ascend : Ascends image 0x0F 2
   layouts_ascend = ascends image 0x0F 2 [] layouts_columns meets.order
+
+  pub constants_ascend : Ascends image 0x0B 2
+  constants_ascend = ascends image 0x0B 2 [] constants_columns meets.order
 
   pub offsets_ascend : Ascends image 0x10 1
   offsets_ascend = ascends image 0x10 1 [] offsets_columns meets.order

@@ -1,12 +1,11 @@
 -- The type that has an event or a property, and the accessors of these.
-use Rattle.std.proofs.Common.{◌≡◌, ℕ, zero, suc, ◌+◌, ◌-◌, ◌*◌, ◌<◌, ◌≤◌, ◌⊎◌, inl, inr, Bool, true, false, List, [], Option, Some, None, length, get_or, refl, sym, ◌∙◌, ap, subst, arith}
+use Rattle.std.proofs.Common.{◌≡◌, ℕ, ◌+◌, ◌*◌, ◌<◌, ◌≤◌, inl, inr, List, [], Option, refl, sym, ◌∙◌, ap, subst, arith}
 use Rattle.std.specs.Prelude.{◌↔◌, ◌==◌, find, All, Contains}
 use Rattle.std.specs.List.{range_with_len}
 use Rattle.std.specs.Option.{option_map_or}
-use Rattle.std.proofs.lemmas.Bool.{cases_order, cases_eq, eqb-true, eqb-false}
+use Rattle.std.proofs.lemmas.Bool.{cases_order, eqb-true, eqb-false}
 use Rattle.std.proofs.lemmas.List.FromFn.{length-range_with_len, get_or-range_with_len}
 use Rattle.metadata_tables.specs.CodedIndex.{tag_of}
-use Rattle.metadata_tables.specs.Stream.{cell}
 use Rattle.metadata_tables.specs.declared.coded.Coded.TheVariants.{HasSemantics}
 use Rattle.image_model.specs.Columns.{event_map_parent, property_map_parent, semantics_association, semantics_method}
 use Rattle.image_model.specs.Members.{HasAccessors, HasOwnAccessors, semantics_of}

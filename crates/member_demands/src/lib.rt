@@ -4,6 +4,7 @@
 
 mod accessors;
 mod bases;
+mod constants;
 mod generics;
 mod kinds;
 mod layouts;
@@ -11,6 +12,7 @@ mod standing;
 
 pub use accessors::Accessors;
 pub use bases::Bases;
+pub use constants::{field_has_constants, param_has_constants, property_has_constants};
 pub use generics::{method_has_generics, type_has_generics};
 pub use kinds::{event_has_kinds, overrides_in_class, property_has_kinds};
 pub use layouts::{has_layout, has_one_data, has_one_offset};

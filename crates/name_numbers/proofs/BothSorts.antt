@@ -1,8 +1,7 @@
 -- All nodes of both sorts have their numbers.
-use Rattle.std.proofs.Common.{◌≡◌, ℕ, ◌+◌, ◌<◌, ◌≤◌, ◌⊎◌, inl, inr, Bool, true, false, List, [], Some, length, refl, sym, ◌∙◌, ap, subst, arith}
+use Rattle.std.proofs.Common.{◌≡◌, ℕ, ◌<◌, inl, inr, true, false, List, [], Some, length, refl, sym, ◌∙◌, ap, subst, arith}
 use Rattle.std.specs.Prelude.{slice_get}
 use Rattle.std.proofs.lemmas.Bool.{cases_lt, cases_Bool, false≢true}
-use Rattle.std.proofs.lemmas.List.{length-append}
 use Rattle.std.proofs.lemmas.Option.{same_Some}
 use Rattle.type_terms.specs.declared.name.TypeId.{TypeId}
 use Rattle.name_numbers.specs.Names.{name_by, name_of, parent_at, id_at, is_root, AreNodes, AreNumbers, AreRoots, root_named, named_at, number_at, root_at, depth_at}

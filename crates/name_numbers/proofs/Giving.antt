@@ -1,10 +1,10 @@
 -- Giving a name its number.
-use Rattle.std.proofs.Common.{◌≡◌, ℕ, ◌<◌, ◌⊎◌, inl, inr, List, [], ◌∷◌, ◌++◌, Some, length, refl, sym, ◌∙◌, ap, arith}
+use Rattle.std.proofs.Common.{◌≡◌, ℕ, ◌⊎◌, inl, inr, List, [], ◌∷◌, ◌++◌, Some, length, refl, sym, ◌∙◌, ap, arith}
 use Rattle.std.specs.Prelude.{slice_get}
 use Rattle.std.specs.Option.{option_map}
 use Rattle.std.proofs.lemmas.Option.{slice_get-map}
-use Rattle.name_numbers.specs.Table.{Told, told, HasName, LacksName, AddsName, names_in}
-use Rattle.name_numbers.specs.Numbering.{GivesNumber, AreBelow}
+use Rattle.name_numbers.specs.Table.{Told, told, HasName, LacksName}
+use Rattle.name_numbers.specs.Numbering.{GivesNumber}
 use Rattle.name_numbers.specs.declared.table.Entry.{Entry}
 use Rattle.name_numbers.proofs.Chaining.{snoc_cases, snoc_old, snoc_new}
 

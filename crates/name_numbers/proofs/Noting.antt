@@ -1,11 +1,11 @@
 -- The table with one name more.
-use Rattle.std.proofs.Common.{◌≡◌, ℕ, ◌+◌, List, ◌∷◌, ◌++◌, [], Option, Some, cond, length, map, sym, ◌∙◌, ap, refl, inl, inr}
+use Rattle.std.proofs.Common.{◌≡◌, ℕ, List, ◌∷◌, ◌++◌, [], Option, Some, cond, length, map, sym, ◌∙◌, ap, refl, inl, inr}
 use Rattle.std.specs.Prelude.{nat_eq}
 use Rattle.std.proofs.lemmas.List.{length-map, map-append}
 use Rattle.std.proofs.lemmas.Bool.{eq-eqb, eqb-true, cases_Bool}
 use Rattle.hash_places.specs.Slots.{place_of}
 use Rattle.name_numbers.specs.Chains.{IsChained}
-use Rattle.name_numbers.specs.Table.{Told, told, told_hash, names_in, Finds, LacksName}
+use Rattle.name_numbers.specs.Table.{Told, told, told_hash, Finds, LacksName}
 use Rattle.name_numbers.specs.declared.table.NameTable.{NameTable}
 use Rattle.name_numbers.specs.declared.table.Entry.{Entry}
 use Rattle.name_numbers.proofs.Chaining.{IsChained-push}

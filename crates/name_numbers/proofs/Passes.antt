@@ -1,11 +1,11 @@
 -- Nodes are looked at one after the other, in passes.
-use Rattle.std.proofs.Common.{◌≡◌, ℕ, zero, suc, ◌+◌, ◌-◌, ◌<◌, ◌≤◌, ◌⊎◌, inl, inr, Bool, true, false, List, [], ◌∷◌, Option, Some, None, length, set, get_or, refl, sym, ◌∙◌, ap, subst, arith}
-use Rattle.std.proofs.lemmas.Bool.{cases_eq, cases_lt, cases_Bool}
+use Rattle.std.proofs.Common.{◌≡◌, ℕ, zero, suc, ◌+◌, ◌<◌, ◌≤◌, ◌⊎◌, inl, inr, Bool, true, false, List, Option, Some, length, set, refl, sym, ◌∙◌, ap, subst, arith}
+use Rattle.std.proofs.lemmas.Bool.{cases_lt}
 use Rattle.std.proofs.lemmas.List.{length-set, get_or-set_same, get_or-set_other}
 use Rattle.std.proofs.lemmas.Option.{none-some, same_Some}
 use Rattle.type_terms.specs.declared.name.TypeId.{TypeId}
 use Rattle.name_numbers.specs.Names.{name_by, node_at, parent_at, id_at, is_root, max_texts, named_at, number_at, root_at, depth_at}
-use Rattle.name_numbers.specs.Table.{Finds, HasName, Told, told}
+use Rattle.name_numbers.specs.Table.{Finds, Told, told}
 use Rattle.name_numbers.specs.Numbering.{HaveNumbers, HasEntry, IsNumbering, AreBelow, Visits, Settles, IsSort, GivesNumber}
 use Rattle.name_numbers.specs.declared.numbering.Named.{Named}
 use Rattle.name_numbers.specs.declared.numbering.Node.{Node}

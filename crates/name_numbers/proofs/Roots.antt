@@ -1,5 +1,5 @@
 -- Which nodes are roots, and the two sorts of the others.
-use Rattle.std.proofs.Common.{◌≡◌, ℕ, ◌<◌, ◌≤◌, ◌⊎◌, inl, inr, Bool, true, false, refl, subst, sym, arith, List, length}
+use Rattle.std.proofs.Common.{◌≡◌, ℕ, ◌<◌, ◌≤◌, ◌⊎◌, inl, inr, Bool, true, false, refl, subst, sym, arith, List}
 use Rattle.std.specs.Prelude.{◌==◌, ◌||◌, nat_le}
 use Rattle.std.proofs.lemmas.Bool.{cases_eq, cases_lt, or_from, or_left, ne_eqb, le-leb, lt-leb}
 use Rattle.name_numbers.specs.Names.{is_root, parent_at, AreNodes}

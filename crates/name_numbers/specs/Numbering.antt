@@ -3,7 +3,6 @@ use Rattle.std.specs.Prelude.{◌≡◌, ℕ, ◌+◌, ◌<◌, ◌≤◌, ◌�
 use Rattle.type_terms.specs.declared.name.TypeId.{TypeId}
 use Rattle.name_numbers.specs.Names.{name_by, name_of, parent_at, id_at, is_root, max_texts, named_at, number_at, root_at, depth_at}
 use Rattle.name_numbers.specs.Table.{Told, Finds, HasName}
-use Rattle.name_numbers.specs.declared.numbering.Named.{Named}
 use Rattle.name_numbers.specs.declared.numbering.Node.{Node}
 use Rattle.name_numbers.specs.declared.numbering.Numbering.{Numbering}
 use Rattle.name_numbers.specs.declared.table.Entry.{Entry}

@@ -1,25 +1,23 @@
 -- What indexes in their ranges and entries in their heaps say of types and references.
-use Rattle.std.proofs.Common.{◌≡◌, ℕ, zero, suc, ◌+◌, ◌-◌, ◌^◌, ◌<◌, ◌≤◌, ◌⊎◌, inl, inr, Bool, true, false, cond, List, [], ◌∷◌, Option, Some, None, length, refl, sym, ◌∙◌, ap, subst, arith}
-use Rattle.std.specs.Prelude.{◌==◌, find}
-use Rattle.std.specs.List.{range_with_len}
-use Rattle.std.specs.Option.{option_map_or}
+use Rattle.std.proofs.Common.{◌≡◌, ℕ, ◌-◌, ◌^◌, ◌<◌, ◌≤◌, ◌⊎◌, inl, inr, true, false, List, [], Option, Some, length, refl, sym, ◌∙◌, ap, subst, arith}
+use Rattle.std.specs.Prelude.{◌==◌}
 use Rattle.std.specs.Int.{bit_at}
-use Rattle.std.proofs.lemmas.Bool.{cases_Bool, cases_eq, cases_lt, cond-true, cond-false, eqb-true, eqb-false, ne_eqb, false≢true}
+use Rattle.std.proofs.lemmas.Bool.{cases_eq, cases_lt, cond-false, ne_eqb, false≢true}
 use Rattle.heaps.specs.Content.{HasText}
 use Rattle.metadata_tables.specs.Schema.{schema, columns_of}
 use Rattle.metadata_tables.specs.Stream.{cell, column_of, row_count, present}
 use Rattle.metadata_tables.specs.declared.coded.Coded.TheVariants.{ResolutionScope}
-use Rattle.metadata_tables.specs.declared.schema.Column.TheVariants.{Row, Strings, Tagged}
+use Rattle.metadata_tables.specs.declared.schema.Column.TheVariants.{Strings, Tagged}
 use Rattle.type_terms.specs.declared.name.TypeId.{TypeId}
 use Rattle.image_model.specs.Cells.{HasIndexes, HasEntries, IsIndex, IsEntry, NamesRow}
-use Rattle.image_model.specs.Columns.{type_name, type_space, type_ref_name, type_ref_space, type_ref_scope, nested_class, enclosing_class}
+use Rattle.image_model.specs.Columns.{type_name, type_space, type_ref_name, type_ref_space, type_ref_scope}
 use Rattle.image_model.specs.Faults.{HasTables}
 use Rattle.image_model.specs.Naming.{HasId, HasRefId}
-use Rattle.image_model.specs.Rows.{count_of, HasRow, enclosing, rows_of}
+use Rattle.image_model.specs.Rows.{count_of, HasRow, enclosing}
 use Rattle.image_model.specs.Streams.{tables_of, strings_of}
 use Rattle.name_numbers.specs.Names.{AreNodes, is_root, parent_at}
 use Rattle.name_numbers.specs.declared.numbering.Node.{Node}
-use Rattle.type_names.specs.Forest.{AreForest, HaveScopes, ref_node, assembly_node, scope_node, led_to, middle_of, last_of}
+use Rattle.type_names.specs.Forest.{AreForest, HaveScopes, ref_node, assembly_node, led_to, middle_of, last_of}
 use Rattle.name_numbers.proofs.Roots.{root_first, root_behind}
 use Rattle.row_groups.proofs.Enclosing.{outer_there}
 use Rattle.type_names.proofs.Paths.{scope_tables}

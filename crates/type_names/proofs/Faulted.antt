@@ -1,7 +1,7 @@
 -- The first row that fails I13 is a fault of the image.
-use Rattle.std.proofs.Common.{ℕ, ◌<◌, ◌≤◌, List, refl, arith}
+use Rattle.std.proofs.Common.{ℕ, List, refl, arith}
 use Rattle.image_model.specs.declared.place.Place.TheVariants.{Row}
-use Rattle.image_model.specs.Faults.{RowRule, indexes, entries, manifest, runs, order, scopes, signatures, distinct, values, header, instructions, clauses, tokens, attributes, bases, accessors, number_of, HoldBefore, NamedFor, HasTables, IsImageFault, in_row}
+use Rattle.image_model.specs.Faults.{indexes, entries, manifest, runs, order, scopes, signatures, distinct, values, header, instructions, clauses, tokens, attributes, bases, accessors, HoldBefore, NamedFor, HasTables, IsImageFault, in_row}
 use Rattle.image_model.specs.Structure.{HasScopes}
 use Rattle.demand_search.specs.Search as found
 use Rattle.row_demands.specs.Structured.{MeetStructure}

@@ -1,11 +1,11 @@
 -- The nodes of the types and of the references so far.
-use Rattle.std.proofs.Common.{◌≡◌, ℕ, ◌+◌, ◌<◌, ◌≤◌, ◌⊎◌, inl, inr, List, length, set, refl, sym, ◌∙◌, ap, subst, arith}
+use Rattle.std.proofs.Common.{◌≡◌, ℕ, ◌+◌, ◌<◌, ◌≤◌, ◌⊎◌, inl, inr, List, length, set, refl, sym, ◌∙◌, ap, arith}
 use Rattle.std.proofs.lemmas.Bool.{cases_eq}
 use Rattle.std.proofs.lemmas.List.{get_or-set_same, get_or-set_other, length-set}
 use Rattle.image_model.specs.Rows.{count_of}
 use Rattle.name_numbers.specs.Names.{node_at}
 use Rattle.name_numbers.specs.declared.numbering.Node.{Node}
-use Rattle.type_names.specs.Forest.{type_node, reference_node, ref_node, last_of}
+use Rattle.type_names.specs.Forest.{type_node, reference_node}
 
 abbrev no_node : Node
 no_node = record { parent = 0; space = 0; text = 0 }

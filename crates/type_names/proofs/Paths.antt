@@ -5,14 +5,14 @@ use Rattle.std.proofs.lemmas.Bool.{cases_eq}
 use Rattle.std.proofs.lemmas.List.{length-append}
 use Rattle.std.proofs.lemmas.Option.{same_Some, none-some, some_pair_parts}
 use Rattle.metadata_tables.specs.declared.coded.Coded.TheVariants.{ResolutionScope}
-use Rattle.metadata_tables.specs.CodedIndex.{unpacked, table_of, tags}
+use Rattle.metadata_tables.specs.CodedIndex.{table_of, tags}
 use Rattle.metadata_tables.specs.declared.coded.Coded.{Coded}
 use Rattle.type_terms.specs.declared.name.Scope.{Scope}
 use Rattle.type_terms.specs.declared.name.Scope.TheVariants.{Here, Extern}
 use Rattle.type_terms.specs.declared.name.TypeId.{TypeId}
 use Rattle.image_model.specs.Columns.{type_name, type_space, type_ref_name, type_ref_space, type_ref_scope}
 use Rattle.image_model.specs.Streams.{strings_of}
-use Rattle.image_model.specs.Rows.{count_of, HasRow, Names, enclosing}
+use Rattle.image_model.specs.Rows.{HasRow, Names, enclosing}
 use Rattle.image_model.specs.Naming.{HasId, HasRefId, HasPath, HasRefPath}
 use Rattle.name_numbers.specs.Names.{name_by, longer, parent_at, id_at, is_root}
 use Rattle.name_numbers.specs.Texts.{text_in}

@@ -1,9 +1,8 @@
 -- Tables have no more rows than the image has bytes.
-use Rattle.std.proofs.Common.{◌≡◌, ℕ, zero, suc, ◌+◌, ◌*◌, ◌-◌, ◌^◌, ◌<◌, ◌≤◌, List, [], ◌∷◌, Option, Some, None, length, take, drop, inl, inr, Bool, true, false, refl, sym, ◌∙◌, ap, subst, arith}
+use Rattle.std.proofs.Common.{◌≡◌, ℕ, ◌-◌, ◌<◌, ◌≤◌, List, [], ◌∷◌, Option, Some, None, length, take, drop, inl, inr, Bool, true, false, refl, ap, arith}
 use Rattle.std.specs.Prelude.{codes, if◌then◌else◌}
 use Rattle.std.specs.Option.{option_map_or}
-use Rattle.std.specs.List.{sum_by}
-use Rattle.std.proofs.lemmas.Bool.{cases_Bool, cond-true, cond-false, cases_lt}
+use Rattle.std.proofs.lemmas.Bool.{cases_lt}
 use Rattle.std.proofs.lemmas.List.{length-take, length-drop}
 use Rattle.std.proofs.lemmas.List.Sums.{sum_by-cons}
 use Rattle.std.proofs.Math.Nat.{mul-le-mul_left}
@@ -11,7 +10,7 @@ use Rattle.pe_layout.specs.FileMap.{readable, at, raw_end}
 use Rattle.pe_layout.specs.CliHeader.{metadata_of, metadata_size_of, metadata_rva_of}
 use Rattle.metadata_tables.specs.Faults.{IsWhole}
 use Rattle.metadata_tables.specs.Schema.{schema, columns_of}
-use Rattle.metadata_tables.specs.Stream.{row_count, row_size, row_end, table_start, width, columns_size, heap_sizes}
+use Rattle.metadata_tables.specs.Stream.{row_count, row_size, width, columns_size, heap_sizes}
 use Rattle.metadata_tables.specs.declared.schema.Column.{Column}
 use Rattle.image_model.specs.Root.{StreamHeader, header_of}
 use Rattle.image_model.specs.Streams.{stream_of, tables_of}

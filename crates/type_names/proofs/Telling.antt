@@ -1,5 +1,5 @@
 -- The numbers of the nodes tell names of types and references.
-use Rattle.std.proofs.Common.{◌≡◌, ℕ, zero, suc, ◌+◌, ◌-◌, ◌<◌, ◌≤◌, ◌⊎◌, inl, inr, Bool, true, false, List, [], ◌∷◌, Option, Some, None, length, refl, sym, ◌∙◌, ap, subst, arith}
+use Rattle.std.proofs.Common.{◌≡◌, ℕ, ◌+◌, ◌-◌, ◌<◌, ◌≤◌, inl, inr, Bool, true, false, List, [], ◌∷◌, Option, Some, length, refl, sym, ◌∙◌, ap, subst, arith}
 use Rattle.std.specs.Prelude.{◌↔◌}
 use Rattle.std.proofs.lemmas.Bool.{cases_lt, cases_Bool, false≢true}
 use Rattle.std.proofs.lemmas.List.{length-append}
@@ -10,12 +10,12 @@ use Rattle.type_terms.specs.declared.name.TypeId.{TypeId}
 use Rattle.image_model.specs.Streams.{strings_of}
 use Rattle.image_model.specs.Rows.{count_of, HasRow, enclosing}
 use Rattle.image_model.specs.Naming.{HasId, HasRefId, HasPath, HasRefPath}
-use Rattle.name_numbers.specs.Names.{name_by, name_of, parent_at, id_at, is_root, max_texts, AreNumbers, named_at, number_at, root_at, depth_at}
+use Rattle.name_numbers.specs.Names.{name_by, parent_at, id_at, is_root, AreNumbers, number_at, root_at, depth_at}
 use Rattle.name_numbers.specs.declared.numbering.Named.{Named}
 use Rattle.name_numbers.specs.declared.numbering.Node.{Node}
 use Rattle.name_numbers.proofs.Naming.{full, at_root, enough, short}
 use Rattle.name_numbers.proofs.Roots.{root_first, root_behind}
-use Rattle.type_names.specs.Forest.{AreForest, HaveScopes, ref_node, assembly_node, middle_of, last_of}
+use Rattle.type_names.specs.Forest.{AreForest, HaveScopes, ref_node, middle_of, last_of}
 use Rattle.type_names.specs.Numbers.{NodeNames, IsNode, NameOne, TellNames}
 use Rattle.type_names.proofs.Paths.{scope_root, path_named, named_path, ref_path_named, named_ref_path}
 

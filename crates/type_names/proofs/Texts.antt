@@ -1,5 +1,5 @@
 -- The text at an index of a heap of strings is what its bytes up to a zero spell.
-use Rattle.std.proofs.Common.{◌≡◌, ℕ, zero, suc, ◌<◌, List, [], ◌∷◌, ◌++◌, length, drop, refl, sym, ◌∙◌, ap, arith}
+use Rattle.std.proofs.Common.{◌≡◌, ℕ, zero, suc, List, [], ◌∷◌, ◌++◌, drop, refl, sym, ◌∙◌, ap, arith}
 use Rattle.std.specs.Prelude.{All, ◌≢◌, ◌==◌}
 use Rattle.std.proofs.lemmas.Bool.{ne_eqb, cond-false}
 use Rattle.heaps.specs.Content.{HasText, BeginsText}

@@ -1,6 +1,6 @@
 -- The names of an image's types as a forest: its roots are the module and the assemblies, and each type and reference lies under
 -- what encloses it (II.22.32, II.22.38). Node 0 is the module; behind it stand the rows of TypeDef, of TypeRef and of AssemblyRef.
-use Rattle.std.specs.Prelude.{◌≡◌, ◌≢◌, ℕ, ◌+◌, ◌-◌, ◌<◌, ◌≤◌, ◌⊎◌, ◌==◌, if◌then◌else◌, List, Option, Some, None, length}
+use Rattle.std.specs.Prelude.{◌≡◌, ℕ, ◌+◌, ◌≤◌, ◌⊎◌, ◌==◌, if◌then◌else◌, List, Option, Some, None, length}
 use Rattle.metadata_tables.specs.CodedIndex.{unpacked}
 use Rattle.metadata_tables.specs.declared.coded.Coded.TheVariants.{ResolutionScope}
 use Rattle.image_model.specs.Columns.{type_name, type_space, type_ref_scope, type_ref_name, type_ref_space}

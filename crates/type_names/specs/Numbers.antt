@@ -1,5 +1,5 @@
 -- Numbers of an image's types and references: two have one number exactly where they name one type (II.22.32, II.22.38).
-use Rattle.std.specs.Prelude.{◌≡◌, ℕ, ◌+◌, ◌<◌, ◌≤◌, ◌⊎◌, ◌↔◌, ◌==◌, if◌then◌else◌, List, Option, Some, None, length}
+use Rattle.std.specs.Prelude.{◌≡◌, ℕ, ◌+◌, ◌-◌, ◌<◌, ◌≤◌, ◌⊎◌, ◌↔◌, ◌==◌, if◌then◌else◌, List, Option, Some, None, length}
 use Rattle.type_terms.specs.declared.name.Scope.{Scope}
 use Rattle.type_terms.specs.declared.name.Scope.TheVariants.{Here}
 use Rattle.type_terms.specs.declared.name.TypeId.{TypeId}
@@ -8,7 +8,7 @@ use Rattle.image_model.specs.Rows.{count_of, HasRow}
 use Rattle.image_model.specs.Structure.{max_path}
 use Rattle.name_numbers.specs.Names.{named_at, number_at, root_at, depth_at}
 use Rattle.name_numbers.specs.declared.numbering.Named.{Named}
-use Rattle.type_names.specs.Forest.{ref_node, node_count, middle_of}
+use Rattle.type_names.specs.Forest.{ref_node, node_count}
 
 -- what a node of a type or a reference names: where its path begins, and the path
 pub data NodeNames (image : List ℕ) : ℕ → Scope → List TypeId → Type 0 where
@@ -50,6 +50,10 @@ number_in named = if named.depth == 0 then None else Some named.number
 
 abbrev pub number_of : List Named → ℕ → Option ℕ
 number_of named k = number_in (named_at named k)
+
+-- how many names the path of a node has
+abbrev pub length_of : List Named → ℕ → ℕ
+length_of named k = depth_at named k - 1
 
 -- a name leads out of the module, or has the number of one of so many types
 abbrev pub LeadsBy : ℕ → Named → Type 0

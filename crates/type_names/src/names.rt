@@ -1,10 +1,10 @@
-ghost use Rattle.std.specs.Prelude.{◌≡◌, ◌≤◌, ◌<◌, ◌^◌, IfOk, IsTrue, ◌↔◌, length};
+ghost use Rattle.std.specs.Prelude.{◌≡◌, ◌-◌, ◌≤◌, ◌<◌, ◌^◌, IfOk, IsTrue, ◌↔◌, length};
 ghost use Rattle.image_model.specs.Rows.{HasRow};
 ghost use Rattle.image_model.specs.Structure.{HasScope};
 ghost use Rattle.name_numbers.specs.Names.{named_at, depth_at};
 ghost use Rattle.row_demands.specs.Structured.{MeetStructure};
 ghost use Rattle.type_names.specs.Forest.{AreForest, ref_node};
-ghost use Rattle.type_names.specs.Numbers.{TellNames, LeadsBy, number_of, number_in};
+ghost use Rattle.type_names.specs.Numbers.{TellNames, LeadsBy, number_of, number_in, length_of};
 
 use crate::nodes::nodes_of;
 use il_base::NoMemory;
@@ -62,6 +62,23 @@ impl<'i, 'a> TypeNames<'i, 'a> {
     {
         let types = self.image.tables().rows(0x02) as usize;
         number_in(named_at(&self.named, types + row as usize))
+    }
+
+    /// How many names the path of a type has, by its row; 0 where it has no number.
+    pub fn length_of_type(&self, row: u32) -> u8
+        requires { HasRow self.now.image 0x02 row }
+        ensures { result ≡ length_of self.now.named row }
+    {
+        length_in(named_at(&self.named, row as usize))
+    }
+
+    /// How many names the path of a reference has, by its row; 0 where it has no number.
+    pub fn length_of_reference(&self, row: u32) -> u8
+        requires { HasRow self.now.image 0x01 row }
+        ensures { result ≡ length_of self.now.named (ref_node self.now.image row) }
+    {
+        let types = self.image.tables().rows(0x02) as usize;
+        length_in(named_at(&self.named, types + row as usize))
     }
 
     /// Whether a reference leads along its scopes to an assembly, or to the module and a type that is there (II.22.38).
@@ -124,6 +141,13 @@ fn number_in(named: Named) -> Option<u32>
     } else {
         Some(named.number)
     }
+}
+
+/// How many names the path of a node has.
+fn length_in(named: Named) -> u8
+    ensures { result ≡ named.depth - 1 }
+{
+    named.depth.saturating_sub(1)
 }
 
 /// The numbers of an image's types and references, each by its node.

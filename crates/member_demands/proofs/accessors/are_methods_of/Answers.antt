@@ -1,4 +1,4 @@
-use Rattle.std.proofs.Common.{◌≡◌, ℕ, ◌+◌, ◌<◌, sym, ◌∙◌, ap, subst, below_more}
+use Rattle.std.proofs.Common.{◌≡◌, ◌+◌, sym, ◌∙◌, ap, subst, below_more}
 use Rattle.std.specs.Prelude.{Contains}
 use Rattle.metadata_tables.specs.Stream.{cell}
 use Rattle.image_model.specs.Columns.{semantics_method}

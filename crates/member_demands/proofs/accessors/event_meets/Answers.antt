@@ -1,4 +1,4 @@
-use Rattle.std.proofs.Common.{◌≡◌, ◌+◌, ◌*◌, refl, sym, ◌∙◌, ap}
+use Rattle.std.proofs.Common.{◌≡◌, ◌*◌, refl, sym, ◌∙◌, ap}
 use Rattle.metadata_tables.specs.declared.coded.Coded.TheVariants.{HasSemantics}
 use Rattle.image_model.specs.Rows.{index_of, events_of}
 use Rattle.member_demands.proofs.Owned.{event_index, accessors_told, no_accessors, accessors_of_events}

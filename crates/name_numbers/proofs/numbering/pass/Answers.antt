@@ -1,4 +1,4 @@
-use Rattle.std.proofs.Common.{◌≡◌, ◌≤◌, subst, arith}
+use Rattle.std.proofs.Common.{◌≡◌, subst, arith}
 use Rattle.std.proofs.lemmas.Bool.{or_parts}
 use Rattle.name_numbers.specs.Numbering.{Visits}
 use Rattle.name_numbers.proofs.Passes.{visits_none, visits_more}

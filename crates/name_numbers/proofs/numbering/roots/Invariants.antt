@@ -1,4 +1,4 @@
-use Rattle.std.proofs.Common.{◌≡◌, ℕ, ◌<◌, ◌≤◌, List, length, true, false}
+use Rattle.std.proofs.Common.{◌≡◌, ℕ, ◌<◌, List, length, true, false}
 use Rattle.name_numbers.specs.Names.{is_root, root_named, named_at, depth_at}
 use Rattle.name_numbers.specs.declared.numbering.Named.{Named}
 use Rattle.name_numbers.proofs.numbering.roots.Given as goal

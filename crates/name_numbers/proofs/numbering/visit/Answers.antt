@@ -1,5 +1,5 @@
 use Rattle.std.proofs.Common.{◌≡◌, refl, sym, ◌∙◌, ap}
-use Rattle.name_numbers.specs.Names.{named_at, depth_at}
+use Rattle.name_numbers.specs.Names.{named_at}
 use Rattle.name_numbers.specs.declared.numbering.Named.{Named}
 use Rattle.name_numbers.specs.declared.numbering.Numbering.{Numbering}
 use Rattle.name_numbers.proofs.Passes.{visited}

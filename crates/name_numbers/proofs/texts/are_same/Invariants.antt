@@ -1,4 +1,4 @@
-use Rattle.std.proofs.Common.{◌≡◌, ℕ, ◌-◌, List, length}
+use Rattle.std.proofs.Common.{◌-◌, length}
 use Rattle.name_numbers.proofs.Fronts.{AreRests}
 use Rattle.name_numbers.proofs.texts.are_same.Given as goal
 

@@ -1,4 +1,4 @@
-use Rattle.std.proofs.Common.{◌≡◌, ℕ, ◌+◌, ◌-◌, ◌<◌, ◌≤◌, List, length, get_or, set, refl, sym, ◌∙◌, ap, inl, inr, arith, rules}
+use Rattle.std.proofs.Common.{◌≡◌, ℕ, ◌+◌, ◌-◌, ◌∙◌, inl, inr, arith, rules}
 use Rattle.name_numbers.proofs.Fronts.{hash_at_end, hash_step, each_more}
 use Rattle.name_numbers.proofs.texts.hashes_of.Goals.{then-heap-at-eq0, else-heap-at-eq0}
 use Rattle.name_numbers.proofs.texts.hashes_of.Goals as goal

@@ -1,4 +1,4 @@
-use Rattle.std.proofs.Common.{◌≡◌, ◌+◌, IsTrue, sym, ◌∙◌, ap, subst}
+use Rattle.std.proofs.Common.{◌≡◌, ◌+◌, IsTrue, ◌∙◌, ap, subst}
 use Rattle.std.specs.Prelude.{◌↔◌}
 use Rattle.metadata_tables.specs.Stream.{row_count}
 use Rattle.image_model.specs.Rows.{count_of}

@@ -1,4 +1,4 @@
-use Rattle.std.proofs.Common.{◌≡◌, ◌+◌, sym, ◌∙◌, ap, subst, arith}
+use Rattle.std.proofs.Common.{◌≡◌, ◌+◌, ◌∙◌, ap, subst, arith}
 use Rattle.metadata_tables.specs.Stream.{row_count}
 use Rattle.image_model.specs.Rows.{count_of}
 use Rattle.image_model.specs.Streams.{strings_of}

@@ -1,4 +1,4 @@
-use Rattle.std.proofs.Common.{◌≡◌, ◌+◌, ◌<◌, ◌≤◌, sym, ap, ◌∙◌, subst, arith}
+use Rattle.std.proofs.Common.{◌≡◌, ◌+◌, sym, ap, ◌∙◌, subst, arith}
 use Rattle.metadata_tables.specs.Stream.{row_count, cell}
 use Rattle.image_model.specs.Columns.{type_ref_scope}
 use Rattle.image_model.specs.Rows.{count_of, HasRow}

@@ -1,4 +1,4 @@
-use Rattle.std.proofs.Common.{◌≡◌, ◌+◌, ◌^◌, ◌<◌, ap, ◌∙◌, arith}
+use Rattle.std.proofs.Common.{◌≡◌, ap, ◌∙◌, arith}
 use Rattle.metadata_tables.specs.Stream.{row_count}
 use Rattle.image_model.specs.Rows.{count_of}
 use Rattle.type_names.proofs.Leading.{ref_small, assembly_small}

@@ -1,8 +1,7 @@
-use Rattle.std.proofs.Common.{◌≡◌, ◌<◌, IsTrue, true, false, sym, ◌∙◌, ap, subst}
+use Rattle.std.proofs.Common.{◌≡◌, ◌<◌, IsTrue, sym, ◌∙◌, ap, subst}
 use Rattle.std.specs.Prelude.{◌↔◌}
 use Rattle.metadata_tables.specs.Stream.{cell}
 use Rattle.image_model.specs.Columns.{nested_class, enclosing_class}
-use Rattle.image_model.specs.Structure.{IsFirstWith}
 use Rattle.name_numbers.specs.Names.{depth_at}
 use Rattle.row_groups.proofs.Enclosing.{nested_there}
 use Rattle.type_names.specs.Numbers.{TellNames}

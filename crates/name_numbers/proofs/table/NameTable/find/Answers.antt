@@ -3,7 +3,7 @@ use Rattle.std.specs.Prelude.{slice_get}
 use Rattle.std.proofs.lemmas.Option.{slice_get-map, same_Some}
 use Rattle.std.proofs.lemmas.Bool.{false≢true}
 use Rattle.std.specs.Option.{option_map}
-use Rattle.name_numbers.specs.Table.{Told, told, told_hash, names_in}
+use Rattle.name_numbers.specs.Table.{told, told_hash, names_in}
 use Rattle.name_numbers.specs.declared.table.Entry.{Entry}
 use Rattle.name_numbers.proofs.Chaining.{ahead_of-smaller, smaller_next, hashed_next, ahead_next}
 use Rattle.name_numbers.proofs.table.NameTable.find.Goals as goal

@@ -1,4 +1,4 @@
-use Rattle.std.proofs.Common.{◌≡◌, ℕ, Some, cond, length, sym, ap, rules}
+use Rattle.std.proofs.Common.{◌≡◌, ℕ, Some, cond, length, rules}
 use Rattle.std.specs.Prelude.{nat_eq}
 use Rattle.hash_places.specs.Slots.{place_of}
 use Rattle.name_numbers.specs.Table.{told, told_hash}
