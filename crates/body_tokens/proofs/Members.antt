@@ -233,7 +233,7 @@ module _ (image : List ℕ) (names : NameMap) (small : length image ≤ 2 ^ 26) 
       (m.0, (named.methods token m.0).1 m.1)
 
   names_method : (token : ℕ) (m : MethodRef) → NamesMethod image names.owners token m → IsMethodToken image token
-  names_method token m (NamesMethod.defined {method = method} is there owns text blob sig) = inl (record { row = method; is = is; there = there })
+  names_method token m (NamesMethod.defined {method = method} is there lies text blob sig) = inl (record { row = method; is = is; there = there })
   names_method token m (NamesMethod.referred {row = row} {bytes = bytes} {sig = sig} is there owns text blob spelled) =
       inr (inr (record { row = row; is = is; there = there; said = method_member image names.owners row bytes sig blob spelled }))
   names_method token m (NamesMethod.instantiated {row = row} is there of generic blob args) = inr (inl (record { row = row; is = is; there = there }))

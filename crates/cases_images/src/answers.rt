@@ -2,6 +2,7 @@
 
 ghost use Rattle.std.specs.Prelude.{◌≤◌, ◌^◌, length};
 
+use crate::bodies::first_of_bodies;
 use crate::fault::Fault;
 use il_base::NoMemory;
 use image_model::{Place, demand_text};
@@ -14,14 +15,30 @@ use type_names::{TypeNames, first_unmet_scope};
 /// The greatest length of an image that is looked at.
 const MAX_IMAGE: usize = 1 << 26;
 
-/// Prints the first demand that an image fails, or that there is none among I1 to I13.
+/// Prints the first demand that an image fails among I1 to I13, else among I17 to I20, or that there is none.
 pub fn show(rt: &HostRuntime, name: &str, image: &[u8]) -> Result<(), Fault> {
     if image.len() > MAX_IMAGE {
         return Err(Fault::Line);
     }
     match first_fault(rt, image)? {
         Some(unmet) => show_fault(rt, name, &unmet),
-        None => Ok(println!(rt; "{name}: meets I1 to I13")?),
+        None => show_bodies(rt, name, image),
+    }
+}
+
+/// Prints the first demand that the bodies of an image fail.
+fn show_bodies(rt: &HostRuntime, name: &str, image: &[u8]) -> Result<(), Fault>
+    requires { length image.now ≤ 2 ^ 26 }
+{
+    let Ok(opened) = open(image) else {
+        return Err(Fault::Line);
+    };
+    match first_of_bodies(rt, &opened)? {
+        Some(unmet) => {
+            let after = format!(in rt.alloc(); "{name}: meets I1 to I13")?;
+            show_fault(rt, after.as_str(), &unmet)
+        }
+        None => Ok(println!(rt; "{name}: meets I1 to I13, I17 to I20")?),
     }
 }
 

@@ -1,0 +1,28 @@
+//! What is said of the bodies of an image's methods.
+
+ghost use Rattle.std.specs.Prelude.{◌≤◌, ◌^◌, length};
+
+use crate::fault::Fault;
+use body_demands::first_unmet;
+use body_tokens::first_unknown;
+use image_model::Place;
+use image_streams::{Image, Unmet};
+use method_states::look_at_bodies;
+
+/// The first of the demands I17 to I20 that the methods of an image fail.
+pub fn first_of_bodies(rt: &HostRuntime, image: &Image<'_>) -> Result<Option<Unmet>, Fault>
+    requires { length image.now ≤ 2 ^ 26 }
+{
+    let bodies = look_at_bodies(rt.alloc(), image)?;
+    let states = bodies.states.as_slice();
+    if let Some(unmet) = first_unmet(image, states) {
+        return Ok(Some(unmet));
+    }
+    match first_unknown(rt.alloc(), image, states)? {
+        Some(row) => Ok(Some(Unmet {
+            rule: 20,
+            at: Place::Row { table: 0x06, row },
+        })),
+        None => Ok(None),
+    }
+}
