@@ -1,12 +1,12 @@
 -- The interfaces that come to those of a parent, from all that lies above a type's own.
-use Rattle.std.proofs.Common.{◌≡◌, ◌⊎◌, inl, inr, ◌∙◌, sym, ap, subst, refl, ℕ, ◌<◌, Bool, List, [], ◌∷◌, ◌++◌, length, get_or, Option, None, Some, Result, Ok, Err, IfOk, IsTrue}
+use Rattle.std.proofs.Common.{◌⊎◌, inl, inr, ◌∙◌, sym, subst, ℕ, ◌<◌, Bool, List, [], length, get_or, None, Some, Result, Ok, Err, IfOk, IsTrue}
 use Rattle.std.specs.List.{Contains}
-use Rattle.std.proofs.lemmas.List.Elements.{Contains-append_cases, Contains-append_left, Contains-get_or}
+use Rattle.std.proofs.lemmas.List.Elements.{Contains-get_or}
 use Rattle.type_terms.specs.declared.term.SigType.{SigType}
 use Rattle.assembly_tree.specs.declared.assembly.Assembly.{Assembly}
 use Rattle.sig_pool.specs.declared.node.Node.{Node}
 use Rattle.sig_pool.specs.Pool.{Extends}
-use Rattle.sig_pool.specs.Terms.{AllBelow, term_of}
+use Rattle.sig_pool.specs.Terms.{AllBelow}
 use Rattle.type_hierarchy.specs.Hierarchy.{Hierarchy}
 use Rattle.type_hierarchy.specs.Queues.{HasType, UpFromSome}
 use Rattle.type_hierarchy.proofs.GrowLemmas.{below_extends}
@@ -15,7 +15,7 @@ use Rattle.class_faces.specs.declared.faces.Faces.{Faces}
 use Rattle.class_faces.specs.Ids.{AreIds}
 use Rattle.class_faces.specs.Marked.{is_face, is_overriding, AreAmong, ArePassing}
 use Rattle.class_faces.specs.Merged.{AreMerged}
-use Rattle.class_faces.specs.More.{all_of, overriding_of, IsOneMore, AreMore}
+use Rattle.class_faces.specs.More.{AreMore}
 use Rattle.class_faces.specs.Unions.{IsUnion}
 use Rattle.class_faces.proofs.Walking.{within_one}
 

@@ -1,5 +1,5 @@
 -- How the ids of all that lies above some types are found, each once.
-use Rattle.std.proofs.Common.{◌≡◌, ◌⊎◌, inl, inr, refl, sym, ◌∙◌, ap, subst, ℕ, zero, suc, ◌+◌, ◌<◌, ◌≤◌, arith, List, [], ◌∷◌, ◌++◌, length, slice_get, get_or, Bool, true, false, ◌↔◌, IsTrue, Result, Ok, Err, IfOk, OnOk, Option, None, Some}
+use Rattle.std.proofs.Common.{◌≡◌, ◌⊎◌, inl, inr, refl, sym, ◌∙◌, ap, subst, ℕ, zero, suc, ◌+◌, ◌<◌, ◌≤◌, arith, List, [], ◌∷◌, ◌++◌, length, slice_get, get_or, Result, Ok, Err, OnOk, Option, None, Some}
 use Rattle.std.specs.List.{Contains}
 use Rattle.std.proofs.lemmas.List.{append_assoc, append-nil, length-map, get_or-map}
 use Rattle.std.proofs.lemmas.List.Elements.{Contains-append_left, Contains-append_cases, All-contains}
@@ -13,7 +13,7 @@ use Rattle.type_hierarchy.specs.Hierarchy.{Hierarchy, parent, interfaces, Up, it
 use Rattle.type_hierarchy.specs.Pooled.{HasOption}
 use Rattle.class_faces.specs.Ids.{AreIds}
 use Rattle.class_faces.specs.Unions.{IsUnion}
-use Rattle.type_hierarchy.specs.Queues.{IsAdded, AddsAll, optional, HasType, IsStep, AddsSteps, UpFromSome}
+use Rattle.type_hierarchy.specs.Queues.{AddsAll, optional, HasType, IsStep, AddsSteps, UpFromSome}
 use Rattle.type_hierarchy.specs.declared.tables.Tables.{Tables}
 use Rattle.type_hierarchy.specs.Tables.{hierarchy_in}
 use Rattle.type_hierarchy.specs.World.{Content, Stays, hierarchy, type_at}

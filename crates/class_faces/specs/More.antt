@@ -1,5 +1,5 @@
 -- Interfaces that come to those of a parent.
-use Rattle.std.specs.Prelude.{◌≡◌, ◌⊎◌, ℕ, Bool, List, [], ◌++◌, Option, None, Some, IsTrue}
+use Rattle.std.specs.Prelude.{◌⊎◌, ℕ, Bool, List, [], Option, None, Some, IsTrue}
 use Rattle.type_terms.specs.declared.term.SigType.{SigType}
 use Rattle.assembly_tree.specs.declared.assembly.Assembly.{Assembly}
 use Rattle.sig_pool.specs.declared.node.Node.{Node}

@@ -1,4 +1,3 @@
-use Rattle.type_hierarchy.specs.World.{hierarchy}
 use Rattle.class_faces.proofs.Walking.{adds_steps_in}
 use Rattle.class_faces.proofs.closure.add_steps.Goals as goal
 

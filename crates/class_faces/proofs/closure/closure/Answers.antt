@@ -1,4 +1,4 @@
-use Rattle.std.proofs.Common.{◌≡◌, ◌∙◌, [], refl, sym, subst, ℕ, List}
+use Rattle.std.proofs.Common.{◌∙◌, [], refl, sym, subst, ℕ, List}
 use Rattle.std.proofs.lemmas.List.{append-nil}
 use Rattle.type_hierarchy.specs.Queues.{AddsSteps, UpFromSome}
 use Rattle.type_hierarchy.specs.Tables.{hierarchy_in}
