@@ -1,0 +1,5 @@
+pub mod Page
+pub mod Escapes
+pub mod Spaced
+pub mod Parts
+pub mod Laws
