@@ -1,5 +1,8 @@
 //! Images of sources, looked at by their tables, their heaps and their bytes.
 
+ghost use Rattle.std.specs.Prelude.{◌≤◌, ◌^◌, length, IfOk, IsTrue};
+ghost use Rattle.assembly_tree.specs.WellFormed.{is_well_formed};
+
 use crate::fault::Fault;
 use crate::files::push_line;
 use crate::values::{bytes_of, number8, number32, two};
@@ -219,7 +222,10 @@ fn image_of(alloc: Global, source: &[u8], kind: Kind) -> Result<Option<Bytes>, F
     written(alloc, &assembly, kind)
 }
 
-fn assembled(alloc: Global, source: &[u8]) -> Result<Assembly, Fault> {
+fn assembled(alloc: Global, source: &[u8]) -> Result<Assembly, Fault>
+    requires { length source.now ≤ 2 ^ 27 }
+    ensures { IfOk result (λ a. IsTrue (is_well_formed a)) }
+{
     match assembly_of(alloc, source) {
         Ok(assembly) => Ok(assembly),
         Err(ReadFault::NoMemory) => Err(Fault::NoMemory),
@@ -227,7 +233,9 @@ fn assembled(alloc: Global, source: &[u8]) -> Result<Assembly, Fault> {
     }
 }
 
-fn written(alloc: Global, assembly: &Assembly, kind: Kind) -> Result<Option<Bytes>, Fault> {
+fn written(alloc: Global, assembly: &Assembly, kind: Kind) -> Result<Option<Bytes>, Fault>
+    requires { IsTrue (is_well_formed assembly.now) }
+{
     match write(alloc, assembly, ID, kind) {
         Ok(image) => Ok(Some(image)),
         Err(WriteFault::NoMemory) => Err(Fault::NoMemory),
