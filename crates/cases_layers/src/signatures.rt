@@ -5,7 +5,7 @@ use crate::files::push_line;
 use crate::nameless::Nameless;
 use crate::values::{bytes_of, two};
 use sig_codec::{decode_method, decode_type};
-use sig_pool::{SigId, SigPool};
+use sig_pool::SigPool;
 use std::alloc::Global;
 use type_terms::{MethodSig, SigType};
 
@@ -54,23 +54,31 @@ impl Pooled {
         let Some((first, second)) = rest.split_once(", ") else {
             return Err(Fault::Meaningless);
         };
-        let first = self.interned(alloc, first)?;
-        let second = self.interned(alloc, second)?;
+        let same = self.spells_alike(alloc, first, second)?;
         let count = self.pool.len();
-        let one = if self.pool.same(first, second) {
-            "one id"
-        } else {
-            "two ids"
-        };
+        let one = if same { "one id" } else { "two ids" };
         write!(out, "{one}, {count} types")?;
         Ok(())
     }
 
-    /// The id in the pool of the type that bytes spell.
-    fn interned(&mut self, alloc: Global, bytes: &str) -> Result<SigId, Fault> {
-        let of = spelled(alloc, bytes)?;
-        Ok(self.pool.intern(&of)?)
+    /// Whether the types that bytes spell have one id in the pool.
+    fn spells_alike(&mut self, alloc: Global, first: &str, second: &str) -> Result<bool, Fault> {
+        let (first, second) = pair(spelled(alloc, first), spelled(alloc, second))?;
+        self.interns_alike(&first, &second)
     }
+
+    fn interns_alike(&mut self, first: &SigType, second: &SigType) -> Result<bool, Fault> {
+        let first = self.pool.intern(first)?;
+        let second = self.pool.intern(second)?;
+        Ok(self.pool.same(first, second))
+    }
+}
+
+/// Both, or the first fault.
+fn pair<A: Drop>(first: Result<A, Fault>, second: Result<A, Fault>) -> Result<(A, A), Fault> {
+    let first = first?;
+    let second = second?;
+    Ok((first, second))
 }
 
 /// The type that bytes spell.
