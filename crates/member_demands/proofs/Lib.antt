@@ -2,4 +2,5 @@ pub mod Based
 pub mod ConstantCases
 pub mod Ordered
 pub mod Owned
+pub mod ValueParts
 pub mod Valued

@@ -1,5 +1,5 @@
 //! The demands on types and members of an image that are asked once its names are known (II.22): bases (I22) and accessors (I23);
-//! and those of the parts of the demand on values (I16) that ask nothing of signatures.
+//! and those parts of the demands on values (I16) and attributes (I21) that ask nothing of signatures.
 #![tactic(auto)]
 
 mod accessors;
@@ -9,6 +9,7 @@ mod generics;
 mod kinds;
 mod layouts;
 mod standing;
+mod values;
 
 pub use accessors::Accessors;
 pub use bases::Bases;
@@ -16,3 +17,7 @@ pub use constants::{field_has_constants, param_has_constants, property_has_const
 pub use generics::{method_has_generics, type_has_generics};
 pub use kinds::{event_has_kinds, overrides_in_class, property_has_kinds};
 pub use layouts::{has_layout, has_one_data, has_one_offset};
+pub use values::{
+    event_has_values, has_attributed_parent, override_has_values, param_has_values,
+    property_has_values, type_has_values,
+};
