@@ -1,6 +1,6 @@
 -- The arguments of a signature, and the `...` among them, are read back.
-use Rattle.std.proofs.Common.{◌≡◌, ℕ, zero, suc, ◌+◌, ◌<◌, ◌&&◌, nat_lt, Bool, true, false, if◌then◌else◌, List, [], ◌∷◌, ◌++◌, map, take, drop, length, Option, None, Some, refl, ap, sym, subst, ◌∙◌, append-nil, arith}
-use Rattle.std.proofs.lemmas.Bool.{and_parts, false≢true, ltb-true}
+use Rattle.std.proofs.Common.{◌≡◌, ℕ, zero, suc, ◌+◌, ◌<◌, ◌&&◌, nat_lt, Bool, true, if◌then◌else◌, List, [], ◌∷◌, ◌++◌, map, take, drop, length, Option, None, Some, refl, ap, subst, ◌∙◌, append-nil, arith}
+use Rattle.std.proofs.lemmas.Bool.{and_parts, ltb-true}
 use Rattle.std.specs.List.{list_all}
 use Rattle.std.specs.Prelude.{option_map}
 use Rattle.il_lexer.specs.declared.word.TheConstants as word
@@ -15,10 +15,9 @@ use Rattle.source_model.specs.Nodes.{Around}
 use Rattle.source_model.specs.References as read
 use Rattle.source_model.specs.Source.{Source}
 use Rattle.source_model.specs.Types.{types_in, the_type}
-use Rattle.source_model.specs.Types.{type_of as read_type}
-use Rattle.listing_model.specs.References.{no_param_flags, no_name, ellipsis, with_sentinel, sig_args, in_parentheses, argument, arguments}
-use Rattle.listing_model.specs.Shown.{Shown, none, Item, item, put, w, optional, size, star_production, star_below, behind_comma, commas}
-use Rattle.listing_model.specs.Types.{type_of, type_below}
+use Rattle.listing_model.specs.References.{no_param_flags, no_name, ellipsis, with_sentinel, sig_args, argument, arguments}
+use Rattle.listing_model.specs.Shown.{Shown, none, Item, put, w, optional, size, star_production, star_below, behind_comma}
+use Rattle.listing_model.specs.Types.{type_of}
 use Rattle.listing_reading.specs.Numbered.{numbered, Agrees}
 use Rattle.listing_terms.specs.Laws.{TermsAreRead}
 use Rattle.listing_terms.specs.Readable.{KnowsAssemblies, is_type_readable}

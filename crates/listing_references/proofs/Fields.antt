@@ -1,8 +1,7 @@
 -- References to fields are read back.
-use Rattle.std.proofs.Common.{◌≡◌, ℕ, suc, ◌+◌, ◌&&◌, nat_lt, Bool, true, false, cond, if◌then◌else◌, List, [], ◌∷◌, ◌++◌, map, length, Option, None, Some, refl, ap, sym, subst, ◌∙◌, append-nil, arith}
+use Rattle.std.proofs.Common.{◌≡◌, ℕ, suc, ◌+◌, ◌&&◌, nat_lt, Bool, true, false, cond, if◌then◌else◌, List, [], ◌∷◌, ◌++◌, map, length, refl, ap, sym, subst, ◌∙◌, arith}
 use Rattle.std.proofs.lemmas.Bool.{and_parts, false≢true}
 use Rattle.std.specs.List.{list_all}
-use Rattle.il_lexer.specs.declared.word.TheConstants as word
 use Rattle.ilasm_grammar.specs.Ilasm.{ilasm, rule_by}
 use Rattle.ilasm_grammar.specs.declared.productions.TheConstants as p
 use Rattle.type_terms.specs.declared.name.Scope as scope
@@ -17,7 +16,7 @@ use Rattle.type_terms.proofs.Layers.{fold-Name, fold-Spec}
 use Rattle.assembly_tree.specs.WellFormedNames.{is_module}
 use Rattle.assembly_tree.specs.declared.assembly.ExternAssembly.{ExternAssembly}
 use Rattle.source_model.specs.Forest as f
-use Rattle.source_model.specs.Names.{or_module, written_name, module_id, path_tokens}
+use Rattle.source_model.specs.Names.{or_module, written_name, path_tokens}
 use Rattle.source_model.specs.Nodes.{Around, type_id}
 use Rattle.source_model.specs.References as read
 use Rattle.source_model.specs.Source.{Source}
@@ -25,13 +24,13 @@ use Rattle.source_model.specs.Types.{types_in, the_type}
 use Rattle.source_model.specs.Types.{type_of as read_type}
 use Rattle.source_model.specs.Values.{name_text, part_texts, dotted}
 use Rattle.listing_growth.specs.Laws.{TermsStand, ReferencesStand}
-use Rattle.listing_growth.specs.Standing.{can_stand, owner_can_stand, field_stands}
+use Rattle.listing_growth.specs.Standing.{field_stands}
 use Rattle.listing_leaves.specs.Laws.{is_name}
 use Rattle.listing_leaves.specs.Names as leaf
 use Rattle.listing_model.specs.Grown.{body_of, Grows}
 use Rattle.listing_model.specs.References.{field_end, field_path, field_in, field_here, field_target, field_ref}
-use Rattle.listing_model.specs.Shown.{Shown, none, Item, item, put, size}
-use Rattle.listing_model.specs.Types.{name, path_below, type_of, type_below}
+use Rattle.listing_model.specs.Shown.{Item, item, size}
+use Rattle.listing_model.specs.Types.{name, path_below, type_below}
 use Rattle.listing_model.specs.Types.{type_id as shown_id}
 use Rattle.listing_reading.specs.Laws.{SearchesPass}
 use Rattle.listing_reading.specs.Numbered.{numbered, Agrees}

@@ -1,16 +1,14 @@
 -- Calling conventions, names of methods and generic arguments are read back.
-use Rattle.std.proofs.Common.{◌≡◌, inl, inr, ℕ, zero, suc, ◌+◌, ◌<◌, ◌^◌, ◌&&◌, ◌||◌, not, nat_eq, nat_lt, nat_le, Bool, true, false, cond, if◌then◌else◌, List, [], ◌∷◌, ◌++◌, map, length, Option, None, Some, refl, ap, sym, subst, ◌∙◌, append-nil, arith}
-use Rattle.std.proofs.lemmas.Bool.{and_parts, cases_Bool, eqb-true, false≢true, leb-true}
-use Rattle.std.specs.List.{list_all}
+use Rattle.std.proofs.Common.{◌≡◌, ℕ, zero, suc, ◌+◌, ◌<◌, ◌^◌, ◌||◌, not, nat_eq, nat_lt, Bool, true, false, cond, if◌then◌else◌, List, [], ◌∷◌, ◌++◌, map, length, Option, None, Some, refl, ap, sym, ◌∙◌, append-nil, arith}
+use Rattle.std.proofs.lemmas.Bool.{and_parts, eqb-true, false≢true, leb-true}
 use Rattle.std.specs.Prelude.{codes}
 use Rattle.std.specs.Str.{bytes_eq}
 use Rattle.il_lexer.specs.WordList.{words}
 use Rattle.il_lexer.specs.declared.word.TheConstants as word
 use Rattle.ilasm_grammar.specs.Ilasm.{ilasm, rule_by, has_bit}
 use Rattle.ilasm_grammar.specs.declared.productions.TheConstants as p
-use Rattle.type_terms.specs.declared.reference.MethodSig.{MethodSig}
 use Rattle.type_terms.specs.declared.term.SigType.{SigType}
-use Rattle.assembly_tree.specs.WellFormedTerms.{is_explicit_with_this, are_arguments, is_count}
+use Rattle.assembly_tree.specs.WellFormedTerms.{are_arguments, is_count}
 use Rattle.assembly_tree.specs.declared.assembly.ExternAssembly.{ExternAssembly}
 use Rattle.source_model.specs.Forest as f
 use Rattle.source_model.specs.Nodes.{Around}
@@ -18,16 +16,13 @@ use Rattle.source_model.specs.References as read
 use Rattle.source_model.specs.Shapes.{natural}
 use Rattle.source_model.specs.Source.{Source, spelling}
 use Rattle.source_model.specs.Types.{types_in}
-use Rattle.source_model.specs.Types.{type_of as read_type}
 use Rattle.source_model.specs.Values.{integer, part_texts, dotted}
 use Rattle.listing_growth.specs.Laws.{TermsStand}
 use Rattle.listing_growth.specs.Standing.{can_stand, all_stand, args_stand}
 use Rattle.listing_leaves.specs.Laws.{is_name}
-use Rattle.listing_leaves.specs.Names as leaf
-use Rattle.listing_leaves.specs.Numbers as numbers
 use Rattle.listing_model.specs.Grown.{body_of}
-use Rattle.listing_model.specs.References.{instance, convention, method_name, generic_types, generic_count, in_angles, method_generics}
-use Rattle.listing_model.specs.Shown.{Shown, none, branch, Item, item, put, w, when, optional, size, star_production, star_below, behind_comma, word_text}
+use Rattle.listing_model.specs.References.{instance, generic_types, generic_count, in_angles, method_generics}
+use Rattle.listing_model.specs.Shown.{Shown, none, branch, Item, item, w, when, optional, size, star_production, star_below, behind_comma, word_text}
 use Rattle.listing_model.specs.Types.{name, type_of, type_below}
 use Rattle.listing_reading.specs.Below.{below, cant_stand}
 use Rattle.listing_reading.specs.BelowMasks.{below_masks}

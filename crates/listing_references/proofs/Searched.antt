@@ -1,6 +1,6 @@
 -- What can't stand in the parts of a reference, its last token, and owners by their cases.
-use Rattle.std.proofs.Common.{◌≡◌, inl, inr, ℕ, nat_eq, ◌&&◌, Bool, true, false, List, [], ◌∷◌, ◌++◌, length, refl, ap, sym, subst, ◌∙◌, append-nil}
-use Rattle.std.proofs.lemmas.Bool.{and_parts, cases_Bool, eqb-true, false≢true}
+use Rattle.std.proofs.Common.{◌≡◌, ℕ, nat_eq, true, List, [], ◌∷◌, ◌++◌, length, refl, ap, sym, subst, ◌∙◌, append-nil}
+use Rattle.std.proofs.lemmas.Bool.{and_parts, eqb-true, false≢true}
 use Rattle.std.specs.Prelude.{codes}
 use lib.Pointwise.{pointwise}
 use Rattle.ilasm_grammar.specs.Ilasm.{ilasm, rule_by, has_bit}
