@@ -1,0 +1,4 @@
+mod Searched
+mod Fields
+mod Arguments
+mod Heads
