@@ -27,7 +27,8 @@ use Rattle.image_namings.proofs.Standing.{Stands, stands}
 use Rattle.image_namings.proofs.Among.{from_among}
 use Rattle.formed_references.proofs.Words.{le_true}
 use Rattle.formed_references.proofs.Paths.{first_type, module_id, module_path}
-use Rattle.formed_images.proofs.Trees.{Ordered, front_of, of_types, types_ordered, Below, below, long_below}
+use Rattle.formed_images.proofs.Trees.{Ordered, front_of, types_ordered, Below, below, long_below}
+use Rattle.formed_references.proofs.Words.{of_types}
 
 zero_or_more : (n : ℕ) → (n ≡ 0) ⊎ (0 < n)
 zero_or_more n = grind arith
@@ -147,7 +148,7 @@ module _ (image : List ℕ) (a : Assembly) (h : Reads image a) (text : OneText (
   -- a type's own start, and one in a type that it encloses, are two
   own_or_nested : (row : ℕ) (own : ℕ) (nested : ℕ) → HasRow image 0x02 row → (own ≤ 1) × (0 < own → Starts (methods_of image row)) → (nested ≤ 1) × (0 < nested → StartsAmong (types_in image row)) → Counts (own + nested) row
   own_or_nested row own nested there o n = elim (zero_or_more own) [
-    | inl none ↦ (omega (arith, n.0), λ some. let s = n.1 (omega arith) in upward row s.row (of_types image a h text holds s.row row s.among).2 there.0 s.held)
+    | inl none ↦ (omega (arith, n.0), λ some. let s = n.1 (omega arith) in upward row s.row (of_types image s.row row s.among).2 there.0 s.held)
     | inr some ↦ (apart some, λ more. here (o.1 some))
   ]
     where
@@ -155,7 +156,7 @@ module _ (image : List ℕ) (a : Assembly) (h : Reads image a) (text : OneText (
       here s = let p = stood.path row there in record { type = row; there = there; start = s; path = p.0; leads = p.1; front = p.0; of = p.1; back = []; whole = sym (append-nil p.0) }
 
       longer : (s : StartsAmong (types_in image row)) → (i : StartsIn row) → i.type ≡ row → i.front ≡ i.path → ⊥
-      longer s i t f = go (below image a h text holds row s.held.of (of_types image a h text holds s.row row s.among).2)
+      longer s i t f = go (below image a h text holds row s.held.of (of_types image s.row row s.among).2)
         where
           go : Below image row s.row s.held.front → ⊥
           go (Below.alone z is g) = (let k = there.0 in omega arith)
@@ -185,8 +186,8 @@ module _ (image : List ℕ) (a : Assembly) (h : Reads image a) (text : OneText (
     where
       two : StartsIn row → StartsAmong rows → ⊥
       two i s =
-          let m = of_types image a h text holds row outer (into row (inl refl)) in
-          let k = of_types image a h text holds s.row outer (into s.row (inr s.among)) in
+          let m = of_types image row outer (into row (inl refl)) in
+          let k = of_types image s.row outer (into s.row (inr s.among)) in
           let long = long_below image a h text holds outer (below image a h text holds outer i.of m.2) (below image a h text holds outer s.held.of k.2) in
           let front = same_front row s.row i s.held long in
           no_two row s.row m.0 k.0 (order.0 s.row s.among) i.front i.of (subst (HasPath image s.row) (sym front) s.held.of)
@@ -207,7 +208,7 @@ module _ (image : List ℕ) (a : Assembly) (h : Reads image a) (text : OneText (
     types_count : (outer : ℕ) {rows : List ℕ} {ts : List TypeDef} → AreTypes image h.names rows ts → ((r : ℕ) → Among r rows → Among r (types_in image outer)) → Ordered rows → (sum_by entries_of ts ≤ 1) × (0 < sum_by entries_of ts → StartsAmong rows)
     types_count outer AreTypes.none into order = (omega arith, λ some. absurd (omega arith))
     types_count outer (AreTypes.more {row = row} {rows = rows} {t = t} {ts = ts} is rest) into order =
-        let there = (of_types image a h text holds row outer (into row (inl refl))).0 in
+        let there = (of_types image row outer (into row (inl refl))).0 in
         subst (λ (n : ℕ). (n ≤ 1) × (0 < n → StartsAmong (row ∷ rows))) (sym (sum_more t ts))
         (first_or_more outer row rows (entries_of t) (sum_by entries_of ts) into order (type_counts is there) (types_count outer rest (λ r m. into r (inr m)) order.1))
 
@@ -216,7 +217,7 @@ module _ (image : List ℕ) (a : Assembly) (h : Reads image a) (text : OneText (
   -- a start in `<Module>` is in no other type
   not_both : Starts (methods_of image 1) → StartsAmong (types_in image 0) → ⊥
   not_both one s =
-      let o = of_types image a h text holds s.row 0 s.among in
+      let o = of_types image s.row 0 s.among in
       let first = first_type image a h text holds in
       let same = one_type s.held.type 1 s.held.there first s.held.start one in
       let p = module_path image a h text holds in

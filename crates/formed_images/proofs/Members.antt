@@ -35,16 +35,18 @@ use Rattle.image_model.specs.Terms.{FieldHas, MethodHas}
 use Rattle.image_model.specs.Faults.{indexes, entries, runs, values, header, Reads}
 use Rattle.image_model.specs.Reading.{IsGiven, MethodIs, IsContent, IsGeneric, IsField, IsParam, overrides_of, BodyIs, IsMethod, IsAccessor, IsProperty, IsEvent}
 use Rattle.image_namings.proofs.Among.{Among, among_range}
-use Rattle.image_namings.proofs.Members.{method_tables}
 use Rattle.image_namings.proofs.Standing.{Stands, stands}
 use Rattle.row_demands.proofs.Tiles.{ends, contains_range}
 use Rattle.image_namings.proofs.General.{some_one}
 use Rattle.formed_references.specs.Laws.{AreFormed}
 use Rattle.formed_references.proofs.Words.{lt_true, le_true, eq_true, all_zipped, zipped_long, all_among, to_among, of_rows_with, text_is_name}
-use Rattle.formed_references.proofs.Paths.{named_row, row_there}
 use Rattle.formed_references.proofs.References.{Laws}
 use Rattle.formed_images.specs.Laws.{AreBytes}
-use Rattle.formed_images.proofs.Parts.{used_token, owner_is, small_row, not_instance, attributes_formed, generics_formed, constants_formed, is_cleared, param_formed, is_filled}
+use Rattle.formed_images.proofs.Parts.{used_token, owner_is, small_row, not_instance, attributes_formed, generics_formed, constants_formed, is_cleared, param_formed}
+use Rattle.image_namings.proofs.Indexes.{named_row, row_there}
+use Rattle.image_namings.proofs.Indexes.{method_tables}
+use Rattle.formed_references.proofs.Words.{is_filled}
+use Rattle.formed_references.proofs.Words.{none_there}
 
 -- ---- kinds of accessors
 
@@ -191,10 +193,6 @@ module _ (image : List ℕ) (a : Assembly) (h : Reads image a) (bytes : AreBytes
       let small = small_row image a h bytes short laws.text forms is.0 is.1 tables (row_there image MethodDefOrRef (override_declaration image row) is.0 is.1 n is.2) in
       forms.plain (token_of is.0 is.1) m is.3 (not_instance image a h bytes short laws.text forms is.0 is.1 tables small)
       (used_token image a h bytes short laws.text forms 0x19 row 2 MethodDefOrRef false refl there (omega arith) refl is.0 is.1 is.2 small)
-
-  none_there : {X : Type 0} (o : Option X) → o ≡ None → is_none o ≡ true
-  none_there None e = refl
-  none_there (Some x) e = absurd cc
 
   pub method_formed : (row : ℕ) (m : Method) → HasRow image 0x06 row → IsMethod image h.names row m → is_method a m ≡ true
   unfolding schema

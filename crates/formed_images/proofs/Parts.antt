@@ -1,11 +1,10 @@
 -- What belongs to types and members is well formed: attributes, generic parameters, constants, params.
-use Rattle.std.proofs.Common.{◌≡◌, ◌≢◌, ℕ, zero, suc, ◌/◌, ◌%◌, ◌^◌, ◌<◌, ◌≤◌, ◌==◌, ◌⊎◌, inl, inr, Bool, true, false, cond, not, ◌&&◌, ◌||◌, nat_eq, List, [], length, bit_and, option_map, Option, Some, None, refl, sym, ◌∙◌, ap, subst, arith, true≢false}
+use Rattle.std.proofs.Common.{◌≡◌, ◌≢◌, ℕ, zero, suc, ◌/◌, ◌^◌, ◌<◌, ◌≤◌, ◌==◌, ◌⊎◌, inl, inr, Bool, true, false, not, ◌&&◌, ◌||◌, nat_eq, List, [], length, bit_and, Option, refl, sym, ◌∙◌, ap, subst, arith}
 use Rattle.std.proofs.lemmas.Bool.{and_from}
 use Rattle.std.specs.List.{AllZip, list_all}
 use Rattle.heaps.specs.Content.{HasText}
 use Rattle.metadata_tables.specs.Schema.{schema, columns_of}
 use Rattle.metadata_tables.specs.Stream.{cell, column_of}
-use Rattle.metadata_tables.specs.CodedIndex.{table_of}
 use Rattle.metadata_tables.specs.declared.coded.Coded.{Coded}
 use Rattle.metadata_tables.specs.declared.coded.Coded.TheVariants.{TypeDefOrRef, CustomAttributeType}
 use Rattle.metadata_tables.specs.declared.schema.Column.TheVariants.{Tagged}
@@ -21,61 +20,21 @@ use Rattle.assembly_tree.specs.declared.members.Param.{Param}
 use Rattle.image_model.specs.Streams.{tables_of, strings_of, blobs_of}
 use Rattle.image_model.specs.Columns.{attribute_parent, attribute_type, generic_name, generic_owner, bound_parameter, bound_type, constant_type, param_flags, param_name}
 use Rattle.image_model.specs.Rows.{HasRow, Names, token_of, rows_with}
-use Rattle.image_model.specs.Used.{IsReference, IsUsed}
+use Rattle.image_model.specs.Used.{IsUsed}
 use Rattle.image_model.specs.Members.{constants_of, generics_of, ConstantIs}
 use Rattle.image_model.specs.Faults.{indexes, entries, Reads}
 use Rattle.image_model.specs.Reading.{IsGiven, without, OwnerIs, IsAttribute, AttributesAre, IsGeneric, GenericsAre, IsParam}
-use Rattle.image_namings.proofs.Decided.{some_is, none_is_not}
 use Rattle.image_namings.proofs.Owners.{OneText}
 use Rattle.image_namings.proofs.Rows.{few_methods, few_members}
 use Rattle.formed_references.specs.Laws.{AreUsed, AreFormed}
 use Rattle.formed_references.proofs.Words.{eq_true, is_eq, all_zipped, all_given, of_rows_with, text_has_no_zero, text_is_name}
-use Rattle.formed_references.proofs.Paths.{named_row, row_there}
-use Rattle.formed_references.proofs.References.{cell_names}
 use Rattle.formed_images.specs.Laws.{AreBytes}
 use Rattle.formed_images.proofs.Bytes.{stream_bytes, blob_bytes, clear}
 use Rattle.formed_images.proofs.Constants.{constant_passes}
-
--- ---- tables of references
-
-abbrev is_reference : ℕ → Bool
-is_reference t = nat_eq t 0x01 || (nat_eq t 0x0A || (nat_eq t 0x11 || (nat_eq t 0x1B || nat_eq t 0x2B)))
-
-pub reference_test : (t : ℕ) → IsReference t → is_reference t ≡ true
-reference_test t (inl e) = subst (λ (x : ℕ). is_reference x ≡ true) (sym e) refl
-reference_test t (inr (inl e)) = subst (λ (x : ℕ). is_reference x ≡ true) (sym e) refl
-reference_test t (inr (inr (inl e))) = subst (λ (x : ℕ). is_reference x ≡ true) (sym e) refl
-reference_test t (inr (inr (inr (inl e)))) = subst (λ (x : ℕ). is_reference x ≡ true) (sym e) refl
-reference_test t (inr (inr (inr (inr e)))) = subst (λ (x : ℕ). is_reference x ≡ true) (sym e) refl
-
--- a table is none of them
-pub no_reference : (t : ℕ) → is_reference t ≡ false → IsReference t → ⊥
-no_reference t e r = true≢false (sym (reference_test t r) ∙ e)
-
--- ---- the tables that the type of an attribute may be of
-
-abbrev pair : ℕ → ℕ → ℕ × ℕ
-pair a b = (a, b)
-
-table_named : (o : Option ℕ) (r table row : ℕ) → option_map (λ (t : ℕ). pair t r) o ≡ Some (pair table row) → o ≡ Some table
-table_named None r table row e = absurd (none_is_not e)
-table_named (Some t) r table row e = ap Some (ap (λ (p : ℕ × ℕ). p.0) (some_is (pair t r) (pair table row) e))
-
-tag_of_method : (b c : Bool) (table : ℕ) → option_map (λ (p : ℕ × ℕ). p.0) (cond b (Some (pair 0x06 2)) (cond c (Some (pair 0x0A 3)) None)) ≡ Some table → (table ≡ 0x06) ⊎ (table ≡ 0x0A)
-tag_of_method true c table e = inl (sym (some_is 0x06 table e))
-tag_of_method false true table e = inr (sym (some_is 0x0A table e))
-tag_of_method false false table e = absurd (none_is_not e)
-
-tables_of_type : (tag table : ℕ) → table_of CustomAttributeType tag ≡ Some table → (table ≡ 0x06) ⊎ (table ≡ 0x0A)
-unfolding table_of
-tables_of_type tag table e = tag_of_method (nat_eq 2 tag) (nat_eq 3 tag) table e
-
-type_tables : (value table row : ℕ) → Names CustomAttributeType value table row → (table ≡ 0x06) ⊎ (table ≡ 0x0A)
-type_tables value table row n = tables_of_type (value % 8) table (table_named (table_of CustomAttributeType (value % 8)) (value / 8) table row n)
-
-pub is_filled : {t : List ℕ} → (false ≡ true) ⊎ (t ≢ []) → t ≢ []
-is_filled (inl e) f = true≢false (sym e)
-is_filled (inr n) f = n f
+use Rattle.image_namings.proofs.Indexes.{named_row, row_there}
+use Rattle.image_namings.proofs.Indexes.{cell_names}
+use Rattle.image_namings.proofs.Indexes.{constructor_tables, is_reference, no_reference}
+use Rattle.formed_references.proofs.Words.{is_filled}
 
 module _ (image : List ℕ) (a : Assembly) (h : Reads image a) (bytes : AreBytes image) (short : length image ≤ 2 ^ 26) (text : OneText (strings_of image)) (forms : AreFormed image a h.names) where
   -- ---- uses
@@ -111,7 +70,7 @@ module _ (image : List ℕ) (a : Assembly) (h : Reads image a) (bytes : AreBytes
   attribute_formed : (row : ℕ) (x : Attribute) → HasRow image 0x0C row → IsAttribute image h.names row x → is_attribute a x ≡ true
   unfolding is_attribute schema
   attribute_formed row x there is =
-      let tables = type_tables (attribute_type image row) is.table is.constructor_row is.coded in
+      let tables = constructor_tables (attribute_type image row) is.table is.constructor_row is.coded in
       let n = named_row image CustomAttributeType (attribute_type image row) ((h.rows indexes).0 0x0C row there 1 (omega arith)) in
       let named = row_there image CustomAttributeType (attribute_type image row) is.table is.constructor_row n is.coded in
       let small = small_row is.table is.constructor_row tables named in

@@ -26,6 +26,7 @@ use Rattle.image_namings.proofs.Standing.{Stands, stands}
 use Rattle.formed_references.proofs.Words.{eq_true, is_eq}
 use Rattle.formed_references.proofs.Paths.{path_short}
 use Rattle.formed_images.proofs.Members.{none_same}
+use Rattle.formed_references.proofs.Words.{of_types}
 
 -- ---- rows in order
 
@@ -77,13 +78,6 @@ module _ (image : List ℕ) (a : Assembly) (h : Reads image a) (text : OneText (
   stood : Stands image
   stood = stands image h.names (λ earlier low. h.rows earlier)
 
-  pub of_types : (row outer : ℕ) → Among row (types_in image outer) → HasRow image 0x02 row × (2 ≤ row) × (enclosing image row ≡ outer)
-  unfolding types_in
-  of_types row outer m =
-      let f = among_filter (λ t. nat_eq (enclosing image t) outer) row _ m in
-      let r = among_range row 2 (count_of image 0x02 - 1) f.0 in
-      ((omega (arith, r.0), omega (arith, r.0, r.1)), r.0, is_eq (enclosing image row) outer f.1)
-
   pub types_ordered : (outer : ℕ) → Ordered (types_in image outer)
   unfolding types_in
   types_ordered outer = in_order (λ t. nat_eq (enclosing image t) outer) 2 (count_of image 0x02 - 1)
@@ -129,8 +123,8 @@ module _ (image : List ℕ) (a : Assembly) (h : Reads image a) (text : OneText (
   types_differ : (outer : ℕ) (ts : List TypeDef) → AreTypes image h.names (types_in image outer) ts → all_differ is_same_id ts ≡ true
   types_differ outer ts are =
       differ_in_order (IsType image h.names) is_same_id (types_in image outer) ts (types_ordered outer) (λ r s t u m n less is k e.
-      let o = of_types r outer m in
-      let q = of_types s outer n in
+      let o = of_types image r outer m in
+      let q = of_types image s outer n in
       let p = stood.path r o.0 in
       let w = stood.path s q.0 in
       let id = same_id (out-TypeDef t).id (out-TypeDef u).id e in
@@ -145,7 +139,7 @@ module _ (image : List ℕ) (a : Assembly) (h : Reads image a) (text : OneText (
 
   deeper : (row n : ℕ) (path : List TypeId) → HasRow image 0x02 row → HasPath image row path → length path ≡ n → Deep row n
   deeper row n path there p long inner m q k =
-      let o = of_types inner row m in
+      let o = of_types image inner row m in
       go (below row k o.2)
     where
       go : {q : List TypeId} → Below image row inner q → length q ≡ n + 1
@@ -160,7 +154,7 @@ module _ (image : List ℕ) (a : Assembly) (h : Reads image a) (text : OneText (
   none_left outer n [] (t ∷ ts) into deep far are = absurd (zipped are)
   none_left outer n (r ∷ rows) ts into deep far are =
       let m = into r (inl refl) in
-      let o = of_types r outer m in
+      let o = of_types image r outer m in
       let p = stood.path r o.0 in
       let long = deep r m p.0 p.1 in
       let few = path_short image a h text holds r p.0 p.1 in
@@ -176,7 +170,7 @@ module _ (image : List ℕ) (a : Assembly) (h : Reads image a) (text : OneText (
     each_formed levels outer n inner deep into AreTypes.none = refl
     each_formed levels outer n inner deep into (AreTypes.more {row = row} {t = t} {ts = ts} (IsType.made is nested) rest) =
         let m = into row (inl refl) in
-        let o = of_types row outer m in
+        let o = of_types image row outer m in
         let p = stood.path row o.0 in
         and_from (is_own a (nat_eq outer 0) (out-TypeDef t) && are_types a false levels (out-TypeDef t).nested) (list_all (λ t. is_own a (nat_eq outer 0) (out-TypeDef t) && are_types a false levels (out-TypeDef t).nested) ts)
         (and_from (is_own a (nat_eq outer 0) (out-TypeDef t)) (are_types a false levels (out-TypeDef t).nested)
@@ -196,7 +190,7 @@ module _ (image : List ℕ) (a : Assembly) (h : Reads image a) (text : OneText (
         other row some = grind (arith, nat_tests)
 
     top_deep : Deep 0 0
-    top_deep row m path p = go (below 0 p (of_types row 0 m).2)
+    top_deep row m path p = go (below 0 p (of_types image row 0 m).2)
       where
         go : {q : List TypeId} → Below image 0 row q → length q ≡ 0 + 1
         go (Below.alone z is e) = ap length e

@@ -29,11 +29,12 @@ use Rattle.formed_references.proofs.Paths.{first_type}
 use Rattle.formed_references.proofs.References.{Laws}
 use Rattle.formed_images.specs.Laws.{AreBytes}
 use Rattle.formed_images.proofs.Bytes.{clear, kept}
-use Rattle.formed_images.proofs.Parts.{attributes_formed, is_filled}
+use Rattle.formed_images.proofs.Parts.{attributes_formed}
 use Rattle.formed_images.proofs.Bodies.{BodiesAreFormed, bodies_formed}
 use Rattle.formed_images.proofs.Types.{fields_formed, methods_formed, fields_differ, methods_differ, own_formed}
 use Rattle.formed_images.proofs.Trees.{classes_formed}
 use Rattle.formed_images.proofs.Entries.{one_entry}
+use Rattle.formed_references.proofs.Words.{is_filled}
 
 -- ---- numbers of the manifest
 

@@ -2,5 +2,7 @@
 #![tactic(auto)]
 
 mod laws;
+mod ranges;
 
 pub use laws::what_is_read_is_formed;
+pub use ranges::bytes_in_range;

@@ -7,7 +7,6 @@ use Rattle.std.specs.List.{list_all}
 use Rattle.std.specs.Option.{option_map_or}
 use lib.Pointwise.{pointwise, bytes_decides}
 use Rattle.metadata_tables.specs.Schema.{schema}
-use Rattle.metadata_tables.specs.declared.coded.Coded.{Coded}
 use Rattle.metadata_tables.specs.declared.coded.Coded.TheVariants.{ResolutionScope}
 use Rattle.type_terms.specs.declared.name.Scope.{Scope}
 use Rattle.type_terms.specs.declared.name.Scope.TheVariants.{Here, Extern}
@@ -17,18 +16,18 @@ use Rattle.assembly_tree.specs.WellFormedNames.{has_no_zero, is_name, is_type_id
 use Rattle.assembly_tree.specs.declared.assembly.Assembly.{Assembly}
 use Rattle.image_model.specs.Streams.{strings_of}
 use Rattle.image_model.specs.Columns.{type_name, type_space, type_ref_scope, nested_class, enclosing_class}
-use Rattle.image_model.specs.Rows.{count_of, HasRow, Names, rows_of, rows_with, enclosing}
+use Rattle.image_model.specs.Rows.{count_of, HasRow, rows_of, rows_with, enclosing}
 use Rattle.image_model.specs.Cells.{NamesRow}
 use Rattle.image_model.specs.Naming.{HasId, HasRefId, HasPath, HasRefPath}
 use Rattle.image_model.specs.Structure.{IsModuleType}
 use Rattle.image_model.specs.Faults.{indexes, entries, manifest, scopes, Reads}
 use Rattle.image_model.specs.ReadLaws.{HoldsTypes}
 use Rattle.image_model.specs.Reading.{IsExtern}
-use Rattle.image_namings.proofs.General.{names_one}
 use Rattle.image_namings.proofs.Among.{Among, filter_among, found}
 use Rattle.image_namings.proofs.OnePath.{path_one, ref_path_one}
 use Rattle.image_namings.proofs.Owners.{OneText}
 use Rattle.formed_references.proofs.Words.{lt_true, is_eq, text_has_no_zero, text_is_name, zipped_long, of_rows}
+use Rattle.image_namings.proofs.Indexes.{named_row, row_there}
 
 either_first : (b c : Bool) → b ≡ true → (b || c) ≡ true
 either_first true c e = refl
@@ -37,16 +36,6 @@ either_first false c e = absurd (true≢false (sym e))
 either_second : (b c : Bool) → c ≡ true → (b || c) ≡ true
 either_second true c e = refl
 either_second false c e = e
-
-pub named_row : (image : List ℕ) (kind : Coded) (value : ℕ) → ((false ≡ true) × (value ≡ 0)) ⊎ NamesRow image kind value → NamesRow image kind value
-named_row image kind value (inl h) = absurd (true≢false (sym h.0))
-named_row image kind value (inr n) = n
-
--- the row that an index names is there
-pub row_there : (image : List ℕ) (kind : Coded) (value table row : ℕ) → NamesRow image kind value → Names kind value table row → HasRow image table row
-row_there image kind value table row n k =
-    let e = names_one kind value n.0 n.1 table row n.2 k in
-    subst (λ (r : ℕ). HasRow image table r) e.1 (subst (λ (t : ℕ). HasRow image t n.1) e.0 n.3)
 
 module _ (image : List ℕ) (a : Assembly) (h : Reads image a) (text : OneText (strings_of image)) (holds : HoldsTypes image h.names a) where
   -- ---- names

@@ -1,11 +1,10 @@
 -- What the tokens in use name is well formed: methods, fields, types, locals (II.22.25, II.22.29, II.22.36, II.22.39).
-use Rattle.std.proofs.Common.{◌≡◌, ◌≢◌, ℕ, ◌/◌, ◌^◌, ◌<◌, ◌≤◌, ◌⊎◌, inl, inr, Bool, true, false, nat_lt, ◌==◌, List, [], length, All, Contains, Option, Some, None, is_none, refl, sym, ◌∙◌, ap, subst, arith, true≢false}
+use Rattle.std.proofs.Common.{◌≡◌, ℕ, ◌/◌, ◌^◌, ◌<◌, ◌≤◌, ◌⊎◌, inl, inr, Bool, true, false, nat_lt, ◌==◌, List, length, All, Contains, Option, Some, None, is_none, refl, sym, ◌∙◌, ap, subst, arith}
 use Rattle.std.proofs.lemmas.Bool.{and_from}
 use Rattle.std.specs.List.{list_all}
 use Rattle.heaps.specs.Content.{HasText, HasBlob}
 use Rattle.metadata_tables.specs.Schema.{schema, columns_of}
 use Rattle.metadata_tables.specs.Stream.{cell, column_of}
-use Rattle.metadata_tables.specs.declared.coded.Coded.{Coded}
 use Rattle.metadata_tables.specs.declared.coded.Coded.TheVariants.{TypeDefOrRef, MemberRefParent, MethodDefOrRef}
 use Rattle.metadata_tables.specs.declared.schema.Column.TheVariants.{Tagged}
 use Rattle.sig_codec.specs.Signature.{IsType, IsMethod, IsField, IsProperty, AreLocals, IsInstantiation}
@@ -25,20 +24,22 @@ use Rattle.image_model.specs.Columns.{method_name, method_signature, field_name,
 use Rattle.image_model.specs.Rows.{HasRow, Names, token_of, fields_of}
 use Rattle.image_model.specs.Naming.{here, RowOwner, OwnsMethod, OwnsMember, NamesMethod, NamesField, NamesLocals}
 use Rattle.image_model.specs.Terms.{owner_rank, type_rank, HasRanks, HasBounds, HasMember, max_count}
-use Rattle.image_model.specs.Used.{IsReference, RowNames, IsUsed}
+use Rattle.image_model.specs.Used.{IsReference, IsUsed}
 use Rattle.image_model.specs.Faults.{indexes, entries, signatures, values, Reads}
 use Rattle.image_model.specs.Reading.{OwnerIs}
 use Rattle.image_model.specs.ReadLaws.{HoldsTypes}
 use Rattle.image_namings.proofs.General.{names_one, some_one}
 use Rattle.image_namings.proofs.Decided.{OneBlob}
 use Rattle.image_namings.proofs.Owners.{OneText}
-use Rattle.image_namings.proofs.Members.{method_tables}
 use Rattle.image_namings.proofs.Rows.{few_methods, few_members}
 use Rattle.formed_references.proofs.Words.{lt_true, eq_true, text_is_name}
-use Rattle.formed_references.proofs.Paths.{named_row, row_there}
 use Rattle.formed_references.proofs.Terms.{rank_of, rank-Spec, owner_formed}
 use Rattle.formed_references.specs.Laws.{AreUsed, AreFormed}
 use Rattle.formed_references.proofs.Signatures.{no_field, field_formed, method_formed, is_property, property_formed, locals_formed, arguments_formed}
+use Rattle.image_namings.proofs.Indexes.{named_row, row_there}
+use Rattle.image_namings.proofs.Indexes.{method_tables}
+use Rattle.image_namings.proofs.Indexes.{cell_names}
+use Rattle.formed_references.proofs.Words.{is_filled, none_there}
 
 -- the laws of the layers below
 pub record Laws (image : List ℕ) : Type 0 where
@@ -50,16 +51,6 @@ pub record Laws (image : List ℕ) : Type 0 where
   pub property : (owners : ℕ → Option Owner) (bytes : List ℕ) (s t : MethodSig) → IsProperty owners bytes s → IsProperty owners bytes t → s ≡ t
   pub locals : (owners : ℕ → Option Owner) (bytes : List ℕ) (s t : List SigType) → AreLocals owners bytes s → AreLocals owners bytes t → s ≡ t
   pub instantiation : (owners : ℕ → Option Owner) (bytes : List ℕ) (s t : List SigType) → IsInstantiation owners bytes s → IsInstantiation owners bytes t → s ≡ t
-
-is_filled : {t : List ℕ} → (false ≡ true) ⊎ (t ≢ []) → t ≢ []
-is_filled (inl e) f = true≢false (sym e)
-is_filled (inr n) f = n f
-
--- a coded index of a row is a use of what it names
-pub cell_names : (image : List ℕ) (from_table from column : ℕ) (kind : Coded) (nil : Bool) (table row : ℕ) → column < length (columns_of from_table) → column_of from_table column ≡ Tagged kind nil
-    → Names kind (cell (tables_of image) from_table from column) table row → RowNames image from_table from table row
-cell_names image from_table from column kind nil table row there coded names =
-    RowNames.by_cell (record { column = column; kind = kind; nil = nil; there = there; coded = coded; names = names })
 
 module _ (image : List ℕ) (a : Assembly) (h : Reads image a) (laws : Laws image) (short : length image ≤ 2 ^ 26) (holds : HoldsTypes image h.names a) where
   -- ---- owners
@@ -200,10 +191,6 @@ module _ (image : List ℕ) (a : Assembly) (h : Reads image a) (laws : Laws imag
   no_arguments (NamesMethod.defined t there mine name blob is) other = refl
   no_arguments (NamesMethod.referred t there mine name blob is) other = refl
   no_arguments (NamesMethod.instantiated t there coded of blob is) other = absurd (other (let i = t.is in let f = t.fits in omega arith))
-
-  none_there : {X : Type 0} (o : Option X) → o ≡ None → is_none o ≡ true
-  none_there None e = refl
-  none_there (Some x) e = absurd cc
 
   pub plain_ref_formed : (token : ℕ) (m : MethodRef) → h.names.methods token ≡ Some m → (token / 2 ^ 24 ≡ 0x2B → ⊥) → AreUsed image token → is_plain_ref a m ≡ true
   unfolding is_plain_ref

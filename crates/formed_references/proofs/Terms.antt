@@ -6,7 +6,7 @@ use Rattle.std.proofs.lemmas.Grind.{common_steps}
 use Rattle.std.proofs.lemmas.List.{length-map}
 use Rattle.std.specs.List.{list_all}
 use Rattle.il_base.specs.Numbers.{Packed, PackedSigned, IsTurned, packed_bits}
-use Rattle.sig_codec.specs.Spelling.{Layer, reading, SpellsOwner, SpellsName, SpellsEachBy, SpellsShape, SpellsType, SpellsLayer, SpellsEach}
+use Rattle.sig_codec.specs.Spelling.{Layer, reading, SpellsOwner, SpellsEachBy, SpellsShape, SpellsType, SpellsLayer, SpellsEach}
 use Rattle.sig_codec.specs.Spelling as spelling
 use Rattle.type_terms.specs.declared.name.TypeName.{TypeName}
 use Rattle.type_terms.specs.declared.term.Owner.{Owner}
@@ -23,10 +23,11 @@ use Rattle.image_model.specs.Naming.{RowOwner, NamesOwner}
 use Rattle.image_model.specs.Terms.{owner_rank, type_rank, HasRanks}
 use Rattle.image_model.specs.Faults.{Reads}
 use Rattle.image_model.specs.ReadLaws.{HoldsTypes}
-use Rattle.image_namings.proofs.Transfer.{depth-out, depth-Name, depth-Spec, layer_depth}
+use Rattle.image_namings.proofs.Transfer.{depth-Name, depth-Spec}
 use Rattle.image_namings.proofs.Owners.{OneText}
 use Rattle.formed_references.proofs.Words.{lt_true, le_true}
 use Rattle.formed_references.proofs.Paths.{ids_formed, ref_ids_formed, path_short, ref_short, path_declared, known_ref}
+use Rattle.sig_codec.proofs.Layers.{depth-out, layer_depth}
 
 -- ---- numbers
 

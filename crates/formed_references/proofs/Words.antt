@@ -1,12 +1,12 @@
 -- General words: a test passes on each part of a list where it passes on what a row gives.
-use Rattle.std.proofs.Common.{◌≡◌, ◌≢◌, ℕ, zero, suc, ◌<◌, ◌≤◌, inl, inr, Bool, true, nat_lt, nat_le, nat_eq, List, [], ◌∷◌, All, Contains, length, slice_index_or, Option, Some, None, refl, sym, subst, arith}
+use Rattle.std.proofs.Common.{◌≡◌, ◌≢◌, ℕ, zero, suc, ◌<◌, ◌≤◌, inl, inr, Bool, true, nat_lt, nat_le, nat_eq, List, [], ◌∷◌, All, Contains, length, slice_index_or, Option, Some, None, refl, sym, subst, arith, ◌-◌, is_none, true≢false, false, ◌⊎◌}
 use Rattle.std.proofs.lemmas.Bool.{and_from}
 use Rattle.std.proofs.lemmas.Bool.Decides.{nat_tests}
 use Rattle.std.proofs.lemmas.List.Elements.{recursion_from_All}
-use Rattle.std.specs.List.{AllByRecursion, AllZip, list_all}
+use Rattle.std.specs.List.{AllByRecursion, AllZip, list_all, range_with_len}
 use Rattle.heaps.specs.Content.{HasText}
 use Rattle.assembly_tree.specs.WellFormedNames.{option_all, has_no_zero, is_name}
-use Rattle.image_model.specs.Rows.{count_of, HasRow, rows_of, rows_with}
+use Rattle.image_model.specs.Rows.{count_of, HasRow, rows_of, rows_with, enclosing, types_in}
 use Rattle.image_model.specs.Reading.{IsGiven}
 use Rattle.image_namings.proofs.Among.{Among, among_range, among_filter}
 
@@ -92,3 +92,23 @@ some_bytes (x ∷ xs) n = lt_true 0 (length (x ∷ xs)) (omega arith)
 
 pub text_is_name : (heap : List ℕ) (index : ℕ) (text : List ℕ) → HasText heap index text → text ≢ [] → is_name text ≡ true
 text_is_name heap index text h n = and_from (nat_lt 0 (length text)) (has_no_zero text) (some_bytes text n) (text_has_no_zero heap index text h)
+
+-- ---- types that one type encloses
+
+pub of_types : (image : List ℕ) (row outer : ℕ) → Among row (types_in image outer) → HasRow image 0x02 row × (2 ≤ row) × (enclosing image row ≡ outer)
+unfolding types_in
+of_types image row outer m =
+    let f = among_filter (λ t. nat_eq (enclosing image t) outer) row (range_with_len 2 (count_of image 0x02 - 1)) m in
+    let r = among_range row 2 (count_of image 0x02 - 1) f.0 in
+    ((omega (arith, r.0), omega (arith, r.0, r.1)), r.0, is_eq (enclosing image row) outer f.1)
+
+-- ---- options
+
+pub none_there : {X : Type 0} (o : Option X) → o ≡ None → is_none o ≡ true
+none_there None e = refl
+none_there (Some x) e = absurd cc
+
+-- a name that a column wants isn't empty
+pub is_filled : {t : List ℕ} → (false ≡ true) ⊎ (t ≢ []) → t ≢ []
+is_filled (inl e) f = true≢false (sym e)
+is_filled (inr n) f = n f

@@ -1,9 +1,8 @@
 -- What a row gives is there, where no demand fails: names, attributes, generic parameters, constants.
-use Rattle.std.proofs.Common.{◌≡◌, ℕ, ◌/◌, ◌%◌, ◌^◌, ◌<◌, ◌≤◌, ◌⊎◌, inl, inr, Bool, true, false, cond, ◌||◌, nat_eq, List, [], ◌∷◌, length, option_map, Option, Some, None, refl, sym, ◌∙◌, ap, subst, arith, true≢false}
+use Rattle.std.proofs.Common.{◌≡◌, ℕ, ◌^◌, ◌<◌, ◌≤◌, inl, inr, Bool, false, List, [], ◌∷◌, length, Option, Some, None, refl, ap, subst, arith}
 use Rattle.std.proofs.lemmas.Bool.{ne_eqb}
 use Rattle.std.specs.Int.{bit_at}
 use Rattle.std.specs.List.{AllZip}
-use Rattle.metadata_tables.specs.CodedIndex.{table_of}
 use Rattle.metadata_tables.specs.Schema.{schema, columns_of}
 use Rattle.metadata_tables.specs.Stream.{row_count, present, cell, column_of}
 use Rattle.metadata_tables.specs.declared.coded.Coded.TheVariants.{TypeDefOrRef, MemberRefParent, MethodDefOrRef, HasCustomAttribute, TypeOrMethodDef}
@@ -23,19 +22,20 @@ use Rattle.image_model.specs.Rows.{HasRow, Names, token_of, rows_with, index_of}
 use Rattle.image_model.specs.Cells.{NamesRow}
 use Rattle.image_model.specs.Naming.{here, RowOwner, IsToken, OwnsMethod, OwnsMember, NamesMethod}
 use Rattle.image_model.specs.Namings.{AreNamings}
-use Rattle.image_model.specs.Used.{IsReference, IsUsed}
+use Rattle.image_model.specs.Used.{IsUsed}
 use Rattle.image_model.specs.Terms.{MemberHasMethod}
 use Rattle.image_model.specs.Members.{constants_of, generics_of, ConstantIs, HasConstants}
 use Rattle.image_model.specs.Faults.{RowRule, indexes, entries, signatures, values, attributes, Holds, HasTables}
 use Rattle.image_model.specs.Reading.{IsGiven, without, OwnerIs, MethodIs, IsAttribute, AttributesAre, IsGeneric, GenericsAre, IsParam}
 use Rattle.image_namings.proofs.Among.{Among}
-use Rattle.image_namings.proofs.Decided.{some_is, none_is_not, same}
-use Rattle.image_namings.proofs.Members.{method_tables}
+use Rattle.image_namings.proofs.Decided.{same}
 use Rattle.image_namings.proofs.Rows.{few_methods, few_members}
 use Rattle.image_namings.proofs.Standing.{Stands, stands}
 use Rattle.formed_references.proofs.Words.{all_among, of_rows_with}
-use Rattle.formed_references.proofs.Paths.{named_row, row_there}
-use Rattle.formed_references.proofs.References.{cell_names}
+use Rattle.image_namings.proofs.Indexes.{named_row, row_there}
+use Rattle.image_namings.proofs.Indexes.{cell_names}
+use Rattle.image_namings.proofs.Indexes.{method_tables}
+use Rattle.image_namings.proofs.Indexes.{type_tables, parent_tables, is_reference, no_reference, IsParent, IsTypeTable, IsMethodTable}
 
 -- ---- lists of parts
 
@@ -50,50 +50,6 @@ pub given : {X : Type 0} (Is : ℕ → X → Type 0) (rows : List ℕ) → ((r :
 given Is [] f = (None, tt)
 given Is (r ∷ rows) f = let x = f r (inl refl) in (Some x.0, x.1)
 
--- ---- the tables of indexes
-
-abbrev pair : ℕ → ℕ → ℕ × ℕ
-pair a b = (a, b)
-
-table_named : (o : Option ℕ) (r table row : ℕ) → option_map (λ (t : ℕ). pair t r) o ≡ Some (pair table row) → o ≡ Some table
-table_named None r table row e = absurd (none_is_not e)
-table_named (Some t) r table row e = ap Some (ap (λ (p : ℕ × ℕ). p.0) (some_is (pair t r) (pair table row) e))
-
-abbrev first_of : ℕ × ℕ → ℕ
-first_of p = p.0
-
-tag_of_type : (b c d : Bool) (table : ℕ) → option_map first_of (cond b (Some (pair 0x02 0)) (cond c (Some (pair 0x01 1)) (cond d (Some (pair 0x1B 2)) None))) ≡ Some table → (table ≡ 0x02) ⊎ ((table ≡ 0x01) ⊎ (table ≡ 0x1B))
-tag_of_type true c d table e = inl (sym (some_is 0x02 table e))
-tag_of_type false true d table e = inr (inl (sym (some_is 0x01 table e)))
-tag_of_type false false true table e = inr (inr (sym (some_is 0x1B table e)))
-tag_of_type false false false table e = absurd (none_is_not e)
-
-tables_of_type : (tag table : ℕ) → table_of TypeDefOrRef tag ≡ Some table → (table ≡ 0x02) ⊎ ((table ≡ 0x01) ⊎ (table ≡ 0x1B))
-unfolding table_of
-tables_of_type tag table e = tag_of_type (nat_eq 0 tag) (nat_eq 1 tag) (nat_eq 2 tag) table e
-
-type_tables : (value table row : ℕ) → Names TypeDefOrRef value table row → (table ≡ 0x02) ⊎ ((table ≡ 0x01) ⊎ (table ≡ 0x1B))
-type_tables value table row n = tables_of_type (value % 4) table (table_named (table_of TypeDefOrRef (value % 4)) (value / 4) table row n)
-
-abbrev IsParent : ℕ → Type 0
-IsParent table = (table ≡ 0x02) ⊎ ((table ≡ 0x01) ⊎ ((table ≡ 0x1A) ⊎ ((table ≡ 0x06) ⊎ (table ≡ 0x1B))))
-
-tag_of_parent : (b c d e f : Bool) (table : ℕ)
-    → option_map first_of (cond b (Some (pair 0x02 0)) (cond c (Some (pair 0x01 1)) (cond d (Some (pair 0x1A 2)) (cond e (Some (pair 0x06 3)) (cond f (Some (pair 0x1B 4)) None))))) ≡ Some table → IsParent table
-tag_of_parent true c d e f table k = inl (sym (some_is 0x02 table k))
-tag_of_parent false true d e f table k = inr (inl (sym (some_is 0x01 table k)))
-tag_of_parent false false true e f table k = inr (inr (inl (sym (some_is 0x1A table k))))
-tag_of_parent false false false true f table k = inr (inr (inr (inl (sym (some_is 0x06 table k)))))
-tag_of_parent false false false false true table k = inr (inr (inr (inr (sym (some_is 0x1B table k)))))
-tag_of_parent false false false false false table k = absurd (none_is_not k)
-
-tables_of_parent : (tag table : ℕ) → table_of MemberRefParent tag ≡ Some table → IsParent table
-unfolding table_of
-tables_of_parent tag table e = tag_of_parent (nat_eq 0 tag) (nat_eq 1 tag) (nat_eq 2 tag) (nat_eq 3 tag) (nat_eq 4 tag) table e
-
-parent_tables : (value table row : ℕ) → Names MemberRefParent value table row → IsParent table
-parent_tables value table row n = tables_of_parent (value % 8) table (table_named (table_of MemberRefParent (value % 8)) (value / 8) table row n)
-
 -- no row stands in a table that isn't in the profile
 absent : (stream : List ℕ) (table : ℕ) → (bit_at (present stream) table ≡ 1 → ⊥) → row_count stream table ≡ 0
 unfolding row_count
@@ -105,20 +61,6 @@ no_module_ref image row tables there =
     let none = absent (tables_of image) 0x1A (λ bit. tables.whole.tables 0x1A (bit, refl)) in
     omega (arith, none, there.0, there.1)
 
--- a table is none of references
-abbrev is_reference : ℕ → Bool
-is_reference t = nat_eq t 0x01 || (nat_eq t 0x0A || (nat_eq t 0x11 || (nat_eq t 0x1B || nat_eq t 0x2B)))
-
-reference_test : (t : ℕ) → IsReference t → is_reference t ≡ true
-reference_test t (inl e) = subst (λ (x : ℕ). is_reference x ≡ true) (sym e) refl
-reference_test t (inr (inl e)) = subst (λ (x : ℕ). is_reference x ≡ true) (sym e) refl
-reference_test t (inr (inr (inl e))) = subst (λ (x : ℕ). is_reference x ≡ true) (sym e) refl
-reference_test t (inr (inr (inr (inl e)))) = subst (λ (x : ℕ). is_reference x ≡ true) (sym e) refl
-reference_test t (inr (inr (inr (inr e)))) = subst (λ (x : ℕ). is_reference x ≡ true) (sym e) refl
-
-no_reference : (t : ℕ) → is_reference t ≡ false → IsReference t → ⊥
-no_reference t e r = true≢false (sym (reference_test t r) ∙ e)
-
 module _ (image : List ℕ) (names : NameMap) (short : length image ≤ 2 ^ 26) (tables : HasTables image) (named : AreNamings image names) (rows : (rule : RowRule) → Holds image names rule) where
   pub stood : Stands image
   stood = stands image names (λ earlier low. rows earlier)
@@ -126,7 +68,7 @@ module _ (image : List ℕ) (names : NameMap) (short : length image ≤ 2 ^ 26) 
   -- ---- owners
 
   -- a row of one of the three tables is a type, where a TypeSpec is in use
-  row_owner : (table row : ℕ) → (table ≡ 0x02) ⊎ ((table ≡ 0x01) ⊎ (table ≡ 0x1B)) → HasRow image table row → (table ≡ 0x1B → HasRow image 0x1B row → IsUsed image 0x1B row) → (o : Owner) × RowOwner image names.owners table row o
+  row_owner : (table row : ℕ) → IsTypeTable table → HasRow image table row → (table ≡ 0x1B → HasRow image 0x1B row → IsUsed image 0x1B row) → (o : Owner) × RowOwner image names.owners table row o
   row_owner table row (inl e) there used =
       let here_is = subst (λ (t : ℕ). HasRow image t row) e there in
       let p = stood.path row here_is in
@@ -162,7 +104,7 @@ module _ (image : List ℕ) (names : NameMap) (short : length image ≤ 2 ^ 26) 
       let n = stood.member_in row there in
       go n.0 n.1 n.2 n.3 (parent_tables (member_parent image row) n.0 n.1 n.2)
     where
-      by_type : (table parent : ℕ) → Names MemberRefParent (member_parent image row) table parent → (table ≡ 0x02) ⊎ ((table ≡ 0x01) ⊎ (table ≡ 0x1B)) → HasRow image table parent → (o : Owner) × OwnsMember image names.owners row o
+      by_type : (table parent : ℕ) → Names MemberRefParent (member_parent image row) table parent → IsTypeTable table → HasRow image table parent → (o : Owner) × OwnsMember image names.owners row o
       by_type table parent n kind parent_there =
           let o = row_owner table parent kind parent_there (λ e spec. IsUsed.by_reference used (cell_names image 0x0A row 0 MemberRefParent false 0x1B parent (omega arith) refl
           (subst (λ (x : ℕ). Names MemberRefParent (member_parent image row) x parent) e n)) (inr (inr (inr (inl refl)))) spec) in
@@ -188,7 +130,7 @@ module _ (image : List ℕ) (names : NameMap) (short : length image ≤ 2 ^ 26) 
       let t = method_tables (override_declaration image row) s.0 s.1 s.2 in
       go s.0 s.1 s.2 s.3 (row_there image MethodDefOrRef (override_declaration image row) s.0 s.1 n s.2) t
     where
-      go : (table method : ℕ) → Names MethodDefOrRef (override_declaration image row) table method → (table ≡ 0x0A → (sig : MethodSig) × MemberHasMethod image names method sig) → HasRow image table method → (table ≡ 0x06) ⊎ (table ≡ 0x0A)
+      go : (table method : ℕ) → Names MethodDefOrRef (override_declaration image row) table method → (table ≡ 0x0A → (sig : MethodSig) × MemberHasMethod image names method sig) → HasRow image table method → IsMethodTable table
           → (m : MethodRef) × MethodIs names (override_declaration image row) m
       go table method n sig method_there (inl e) =
           let here_is = subst (λ (t : ℕ). HasRow image t method) e method_there in

@@ -23,15 +23,16 @@ use Rattle.image_model.specs.Namings.{AreNamings}
 use Rattle.image_model.specs.Members.{layouts_of}
 use Rattle.image_model.specs.Faults.{RowRule, indexes, entries, scopes, Holds, HasTables}
 use Rattle.image_model.specs.Reading.{OwnerIs, IsField, IsMethod, IsProperty, IsEvent, ExtendsIs, AreInterfaces, IsLayout, IsTypeButNested, IsType, AreTypes}
-use Rattle.image_namings.proofs.Among.{Among, among_range, among_filter, found, from_among}
+use Rattle.image_namings.proofs.Among.{Among, found, from_among}
 use Rattle.image_namings.proofs.Decided.{OneBlob, same}
 use Rattle.image_namings.proofs.General.{names_one}
 use Rattle.image_namings.proofs.Owners.{OneText, ReadsTypes, owner_one}
 use Rattle.formed_references.proofs.Words.{to_among, of_rows, of_rows_with}
-use Rattle.formed_references.proofs.Paths.{named_row}
 use Rattle.image_assemblies.proofs.Ties.{IsIn, is_in, contained, rising_keeps, rising_only, rising_rises}
 use Rattle.image_assemblies.proofs.Parts.{zipped, given, stood, owner_is, attributes_are, generics_are}
 use Rattle.image_assemblies.proofs.Members.{OutlinesAreBodies, OneField, field_is, method_is, property_is, event_is}
+use Rattle.image_namings.proofs.Indexes.{named_row}
+use Rattle.formed_references.proofs.Words.{of_types}
 
 -- an owner for each row is among the owners of all
 zip_has : (Is : ℕ → Owner → Type 0) (rows : List ℕ) (os : List Owner) (r : ℕ) → AllZip Is rows os → Among r rows → (o : Owner) × Is r o × IsIn o os
@@ -140,13 +141,6 @@ module _ (image : List ℕ) (names : NameMap) (short : length image ≤ 2 ^ 26) 
       let ts = types_from all (λ s m. f s (inr m)) in
       (t.0 ∷ ts.0, AreTypes.more t.1 ts.1)
 
-  of_types : (row outer : ℕ) → Among row (types_in image outer) → HasRow image 0x02 row × (2 ≤ row) × (enclosing image row ≡ outer)
-  unfolding types_in
-  of_types row outer m =
-      let f = among_filter (λ t. nat_eq (enclosing image t) outer) row _ m in
-      let r = among_range row 2 (count_of image 0x02 - 1) f.0 in
-      ((omega (arith, r.0), omega (arith, r.0, r.1)), r.0, grind (arith, nat_tests, f.1))
-
   later_at : (row : ℕ) (o : Option ℕ) → find (λ r. nat_eq (nested_class image r) row) (rows_of image 0x29) ≡ o → 0 < row → option_map_or (enclosing_class image) o 0 < row
   later_at row None e some = some
   later_at row (Some r) e some =
@@ -163,11 +157,11 @@ module _ (image : List ℕ) (names : NameMap) (short : length image ≤ 2 ^ 26) 
 
   types_by : (fuel outer : ℕ) → count_of image 0x02 ≤ outer + fuel → (ts : List TypeDef) × AreTypes image names (types_in image outer) ts
   types_by zero outer enough = types_from (types_in image outer) (λ r m.
-      let o = of_types r outer m in
+      let o = of_types image r outer m in
       let l = later r o.0.0 in
       absurd (omega (arith, enough, o.0.1, o.2, l)))
   types_by (suc fuel) outer enough = types_from (types_in image outer) (λ r m.
-      let o = of_types r outer m in
+      let o = of_types image r outer m in
       let l = later r o.0.0 in
       let nested = types_by fuel r (omega (arith, enough, o.2, l)) in
       type_made r o.0 nested.0 nested.1)

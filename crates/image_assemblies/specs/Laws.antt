@@ -14,8 +14,8 @@ AssemblyExists =
     (image : List ℕ) (names : NameMap) → length image ≤ 2 ^ 26 → HasTables image → AreNamings image names → ((rule : RowRule) → Holds image names rule)
     → (a : Assembly) × IsAssembly image names a
 
--- What comes of an image: it reads as one assembly at most, it has one first fault at most, and of the two there is one, never
--- both and never neither.
+-- What comes of an image: it reads as one assembly at most, it has one first fault at most, and of the two there is one: never
+-- both, and that there is neither is refuted. Which of the two it is, is told by who reads the image.
 pub record HasOneOutcome (image : List ℕ) : Type 0 where
   pub one_assembly : (a b : Assembly) → Reads image a → Reads image b → a ≡ b
   pub one_fault : (rule other : ℕ) (at there : Place) → IsImageFault image rule at → IsImageFault image other there → (rule ≡ other) × (at ≡ there)

@@ -13,3 +13,4 @@ pub mod Naming
 pub mod Twins
 pub mod Kept
 pub mod BodyTokens
+pub mod Indexes

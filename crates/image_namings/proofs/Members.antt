@@ -1,7 +1,6 @@
 -- The methods, fields and locals that tokens name.
-use Rattle.std.proofs.Common.{◌≡◌, ℕ, ◌/◌, ◌%◌, ◌^◌, ◌<◌, ◌⊎◌, inl, inr, ◌↔◌, Bool, true, false, cond, nat_eq, List, Contains, option_map, Option, Some, None, refl, sym, ◌∙◌, ap, subst, arith}
+use Rattle.std.proofs.Common.{◌≡◌, ℕ, ◌/◌, ◌%◌, ◌^◌, ◌<◌, ◌⊎◌, inl, inr, ◌↔◌, List, Contains, Option, Some, None, refl, sym, ◌∙◌, ap, subst, arith}
 use Rattle.heaps.specs.Content.{HasText}
-use Rattle.metadata_tables.specs.CodedIndex.{table_of}
 use Rattle.metadata_tables.specs.declared.coded.Coded.TheVariants.{MemberRefParent, MethodDefOrRef}
 use Rattle.sig_codec.specs.Reading.{whole_method, whole_field, whole_locals, whole_instantiation}
 use Rattle.sig_codec.specs.Signature.{IsMethod, IsField, AreLocals, IsInstantiation}
@@ -17,8 +16,9 @@ use Rattle.image_model.specs.Rows.{count_of, HasRow, Names, token_of, fields_of}
 use Rattle.image_model.specs.Naming.{here, HasPath, RowOwner, IsToken, OwnsMethod, OwnsMember, NamesMethod, NamesField, NamesLocals}
 use Rattle.image_namings.proofs.General.{InBlob, names_one}
 use Rattle.image_namings.proofs.OnePath.{path_one}
-use Rattle.image_namings.proofs.Decided.{Decided, read, read_one, decided_as, in_blob, OneBlob, same, within, some_is, none_is_not}
+use Rattle.image_namings.proofs.Decided.{Decided, read, read_one, decided_as, in_blob, OneBlob, same, within}
 use Rattle.image_namings.proofs.Standing.{Stands}
+use Rattle.image_namings.proofs.Indexes.{method_tables}
 use Rattle.image_namings.proofs.Owners.{table_is, row_is, as_token, ReadsTypes, OneText, owner_one, owner_decided}
 
 -- what the steps of a decoder read is what bytes spell
@@ -28,27 +28,6 @@ pub record Reads : Type 0 where
   pub field : (owners : ℕ → Option Owner) (bytes : List ℕ) (t : SigType) → (whole_field owners bytes ≡ Some t) ↔ IsField owners bytes t
   pub locals : (owners : ℕ → Option Owner) (bytes : List ℕ) (ts : List SigType) → (whole_locals owners bytes ≡ Some ts) ↔ AreLocals owners bytes ts
   pub instantiation : (owners : ℕ → Option Owner) (bytes : List ℕ) (ts : List SigType) → (whole_instantiation owners bytes ≡ Some ts) ↔ IsInstantiation owners bytes ts
-
--- ---- an index that names a method or a reference to one is of one of these two tables
-
-abbrev pair : ℕ → ℕ → ℕ × ℕ
-pair a b = (a, b)
-
-table_named : (o : Option ℕ) (r table row : ℕ) → option_map (λ (t : ℕ). pair t r) o ≡ Some (pair table row) → o ≡ Some table
-table_named None r table row e = absurd (none_is_not e)
-table_named (Some t) r table row e = ap Some (ap (λ (p : ℕ × ℕ). p.0) (some_is (pair t r) (pair table row) e))
-
-tag_of_method : (b c : Bool) (table : ℕ) → option_map (λ (p : ℕ × ℕ). p.0) (cond b (Some (pair 0x06 0)) (cond c (Some (pair 0x0A 1)) None)) ≡ Some table → (table ≡ 0x06) ⊎ (table ≡ 0x0A)
-tag_of_method true c table e = inl (sym (some_is 0x06 table e))
-tag_of_method false true table e = inr (sym (some_is 0x0A table e))
-tag_of_method false false table e = absurd (none_is_not e)
-
-tables_of_method : (tag table : ℕ) → table_of MethodDefOrRef tag ≡ Some table → (table ≡ 0x06) ⊎ (table ≡ 0x0A)
-unfolding table_of
-tables_of_method tag table e = tag_of_method (nat_eq 0 tag) (nat_eq 1 tag) table e
-
-pub method_tables : (value table row : ℕ) → Names MethodDefOrRef value table row → (table ≡ 0x06) ⊎ (table ≡ 0x0A)
-method_tables value table row n = tables_of_method (value % 2) table (table_named (table_of MethodDefOrRef (value % 2)) (value / 2) table row n)
 
 spelled_one : {X : Type 0} (heap : List ℕ) (Spells : List ℕ → X → Type 0) (index : ℕ) → OneBlob heap → ((bytes : List ℕ) (x y : X) → Spells bytes x → Spells bytes y → x ≡ y) → (x y : X)
     → InBlob heap Spells index x → InBlob heap Spells index y → x ≡ y

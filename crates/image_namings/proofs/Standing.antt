@@ -1,11 +1,10 @@
 -- What the demands before that on signatures say of each row: the texts and blobs that its cells name are there, a type has a
 -- path, a member one type.
-use Rattle.std.proofs.Common.{◌≡◌, ℕ, ◌+◌, ◌<◌, ◌≤◌, ◌⊎◌, inl, inr, true, false, nat_eq, List, [], ◌∷◌, Contains, find, Option, Some, None, refl, sym, ◌∙◌, ap, subst, arith, true≢false}
+use Rattle.std.proofs.Common.{◌≡◌, ℕ, ◌+◌, ◌<◌, ◌≤◌, nat_eq, List, [], ◌∷◌, Contains, find, Option, Some, None, refl, sym, ◌∙◌, ap, subst, arith}
 use Rattle.std.specs.Option.{option_map_or}
 use Rattle.std.proofs.lemmas.Bool.Decides.{nat_tests}
 use Rattle.heaps.specs.Content.{HasText, HasBlob}
 use Rattle.metadata_tables.specs.Schema.{schema}
-use Rattle.metadata_tables.specs.declared.coded.Coded.{Coded}
 use Rattle.metadata_tables.specs.declared.coded.Coded.TheVariants.{MemberRefParent, MethodDefOrRef}
 use Rattle.type_terms.specs.declared.name.Scope.{Scope}
 use Rattle.type_terms.specs.declared.name.TypeId.{TypeId}
@@ -16,6 +15,7 @@ use Rattle.image_model.specs.Rows.{count_of, HasRow, rows_of, enclosing, first_f
 use Rattle.image_model.specs.Cells.{NamesRow}
 use Rattle.image_model.specs.Naming.{HasId, HasPath, HasRefPath}
 use Rattle.image_model.specs.Faults.{indexes, entries, runs, scopes, signatures, HoldBefore}
+use Rattle.image_namings.proofs.Indexes.{named_row}
 use Rattle.image_namings.proofs.Among.{Among, among_range, found, from_among}
 use Rattle.row_demands.proofs.Tiles.{AllRise}
 use Rattle.image_namings.proofs.Runs.{one_run, inside}
@@ -56,10 +56,6 @@ pub record Stands (image : List ℕ) : Type 0 where
   pub member_in : (row : ℕ) → HasRow image 0x0A row → NamesRow image MemberRefParent (member_parent image row)
   pub instance : (row : ℕ) → HasRow image 0x2B row → NamesRow image MethodDefOrRef (instance_method image row)
   pub instance_sig : (row : ℕ) → HasRow image 0x2B row → (bytes : List ℕ) × HasBlob (blobs_of image) (instance_arguments image row) bytes
-
-named_row : (image : List ℕ) (kind : Coded) (value : ℕ) → ((false ≡ true) × (value ≡ 0)) ⊎ NamesRow image kind value → NamesRow image kind value
-named_row image kind value (inl h) = absurd (true≢false (sym h.0))
-named_row image kind value (inr n) = n
 
 module _ (image : List ℕ) (any : NameMap) (holds : HoldBefore image any signatures) where
   id_at : (type : ℕ) → HasRow image 0x02 type → (id : TypeId) × HasId image type id

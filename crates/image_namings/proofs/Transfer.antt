@@ -4,17 +4,11 @@ use Rattle.type_terms.specs.declared.name.TypeName.{TypeName}
 use Rattle.type_terms.specs.declared.term.Owner.{Owner, fold_out-Owner, map-Owner}
 use Rattle.type_terms.specs.declared.term.Owner.TheVariants as owner
 use Rattle.type_terms.specs.declared.term.Owner.TheOpen as layer
-use Rattle.type_terms.specs.declared.term.SigType.{SigType, fold_out-SigType, map-SigType, out-SigType}
+use Rattle.type_terms.specs.declared.term.SigType.{SigType}
 use Rattle.type_terms.specs.Depth.{depth, owner_depth, depth_step, owner_depth_step, largest}
+use Rattle.sig_codec.proofs.Layers.{layer_depth, depth-out}
 use Rattle.sig_codec.specs.Spelling.{Layer, reading, SpellsOwner, SpellsName, SpellsCounted, SpellsShape, SpellsType, SpellsLayer, SpellsEach}
 use Rattle.sig_codec.specs.Spelling as spelling
-
--- the depth of a type and of an owner, by the layer
-abbrev pub layer_depth : Layer → ℕ
-layer_depth l = depth_step (map-SigType Owner SigType ℕ ℕ owner_depth depth l)
-
-pub depth-out : (t : SigType) → depth t ≡ layer_depth (out-SigType t)
-depth-out t = fold_out-SigType ℕ ℕ owner_depth_step depth_step t
 
 abbrev owner_layer_depth : layer.Owner-F Owner SigType → ℕ
 owner_layer_depth l = owner_depth_step (map-Owner Owner SigType ℕ ℕ owner_depth depth l)
