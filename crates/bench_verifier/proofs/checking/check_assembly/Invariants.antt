@@ -1,7 +1,0 @@
-use Rattle.std.proofs.Common.{[]}
-use Rattle.type_hierarchy.specs.Scopes.{sources}
-use Rattle.bench_verifier.proofs.checking.check_assembly.Given as goal
-
--- the image has no references
-abbrev pub ghost-check_all : goal.ghost-check_all
-ghost-check_all a = sources a.a.now []
