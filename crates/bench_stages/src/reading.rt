@@ -12,7 +12,7 @@ use il_lexer::spans;
 use il_lexer::types::Spans;
 use ilasm_grammar::{Tree, one_derivation, parse_spans};
 use source_model::derivations_are_forests;
-use source_syntax::reader::Reader;
+use source_nodes::reader::Reader;
 use std::alloc::Global;
 
 /// How far a source is read.

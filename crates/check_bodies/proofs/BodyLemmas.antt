@@ -11,7 +11,7 @@ use Rattle.source_model.specs.Forest as tree
 use Rattle.source_model.specs.Forest.{Forest, each, is_among, parts, preorder}
 use Rattle.source_model.specs.Source.{Source}
 use Rattle.source_model.specs.Variables.{locals}
-use Rattle.source_syntax.specs.Least.{least, sooner}
+use Rattle.source_nodes.specs.Least.{least, sooner}
 use Rattle.check_bodies.specs.AllOfBodies.{backwards_in, broken_in, broken_in_bodies, ends_in, far_in, twice_in, undeclared_in, variables_in}
 use Rattle.check_bodies.specs.ClauseCounts.{clauses_in}
 use Rattle.check_bodies.specs.PlainBodies.{is_other, is_plain, lines}

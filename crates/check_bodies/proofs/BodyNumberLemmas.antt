@@ -2,7 +2,7 @@
 use Rattle.std.proofs.Common.{◌≡◌, ℕ, zero, suc, List, [], ◌∷◌, ◌++◌, ap, sym, ◌∙◌, slice_get}
 use Rattle.std.specs.Prelude.{Option, Some}
 use Rattle.source_model.specs.Forest.{Part, below_each}
-use Rattle.source_syntax.specs.Least.{least, sooner}
+use Rattle.source_nodes.specs.Least.{least, sooner}
 use Rattle.source_syntax.proofs.LeastLemmas.{least_append, sooner_assoc}
 
 three_more : (x c d e : Option ℕ) → sooner (sooner (sooner x c) d) e ≡ sooner x (sooner c (sooner d e))

@@ -8,7 +8,7 @@ use Rattle.source_model.specs.Clauses.{Guarded, clause_forms, guarded_in}
 use Rattle.source_model.specs.Forest as tree
 use Rattle.source_model.specs.Forest.{Forest, first_token, is_among, joined, part}
 use Rattle.source_model.specs.TypeRules.{first_of, past_count}
-use Rattle.source_syntax.specs.Least.{least}
+use Rattle.source_nodes.specs.Least.{least}
 use Rattle.check_bodies.specs.ClauseCounts.{clauses_in, clauses_left}
 
 -- ---- the clauses of the model

@@ -13,8 +13,8 @@ use Rattle.source_model.specs.Forest as tree
 use Rattle.source_model.specs.Forest.{Forest, Part, part, parts, parts_outside, preorder, is_among}
 use Rattle.source_model.specs.Instructions.{instruction_forms, targets}
 use Rattle.source_model.specs.Source.{Source}
-use Rattle.source_syntax.specs.Derived.{HasBodies}
-use Rattle.source_syntax.specs.Pieces.{written}
+use Rattle.source_nodes.specs.Derived.{HasBodies}
+use Rattle.source_nodes.specs.Pieces.{written}
 use Rattle.source_flags.proofs.Apart.{all_outside, are_apart, stays}
 use Rattle.check_bodies.specs.CodeLines.{IsPlain, others}
 use Rattle.check_bodies.specs.PlainBodies.{is_other, is_plain, lines}

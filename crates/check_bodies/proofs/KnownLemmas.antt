@@ -14,8 +14,8 @@ use Rattle.source_model.specs.Source.{Source}
 use Rattle.source_model.specs.Values.{name_text}
 use Rattle.source_syntax.specs.Repeats.{is_repeat}
 use Rattle.source_syntax.specs.declared.label_numbers.Labels.{Labels}
-use Rattle.source_syntax.proofs.PieceLemmas.{flat_next, take_next}
-use Rattle.source_syntax.proofs.WrittenNames.{both_true}
+use Rattle.source_nodes.proofs.PieceLemmas.{flat_next, take_next}
+use Rattle.source_nodes.proofs.WrittenNames.{both_true}
 use Rattle.check_bodies.specs.KnownNames.{is_label_of, is_past, slot_of}
 
 -- ---- parts of lists

@@ -19,12 +19,12 @@ use Rattle.source_model.specs.Forest.{Forest, none, leaf, branch, is_among, join
 use Rattle.source_model.specs.Laws.{ForestOpens, ForestsJoin, OneForest}
 use Rattle.source_model.specs.Nodes.{Node, nodes_in, nodes_of, nothing_around}
 use Rattle.source_model.specs.Source.{Source}
-use Rattle.source_syntax.specs.Derived.{Fits, FitsBody, FitsRule, HasBodies}
-use Rattle.source_syntax.specs.Least.{least, sooner}
+use Rattle.source_nodes.specs.Derived.{Fits, FitsBody, FitsRule, HasBodies}
+use Rattle.source_nodes.specs.Least.{least, sooner}
 use Rattle.source_syntax.specs.Methods.{all_below, IsMethod}
-use Rattle.source_syntax.specs.Readers.{Reads}
-use Rattle.source_syntax.specs.Walk.{IsForest}
-use Rattle.source_syntax.specs.declared.reader.Reader.{Reader}
+use Rattle.source_nodes.specs.Readers.{Reads}
+use Rattle.source_nodes.specs.Walk.{IsForest}
+use Rattle.source_nodes.specs.declared.reader.Reader.{Reader}
 use Rattle.source_syntax.proofs.LeastLemmas.{least_append, sooner_assoc}
 use Rattle.source_syntax.proofs.MethodLemmas.{below_joined, chosen_derived, nodes_below_are, nodes_derived, nothing_more}
 use Rattle.source_flags.proofs.Apart.{all_in, stays}

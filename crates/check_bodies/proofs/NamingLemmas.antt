@@ -12,9 +12,9 @@ use Rattle.source_model.specs.BodyFaults.{label_names, label_names_in}
 use Rattle.source_model.specs.Forest as tree
 use Rattle.source_model.specs.Forest.{Forest, Part, part, each, is_among, leaf_at, parts, preorder}
 use Rattle.source_model.specs.Instructions.{instruction_forms, instructions_of, names_in, targets}
-use Rattle.source_syntax.specs.Pieces.{ArePieces, piece_of, productions_of, written}
-use Rattle.source_syntax.specs.declared.pieces.Piece.{Piece}
-use Rattle.source_syntax.specs.declared.pieces.Sought.TheVariants.{LabelNames}
+use Rattle.source_nodes.specs.Pieces.{ArePieces, piece_of, productions_of, written}
+use Rattle.source_nodes.specs.declared.pieces.Piece.{Piece}
+use Rattle.source_nodes.specs.declared.pieces.Sought.TheVariants.{LabelNames}
 use Rattle.check_bodies.specs.NamingNodes.{is_naming}
 
 abbrev pub naming : List ℕ

@@ -11,7 +11,7 @@ use Rattle.source_model.specs.Forest.{Forest, Part}
 use Rattle.source_model.specs.Instructions.{instructions_of, instructions_with}
 use Rattle.source_model.specs.Source.{Source}
 use Rattle.source_model.specs.TypeRules.{is_within}
-use Rattle.source_syntax.specs.Least.{least, sooner}
+use Rattle.source_nodes.specs.Least.{least, sooner}
 use Rattle.source_syntax.proofs.LeastLemmas.{least_of_both}
 use Rattle.check_bodies.specs.OperandRanges.{number_at_fault, operand_at_fault, real_at_fault, real_size, variable_at_fault}
 use Rattle.check_bodies.proofs.CodeLemmas.{of_one_form}

@@ -11,7 +11,7 @@ use Rattle.source_flags.proofs.Apart.{all_outside, are_apart, stays}
 use Rattle.source_model.specs.Forest.{Forest, is_among, parts, parts_outside}
 use Rattle.source_model.specs.Instructions.{instruction_forms}
 use Rattle.source_model.specs.Source.{Source}
-use Rattle.source_syntax.specs.Derived.{HasBodies}
+use Rattle.source_nodes.specs.Derived.{HasBodies}
 use Rattle.check_bodies.specs.CodeLines.{head_forms, others}
 
 -- what the walk goes past: the head of a method, types, instructions and the names of labels

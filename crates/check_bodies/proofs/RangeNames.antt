@@ -14,9 +14,9 @@ use Rattle.source_model.specs.Forest.{Forest, none, leaf, branch, child, first_t
 use Rattle.source_model.specs.Nodes.{Node}
 use Rattle.source_model.specs.Source.{Source}
 use Rattle.source_model.specs.Types.{the_owner}
-use Rattle.source_syntax.specs.Derived.{FitsBody, HasBodies}
-use Rattle.source_syntax.specs.Least.{least}
-use Rattle.source_syntax.specs.Readers.{IsOf}
+use Rattle.source_nodes.specs.Derived.{FitsBody, HasBodies}
+use Rattle.source_nodes.specs.Least.{least}
+use Rattle.source_nodes.specs.Readers.{IsOf}
 use Rattle.source_syntax.proofs.NameTokens.{name_at, terminals_of_rule}
 use Rattle.check_bodies.specs.Ranges.{backwards_at, filter_of, is_forward_in, range_of, starts_before}
 use Rattle.check_bodies.specs.declared.clause_ranges.CodeRange.{CodeRange}

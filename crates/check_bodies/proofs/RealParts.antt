@@ -16,11 +16,11 @@ use Rattle.ilasm_grammar.specs.declared.symbol.Symbol.TheVariants.{Terminal, Non
 use Rattle.ilasm_grammar.specs.declared.terminals.TheConstants as t
 use Rattle.source_model.specs.Forest.{Forest, none, leaf, branch, below_each, first_or, has, is_any_part, leaf_at, part, parts, the}
 use Rattle.source_model.specs.Source.{Source}
-use Rattle.source_syntax.specs.Derived.{Fits, FitsBody, FitsRule, HasBodies, head_of, terminal_at}
-use Rattle.source_syntax.specs.Readers.{IsOf}
+use Rattle.source_nodes.specs.Derived.{Fits, FitsBody, FitsRule, HasBodies, head_of, terminal_at}
+use Rattle.source_nodes.specs.Readers.{IsOf}
 use Rattle.source_syntax.proofs.BodyLemmas.{StaysChosen, all_in, closed_rule, fits_leaf}
 use Rattle.source_syntax.proofs.VariableLemmas.{within_in}
-use Rattle.source_syntax.proofs.WrittenNames.{fits_rule, word_is_more}
+use Rattle.source_nodes.proofs.WrittenNames.{fits_rule, word_is_more}
 use Rattle.check_bodies.proofs.VariableParts.{Operated, different, nothing_in, operated}
 
 -- ---- bodies of tokens alone

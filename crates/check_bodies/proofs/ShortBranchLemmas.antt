@@ -20,9 +20,9 @@ use Rattle.source_model.specs.Instructions.{instructions_of, is_label, label_nam
 use Rattle.source_model.specs.Nodes.{Node}
 use Rattle.source_model.specs.Operands.{instruction, operand_of}
 use Rattle.source_model.specs.Source.{Source}
-use Rattle.source_syntax.specs.Derived.{FitsBody, HasBodies}
+use Rattle.source_nodes.specs.Derived.{FitsBody, HasBodies}
 use Rattle.source_syntax.specs.Methods.{AreNames}
-use Rattle.source_syntax.specs.Readers.{IsOf}
+use Rattle.source_nodes.specs.Readers.{IsOf}
 use Rattle.source_syntax.proofs.LabelTokens.{targets_are_names}
 use Rattle.check_bodies.specs.Sizes.{AreOffsets, far_from, far_target, is_short, short_target}
 use Rattle.check_bodies.proofs.SizeLemmas.{offset_read, shown}

@@ -18,10 +18,10 @@ use Rattle.source_model.specs.Instructions.{instructions_of, op_of, targets}
 use Rattle.source_model.specs.Nodes.{Around, Node}
 use Rattle.source_model.specs.Operands.{instruction, operand_of}
 use Rattle.source_model.specs.Source.{Source}
-use Rattle.source_syntax.specs.Pieces.{ArePieces, piece_of, written}
-use Rattle.source_syntax.specs.declared.pieces.Piece.{Piece}
-use Rattle.source_syntax.proofs.PieceLemmas.{as_many}
-use Rattle.source_syntax.proofs.WrittenNames.{both_true}
+use Rattle.source_nodes.specs.Pieces.{ArePieces, piece_of, written}
+use Rattle.source_nodes.specs.declared.pieces.Piece.{Piece}
+use Rattle.source_nodes.proofs.PieceLemmas.{as_many}
+use Rattle.source_nodes.proofs.WrittenNames.{both_true}
 use Rattle.check_bodies.specs.AllOfBodies.{far_in}
 use Rattle.check_bodies.specs.ShortCode.{is_bounded, is_short_code}
 use Rattle.check_bodies.specs.Sizes.{size_by, targets_bytes}

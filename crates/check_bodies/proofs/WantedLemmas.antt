@@ -8,8 +8,8 @@ use Rattle.ilasm_grammar.specs.declared.productions.TheConstants.{INSTRUCTION_OP
 use Rattle.source_model.specs.BodyNumbers.{number_out_of_range, real_out_of_range, variable_out_of_range}
 use Rattle.source_model.specs.Forest.{Forest, Part}
 use Rattle.source_model.specs.Source.{Source}
-use Rattle.source_syntax.specs.Pieces.{ArePieces, piece_of, written}
-use Rattle.source_syntax.specs.declared.pieces.Piece.{Piece}
+use Rattle.source_nodes.specs.Pieces.{ArePieces, piece_of, written}
+use Rattle.source_nodes.specs.declared.pieces.Piece.{Piece}
 use Rattle.check_bodies.specs.OperandRanges.{is_ranged, operand_at_fault, real_at_fault, variable_at_fault}
 
 any_mapped : {X Y : Type 0} (t : Y → Bool) (g : X → Y) (xs : List X) → list_any t (map g xs) ≡ list_any (λ x. t (g x)) xs

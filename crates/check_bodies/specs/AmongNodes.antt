@@ -6,7 +6,7 @@ use Rattle.source_model.specs.Forest.{Forest, tokens_of}
 use Rattle.source_model.specs.Nodes.{Node}
 use Rattle.source_model.specs.Source.{Source}
 use Rattle.source_model.specs.TokenOrder.{numbers_from}
-use Rattle.source_syntax.specs.Derived.{HasBodies}
+use Rattle.source_nodes.specs.Derived.{HasBodies}
 use Rattle.source_syntax.specs.Methods.{all_below, IsMethod}
 
 -- a part of the source's derivation: below each production stands its body, and the tokens follow one another

@@ -22,7 +22,7 @@ use Rattle.ilasm_grammar.specs.declared.tree.TreeNode.{TreeNode}
 use Rattle.source_model.specs.BodyFaults.{label_names}
 use Rattle.source_model.specs.Forest.{Forest, is_among}
 use Rattle.source_model.specs.Instructions.{instruction_forms, instructions_of, labels, targets}
-use Rattle.source_syntax.specs.Pieces.{ArePieces}
+use Rattle.source_nodes.specs.Pieces.{ArePieces}
 use Rattle.check_bodies.specs.PlainBodies.{is_plain}
 use Rattle.check_bodies.specs.declared.code_lines.Lines.{Lines}
 

@@ -5,7 +5,7 @@ use Rattle.source_model.specs.Forest.{Part, preorder}
 use Rattle.source_model.specs.Instructions.{instructions_of}
 use Rattle.source_model.specs.Nodes.{Node}
 use Rattle.source_model.specs.Source.{Source}
-use Rattle.source_syntax.specs.Derived.{FitsBody, HasBodies}
+use Rattle.source_nodes.specs.Derived.{FitsBody, HasBodies}
 
 -- the instruction of a method with this number, by its production and the nodes below that
 pub record IsInstruction (s : Source) (n : Node) (number production : ℕ) (below : List TreeNode) (p : Part) : Type 0 where

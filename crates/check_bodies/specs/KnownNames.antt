@@ -5,7 +5,7 @@ use Rattle.source_model.specs.Forest.{Part}
 use Rattle.source_model.specs.Instructions.{mnemonic_token}
 use Rattle.source_model.specs.Source.{Source}
 use Rattle.source_model.specs.Values.{name_text}
-use Rattle.source_syntax.specs.TextHash.{text_hash}
+use Rattle.source_nodes.specs.TextHash.{text_hash}
 
 -- all of these instructions begin before a token
 abbrev pub is_past : List Part → ℕ → Bool

@@ -4,7 +4,7 @@ use Rattle.std.specs.List.{flat_map}
 use Rattle.source_model.specs.Instructions.{instructions_of}
 use Rattle.source_model.specs.Nodes.{Node}
 use Rattle.source_model.specs.Source.{Source}
-use Rattle.source_syntax.specs.Least.{least}
+use Rattle.source_nodes.specs.Least.{least}
 use Rattle.check_bodies.specs.AllOfBodies.{ends_in, far_in, twice_in, undeclared_in, variables_in}
 use Rattle.check_bodies.specs.OperandRanges.{operand_at_fault}
 use Rattle.check_bodies.specs.declared.bodies.OperandFaults.{OperandFaults}

@@ -2,7 +2,7 @@
 use Rattle.std.specs.Prelude.{ℕ, Bool, ◌==◌, ◌&&◌, not, nat_le, List, length}
 use Rattle.std.specs.List.{list_all}
 use Rattle.ilasm_grammar.specs.declared.productions.TheConstants.{INSTRUCTION_SWITCH}
-use Rattle.source_syntax.specs.declared.pieces.Piece.{Piece}
+use Rattle.source_nodes.specs.declared.pieces.Piece.{Piece}
 
 abbrev pub is_bounded : ℕ → Bool
 is_bounded p = not (p == INSTRUCTION_SWITCH)

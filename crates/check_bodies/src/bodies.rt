@@ -10,11 +10,11 @@ ghost use Rattle.source_model.specs.Instructions.{instructions_of, labels, targe
 ghost use Rattle.source_model.specs.Nodes.{Node, nothing_around};
 ghost use Rattle.source_model.specs.Source.{Source};
 ghost use Rattle.source_syntax.specs.Labels.{AreLabels};
-ghost use Rattle.source_syntax.specs.Least.{least};
+ghost use Rattle.source_nodes.specs.Least.{least};
 ghost use Rattle.source_syntax.specs.Methods.{IsMethod};
-ghost use Rattle.source_syntax.specs.Pieces.{ArePieces, AreParts};
-ghost use Rattle.source_syntax.specs.Readers.{Reads};
-ghost use Rattle.source_syntax.specs.Walk.{IsForest};
+ghost use Rattle.source_nodes.specs.Pieces.{ArePieces, AreParts};
+ghost use Rattle.source_nodes.specs.Readers.{Reads};
+ghost use Rattle.source_nodes.specs.Walk.{IsForest};
 ghost use Rattle.check_visitor.specs.Surroundings.{found_in};
 ghost use Rattle.check_bodies.specs.AllOfBodies.{backwards_in, body_broken, broken_in, ends_in, far_in, variables_in};
 ghost use Rattle.check_bodies.specs.AmongNodes.{StandsIn};
@@ -45,11 +45,11 @@ use check_visitor::counts::local_past_most;
 use check_visitor::ranges::{Limit, beyond_in_each};
 use il_base::NoMemory;
 use ilasm_grammar::{TreeNode, productions};
+use source_nodes::least::sooner;
+use source_nodes::pieces::Piece;
+use source_nodes::reader::Reader;
 use source_syntax::label_numbers::Labels;
-use source_syntax::least::sooner;
 use source_syntax::methods::MethodRule;
-use source_syntax::pieces::Piece;
-use source_syntax::reader::Reader;
 use std::alloc::Global;
 
 /// The least token at which the body of a method among these nodes of a source breaks any of the rules.

@@ -8,11 +8,11 @@ ghost use Rattle.source_model.specs.Instructions.{instructions_of};
 ghost use Rattle.source_model.specs.Nodes.{Node};
 ghost use Rattle.source_model.specs.Source.{Source};
 ghost use Rattle.source_model.specs.Variables.{locals};
-ghost use Rattle.source_syntax.specs.Least.{least};
+ghost use Rattle.source_nodes.specs.Least.{least};
 ghost use Rattle.source_syntax.specs.Methods.{IsMethod};
-ghost use Rattle.source_syntax.specs.Pieces.{ArePieces, AreParts};
-ghost use Rattle.source_syntax.specs.Readers.{Reads};
-ghost use Rattle.source_syntax.specs.Walk.{IsForest};
+ghost use Rattle.source_nodes.specs.Pieces.{ArePieces, AreParts};
+ghost use Rattle.source_nodes.specs.Readers.{Reads};
+ghost use Rattle.source_nodes.specs.Walk.{IsForest};
 ghost use Rattle.check_bodies.specs.OperandRanges.{operand_at_fault};
 
 use crate::clause_counts::clause_past_most;
@@ -23,11 +23,11 @@ use check_visitor::counts::local_past_most;
 use check_visitor::ranges::{Limit, beyond_in_each};
 use il_base::NoMemory;
 use ilasm_grammar::{TreeNode, productions};
-use source_syntax::least::sooner;
+use source_nodes::least::sooner;
+use source_nodes::pieces::{Piece, Sought, nodes_of, pieces_of};
+use source_nodes::reader::Reader;
+use source_nodes::walk::child;
 use source_syntax::methods::{MethodRule, first_in_methods};
-use source_syntax::pieces::{Piece, Sought, nodes_of, pieces_of};
-use source_syntax::reader::Reader;
-use source_syntax::walk::child;
 use std::alloc::Global;
 
 /// The least token of a number or a count in a method's body that is out of its range.

@@ -7,20 +7,20 @@ ghost use Rattle.source_model.specs.Forest.{Forest, Part};
 ghost use Rattle.source_model.specs.Instructions.{instructions_of, targets};
 ghost use Rattle.source_model.specs.Source.{Source};
 ghost use Rattle.source_syntax.specs.Labels.{ends_at, number_declared, AreLabels};
-ghost use Rattle.source_syntax.specs.Least.{least};
+ghost use Rattle.source_nodes.specs.Least.{least};
 ghost use Rattle.source_syntax.specs.Methods.{AreNames};
-ghost use Rattle.source_syntax.specs.Pieces.{ArePieces, AreParts};
-ghost use Rattle.source_syntax.specs.Readers.{Reads};
-ghost use Rattle.source_syntax.specs.Walk.{IsForest};
+ghost use Rattle.source_nodes.specs.Pieces.{ArePieces, AreParts};
+ghost use Rattle.source_nodes.specs.Readers.{Reads};
+ghost use Rattle.source_nodes.specs.Walk.{IsForest};
 
 use il_base::{Items, NoMemory};
 use ilasm_grammar::{TreeNode, productions};
+use source_nodes::least::sooner;
+use source_nodes::pieces::{Piece, Sought, nodes_of, pieces_of};
+use source_nodes::reader::Reader;
 use source_syntax::label_numbers::Labels;
 use source_syntax::labels::push_targets;
-use source_syntax::least::sooner;
 use source_syntax::methods::{MethodRule, first_in_methods};
-use source_syntax::pieces::{Piece, Sought, nodes_of, pieces_of};
-use source_syntax::reader::Reader;
 use std::alloc::Global;
 
 /// The least label behind a branch that no instruction follows.

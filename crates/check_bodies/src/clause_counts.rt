@@ -3,14 +3,14 @@
 ghost use Rattle.std.specs.Prelude.{◌≡◌};
 ghost use Rattle.source_model.specs.Forest.{Forest, preorder};
 ghost use Rattle.source_model.specs.TypeRules.{past_count};
-ghost use Rattle.source_syntax.specs.Least.{least};
-ghost use Rattle.source_syntax.specs.Walk.{IsForest};
+ghost use Rattle.source_nodes.specs.Least.{least};
+ghost use Rattle.source_nodes.specs.Walk.{IsForest};
 ghost use Rattle.check_bodies.specs.ClauseCounts.{clauses_in, clauses_left};
 
 use crate::clause_rules::is_clause;
 use ilasm_grammar::TreeNode;
 use source_model::{derivations_are_forests, forests_join, forests_open};
-use source_syntax::walk::{first_token, next};
+use source_nodes::walk::{first_token, next};
 
 // How many clauses a method may have.
 const MOST: usize = 65_535;

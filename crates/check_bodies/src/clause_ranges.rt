@@ -5,9 +5,9 @@ ghost use Rattle.il_lexer.specs.declared.types.TokenKind.TheVariants.{Name};
 ghost use Rattle.source_model.specs.Clauses.{block_in, filter_start, handler_range, label_range, scope_range, stands, try_range};
 ghost use Rattle.source_model.specs.Forest.{Forest, preorder};
 ghost use Rattle.source_model.specs.Source.{Source};
-ghost use Rattle.source_syntax.specs.Derived.{HasBodies};
-ghost use Rattle.source_syntax.specs.Readers.{IsOf, Reads};
-ghost use Rattle.source_syntax.specs.Walk.{IsForest};
+ghost use Rattle.source_nodes.specs.Derived.{HasBodies};
+ghost use Rattle.source_nodes.specs.Readers.{IsOf, Reads};
+ghost use Rattle.source_nodes.specs.Walk.{IsForest};
 ghost use Rattle.check_bodies.specs.CodePlaces.{ArePlaces};
 ghost use Rattle.check_bodies.specs.Ranges.{range_of};
 
@@ -15,8 +15,8 @@ use crate::code_places::CodePlaces;
 use il_base::NoMemory;
 use ilasm_grammar::{TreeNode, productions};
 use source_model::{derivations_are_forests, forests_open};
-use source_syntax::reader::Reader;
-use source_syntax::walk::{child, leaf_at, next};
+use source_nodes::reader::Reader;
+use source_nodes::walk::{child, leaf_at, next};
 use std::alloc::Global;
 
 /// Instructions by their numbers, from the first up to the one behind the last.

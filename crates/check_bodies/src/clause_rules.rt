@@ -7,10 +7,10 @@ ghost use Rattle.source_model.specs.Clauses.{clause_forms, guarded, guarded_in};
 ghost use Rattle.source_model.specs.Forest.{Forest, is_among, preorder};
 ghost use Rattle.source_model.specs.Nodes.{Node};
 ghost use Rattle.source_model.specs.Source.{Source};
-ghost use Rattle.source_syntax.specs.Derived.{HasBodies};
-ghost use Rattle.source_syntax.specs.Least.{least};
-ghost use Rattle.source_syntax.specs.Readers.{Reads};
-ghost use Rattle.source_syntax.specs.Walk.{IsForest};
+ghost use Rattle.source_nodes.specs.Derived.{HasBodies};
+ghost use Rattle.source_nodes.specs.Least.{least};
+ghost use Rattle.source_nodes.specs.Readers.{Reads};
+ghost use Rattle.source_nodes.specs.Walk.{IsForest};
 ghost use Rattle.check_bodies.specs.CodePlaces.{ArePlaces};
 ghost use Rattle.check_bodies.specs.Ranges.{backwards_at, filter_of, is_forward_in, starts_before};
 
@@ -20,10 +20,10 @@ use check_visitor::ranges::unless;
 use il_base::NoMemory;
 use ilasm_grammar::{TreeNode, productions};
 use source_model::{derivations_are_forests, forests_join, forests_open};
-use source_syntax::least::sooner;
+use source_nodes::least::sooner;
+use source_nodes::reader::Reader;
+use source_nodes::walk::{first_token, next};
 use source_syntax::methods::{MethodRule, first_in_methods};
-use source_syntax::reader::Reader;
-use source_syntax::walk::{first_token, next};
 use std::alloc::Global;
 
 /// The least first token of a clause of which a range is empty or backwards, or whose filter doesn't start before its handler.

@@ -7,15 +7,15 @@ ghost use Rattle.source_model.specs.Nodes.{Node};
 ghost use Rattle.source_model.specs.Source.{Source};
 ghost use Rattle.source_syntax.specs.Labels.{AreLabels, count_below};
 ghost use Rattle.source_syntax.specs.Methods.{IsMethod};
-ghost use Rattle.source_syntax.specs.Pieces.{ArePieces, AreParts};
-ghost use Rattle.source_syntax.specs.Readers.{Reads};
+ghost use Rattle.source_nodes.specs.Pieces.{ArePieces, AreParts};
+ghost use Rattle.source_nodes.specs.Readers.{Reads};
 
 use il_base::{Items, NoMemory};
 use ilasm_grammar::TreeNode;
+use source_nodes::pieces::{Piece, first_tokens};
+use source_nodes::reader::Reader;
 use source_syntax::label_numbers::Labels;
 use source_syntax::labels::names_at;
-use source_syntax::pieces::{Piece, first_tokens};
-use source_syntax::reader::Reader;
 use std::alloc::Global;
 
 /// The labels of a method, from the tokens of their names and its instructions.

@@ -4,16 +4,16 @@
 ghost use Rattle.std.specs.Prelude.{◌≡◌, ◌∷◌, ◌++◌, [], IfOk, OnOk};
 ghost use Rattle.source_model.specs.Forest.{Forest, preorder};
 ghost use Rattle.source_model.specs.Source.{Source};
-ghost use Rattle.source_syntax.specs.Derived.{HasBodies};
-ghost use Rattle.source_syntax.specs.Pieces.{AreParts};
-ghost use Rattle.source_syntax.specs.Walk.{IsForest};
+ghost use Rattle.source_nodes.specs.Derived.{HasBodies};
+ghost use Rattle.source_nodes.specs.Pieces.{AreParts};
+ghost use Rattle.source_nodes.specs.Walk.{IsForest};
 ghost use Rattle.check_bodies.specs.CodeLines.{AreLines, kind_of};
 
 use il_base::{Items, NoMemory};
 use ilasm_grammar::TreeNode;
 use source_model::{derivations_are_forests, forests_join, forests_open};
-use source_syntax::pieces::{Piece, nodes_of};
-use source_syntax::walk::leaf_at;
+use source_nodes::pieces::{Piece, nodes_of};
+use source_nodes::walk::leaf_at;
 use std::alloc::Global;
 
 /// The productions of the instructions of a method, and the tokens of the names of its labels, each in order.

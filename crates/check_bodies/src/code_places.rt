@@ -9,15 +9,15 @@ ghost use Rattle.source_model.specs.Nodes.{Node};
 ghost use Rattle.source_model.specs.Source.{Source};
 ghost use Rattle.source_syntax.specs.Labels.{count_below};
 ghost use Rattle.source_syntax.specs.Methods.{IsMethod};
-ghost use Rattle.source_syntax.specs.Readers.{IsOf, Reads};
-ghost use Rattle.source_syntax.specs.Walk.{IsForest};
+ghost use Rattle.source_nodes.specs.Readers.{IsOf, Reads};
+ghost use Rattle.source_nodes.specs.Walk.{IsForest};
 ghost use Rattle.check_bodies.specs.CodePlaces.{ArePlaces};
 
 use il_base::{Items, NoMemory};
 use ilasm_grammar::TreeNode;
+use source_nodes::pieces::{Sought, first_tokens, pieces_of};
+use source_nodes::reader::Reader;
 use source_syntax::label_numbers::Labels;
-use source_syntax::pieces::{Sought, first_tokens, pieces_of};
-use source_syntax::reader::Reader;
 use std::alloc::Global;
 
 /// The places of a method's code: the tokens at which its instructions begin, and its labels.

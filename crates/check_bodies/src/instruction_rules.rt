@@ -5,16 +5,16 @@ ghost use Rattle.std.specs.List.{enumerate_from, flat_map};
 ghost use Rattle.source_model.specs.Instructions.{instructions_of};
 ghost use Rattle.source_model.specs.Nodes.{Node};
 ghost use Rattle.source_model.specs.Source.{Source};
-ghost use Rattle.source_syntax.specs.Derived.{HasBodies};
-ghost use Rattle.source_syntax.specs.Least.{least};
-ghost use Rattle.source_syntax.specs.Pieces.{ArePieces, AreParts};
-ghost use Rattle.source_syntax.specs.Readers.{Reads};
+ghost use Rattle.source_nodes.specs.Derived.{HasBodies};
+ghost use Rattle.source_nodes.specs.Least.{least};
+ghost use Rattle.source_nodes.specs.Pieces.{ArePieces, AreParts};
+ghost use Rattle.source_nodes.specs.Readers.{Reads};
 
 use il_base::NoMemory;
 use ilasm_grammar::TreeNode;
-use source_syntax::least::sooner;
-use source_syntax::pieces::{Piece, nodes_of};
-use source_syntax::reader::Reader;
+use source_nodes::least::sooner;
+use source_nodes::pieces::{Piece, nodes_of};
+use source_nodes::reader::Reader;
 use std::alloc::Global;
 
 /// A rule that each instruction of a method meets or breaks by itself.
@@ -23,9 +23,9 @@ pub trait InstructionRule {
     ghost use Rattle.source_model.specs.Forest.{Part};
     ghost use Rattle.source_model.specs.Nodes.{Node};
     ghost use Rattle.source_model.specs.Source.{Source};
-    ghost use Rattle.source_syntax.specs.Least.{least};
-    ghost use Rattle.source_syntax.specs.Readers.{Reads};
-    ghost use Rattle.source_syntax.specs.Walk.{IsForest};
+    ghost use Rattle.source_nodes.specs.Least.{least};
+    ghost use Rattle.source_nodes.specs.Readers.{Reads};
+    ghost use Rattle.source_nodes.specs.Walk.{IsForest};
     ghost use Rattle.check_bodies.specs.CodeParts.{IsInstruction};
 
     /// The tokens at which an instruction of a method breaks it, which is given with its number.

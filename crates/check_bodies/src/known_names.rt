@@ -10,19 +10,19 @@ ghost use Rattle.source_model.specs.Forest.{Part, preorder};
 ghost use Rattle.source_model.specs.Instructions.{targets};
 ghost use Rattle.source_model.specs.Source.{Source};
 ghost use Rattle.source_model.specs.Values.{name_text};
-ghost use Rattle.source_syntax.specs.Least.{least};
+ghost use Rattle.source_nodes.specs.Least.{least};
 ghost use Rattle.source_syntax.specs.Methods.{AreNames};
-ghost use Rattle.source_syntax.specs.Pieces.{ArePieces, AreParts};
-ghost use Rattle.source_syntax.specs.Readers.{IsOf, Reads};
-ghost use Rattle.source_syntax.specs.Walk.{IsForest};
+ghost use Rattle.source_nodes.specs.Pieces.{ArePieces, AreParts};
+ghost use Rattle.source_nodes.specs.Readers.{IsOf, Reads};
+ghost use Rattle.source_nodes.specs.Walk.{IsForest};
 ghost use Rattle.check_bodies.specs.KnownNames.{is_label_of, is_past, slot_of};
 
 use ilasm_grammar::{TreeNode, productions};
-use source_syntax::equality::are_equal;
-use source_syntax::hashes::text_hash;
-use source_syntax::pieces::{Piece, nodes_of};
-use source_syntax::reader::Reader;
-use source_syntax::walk::{first_token, leaf_at};
+use source_nodes::equality::are_equal;
+use source_nodes::hashes::text_hash;
+use source_nodes::pieces::{Piece, nodes_of};
+use source_nodes::reader::Reader;
+use source_nodes::walk::{first_token, leaf_at};
 
 // How many labels are found so. Eight names have slots of their own in about two of three methods; of more some mostly share one.
 const FEW: usize = 8;

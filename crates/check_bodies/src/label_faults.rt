@@ -10,25 +10,25 @@ ghost use Rattle.source_model.specs.Instructions.{instructions_of, targets};
 ghost use Rattle.source_model.specs.Nodes.{Node};
 ghost use Rattle.source_model.specs.Source.{Source};
 ghost use Rattle.source_syntax.specs.Labels.{AreLabels};
-ghost use Rattle.source_syntax.specs.Least.{least};
+ghost use Rattle.source_nodes.specs.Least.{least};
 ghost use Rattle.source_syntax.specs.Methods.{IsMethod};
-ghost use Rattle.source_syntax.specs.Pieces.{ArePieces, AreParts, productions_of};
-ghost use Rattle.source_syntax.specs.Readers.{Reads};
-ghost use Rattle.source_syntax.specs.Walk.{IsForest};
-ghost use Rattle.source_syntax.specs.declared.pieces.Sought.TheVariants.{LabelNames};
+ghost use Rattle.source_nodes.specs.Pieces.{ArePieces, AreParts, productions_of};
+ghost use Rattle.source_nodes.specs.Readers.{Reads};
+ghost use Rattle.source_nodes.specs.Walk.{IsForest};
+ghost use Rattle.source_nodes.specs.declared.pieces.Sought.TheVariants.{LabelNames};
 ghost use Rattle.check_bodies.specs.AllOfBodies.{twice_in, undeclared_in};
 ghost use Rattle.check_bodies.specs.NamingNodes.{is_naming};
 
 use crate::label_rules::first_missing;
 use il_base::NoMemory;
 use ilasm_grammar::{TreeNode, productions};
+use source_nodes::least::sooner;
+use source_nodes::pieces::Piece;
+use source_nodes::reader::Reader;
 use source_syntax::declared::Declared;
 use source_syntax::label_numbers::Labels;
 use source_syntax::labels::{label_names, label_tokens};
-use source_syntax::least::sooner;
 use source_syntax::name_lists::again;
-use source_syntax::pieces::Piece;
-use source_syntax::reader::Reader;
 use std::alloc::Global;
 
 /// The least label of a method that has the name of an earlier one, or name that no label of it has. These are the names that its

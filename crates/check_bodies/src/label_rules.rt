@@ -7,18 +7,18 @@ ghost use Rattle.source_model.specs.Instructions.{is_label, labels};
 ghost use Rattle.source_model.specs.Source.{Source};
 ghost use Rattle.source_model.specs.Values.{name_text};
 ghost use Rattle.source_syntax.specs.Labels.{is_below};
-ghost use Rattle.source_syntax.specs.Least.{least};
+ghost use Rattle.source_nodes.specs.Least.{least};
 ghost use Rattle.source_syntax.specs.Methods.{AreNames};
-ghost use Rattle.source_syntax.specs.Readers.{Reads};
-ghost use Rattle.source_syntax.specs.Walk.{IsForest};
+ghost use Rattle.source_nodes.specs.Readers.{Reads};
+ghost use Rattle.source_nodes.specs.Walk.{IsForest};
 
 use il_base::NoMemory;
 use ilasm_grammar::TreeNode;
+use source_nodes::least::sooner;
+use source_nodes::reader::Reader;
 use source_syntax::declared::Declared;
 use source_syntax::labels::{label_names, label_tokens, names_at};
-use source_syntax::least::sooner;
 use source_syntax::methods::{MethodRule, first_in_methods};
-use source_syntax::reader::Reader;
 use std::alloc::Global;
 
 /// The least label with the name of an earlier one of its method.

@@ -5,18 +5,18 @@ ghost use Rattle.std.specs.List.{flat_map};
 ghost use Rattle.source_model.specs.Forest.{Forest, preorder};
 ghost use Rattle.source_model.specs.Nodes.{Node};
 ghost use Rattle.source_model.specs.Source.{Source};
-ghost use Rattle.source_syntax.specs.Least.{least};
-ghost use Rattle.source_syntax.specs.Readers.{Reads};
-ghost use Rattle.source_syntax.specs.Walk.{IsForest};
+ghost use Rattle.source_nodes.specs.Least.{least};
+ghost use Rattle.source_nodes.specs.Readers.{Reads};
+ghost use Rattle.source_nodes.specs.Walk.{IsForest};
 ghost use Rattle.check_bodies.specs.AmongNodes.{AreMethodsOf};
 
 use il_base::NoMemory;
 use ilasm_grammar::{TreeNode, productions};
 use source_model::{derivations_are_forests, forests_join, forests_open};
-use source_syntax::least::sooner;
+use source_nodes::least::sooner;
+use source_nodes::reader::Reader;
+use source_nodes::walk::next;
 use source_syntax::methods::MethodRule;
-use source_syntax::reader::Reader;
-use source_syntax::walk::next;
 use std::alloc::Global;
 
 /// The least token at which a method among these nodes of a source breaks a rule. What stands below a method, where there is no

@@ -9,9 +9,9 @@ ghost use Rattle.source_model.specs.Forest.{Part, preorder};
 ghost use Rattle.source_model.specs.Instructions.{instructions_of};
 ghost use Rattle.source_model.specs.Source.{Source};
 ghost use Rattle.source_syntax.specs.Labels.{AreLabels};
-ghost use Rattle.source_syntax.specs.Least.{least};
-ghost use Rattle.source_syntax.specs.Readers.{Reads};
-ghost use Rattle.source_syntax.specs.Walk.{IsForest};
+ghost use Rattle.source_nodes.specs.Least.{least};
+ghost use Rattle.source_nodes.specs.Readers.{Reads};
+ghost use Rattle.source_nodes.specs.Walk.{IsForest};
 ghost use Rattle.check_bodies.specs.Sizes.{far_from, is_short, short_target, AreOffsets};
 
 use crate::instruction_rules::{InstructionRule, first_in_code};
@@ -20,12 +20,12 @@ use check_visitor::ranges::unless;
 use il_base::NoMemory;
 use ilasm_grammar::{TreeNode, productions};
 use opcode_table::{OperandKind, kind_of};
+use source_nodes::operations::op_of;
+use source_nodes::pieces::{Sought, pieces_of};
+use source_nodes::reader::Reader;
+use source_nodes::walk::leaf_at;
 use source_syntax::label_numbers::Labels;
 use source_syntax::methods::{MethodRule, first_in_methods};
-use source_syntax::operations::op_of;
-use source_syntax::pieces::{Sought, pieces_of};
-use source_syntax::reader::Reader;
-use source_syntax::walk::leaf_at;
 use std::alloc::Global;
 
 /// The least label behind a short branch from which one signed byte doesn't lead to it.

@@ -7,7 +7,7 @@ ghost use Rattle.ilasm_grammar.specs.declared.productions.TheConstants.{INSTRUCT
 ghost use Rattle.check_bodies.specs.ShortCode.{is_bounded, is_short_code};
 
 use ilasm_grammar::productions;
-use source_syntax::pieces::Piece;
+use source_nodes::pieces::Piece;
 
 // So many instructions of 10 bytes end before byte 127.
 const MOST: usize = 12;

@@ -8,18 +8,18 @@ ghost use Rattle.source_model.specs.Instructions.{instructions_of};
 ghost use Rattle.source_model.specs.Nodes.{Around};
 ghost use Rattle.source_model.specs.Operands.{instruction};
 ghost use Rattle.source_model.specs.Source.{Source};
-ghost use Rattle.source_syntax.specs.Pieces.{ArePieces, AreParts};
-ghost use Rattle.source_syntax.specs.Readers.{Reads};
+ghost use Rattle.source_nodes.specs.Pieces.{ArePieces, AreParts};
+ghost use Rattle.source_nodes.specs.Readers.{Reads};
 ghost use Rattle.check_bodies.specs.Sizes.{size_by, targets_bytes, AreOffsets};
-ghost use Rattle.source_syntax.specs.Walk.{IsForest};
+ghost use Rattle.source_nodes.specs.Walk.{IsForest};
 
 use il_base::{Items, NoMemory};
 use ilasm_grammar::{TreeNode, productions};
 use opcode_table::{OperandKind, kind_of, opcode_size};
+use source_nodes::operations::op_of;
+use source_nodes::pieces::{Piece, nodes_of};
+use source_nodes::reader::Reader;
 use source_syntax::labels::push_targets;
-use source_syntax::operations::op_of;
-use source_syntax::pieces::{Piece, nodes_of};
-use source_syntax::reader::Reader;
 use std::alloc::Global;
 
 /// The code offset of each instruction of a method, and that of the end, from the nodes below its production.

@@ -7,10 +7,10 @@ ghost use Rattle.source_model.specs.Forest.{Forest, Part, preorder};
 ghost use Rattle.source_model.specs.Instructions.{instructions_with};
 ghost use Rattle.source_model.specs.Source.{Source};
 ghost use Rattle.ilasm_grammar.specs.declared.productions.TheConstants as production;
-ghost use Rattle.source_syntax.specs.Derived.{FitsBody, HasBodies};
-ghost use Rattle.source_syntax.specs.Least.{least};
-ghost use Rattle.source_syntax.specs.Readers.{Reads};
-ghost use Rattle.source_syntax.specs.Walk.{IsForest};
+ghost use Rattle.source_nodes.specs.Derived.{FitsBody, HasBodies};
+ghost use Rattle.source_nodes.specs.Least.{least};
+ghost use Rattle.source_nodes.specs.Readers.{Reads};
+ghost use Rattle.source_nodes.specs.Walk.{IsForest};
 ghost use Rattle.check_bodies.specs.NamedVariables.{undeclared_at, AreVariables, ServesVariables};
 
 use crate::instruction_rules::{InstructionRule, first_in_code};
@@ -18,11 +18,11 @@ use crate::variables::Variables;
 use check_visitor::ranges::unless;
 use il_base::NoMemory;
 use ilasm_grammar::{TreeNode, productions};
+use source_nodes::operations::op_of;
+use source_nodes::pieces::{Sought, pieces_of};
+use source_nodes::reader::Reader;
+use source_nodes::walk::{child, has, leaf_at};
 use source_syntax::methods::{MethodRule, first_in_methods};
-use source_syntax::operations::op_of;
-use source_syntax::pieces::{Sought, pieces_of};
-use source_syntax::reader::Reader;
-use source_syntax::walk::{child, has, leaf_at};
 use std::alloc::Global;
 
 /// The least name in an instruction that no parameter or no local of its method has.

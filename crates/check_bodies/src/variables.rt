@@ -10,9 +10,9 @@ ghost use Rattle.source_model.specs.Source.{Source};
 ghost use Rattle.source_model.specs.Variables.{first_argument, is_of_arguments, variable_named};
 ghost use Rattle.source_syntax.specs.Labels.{number_found};
 ghost use Rattle.source_syntax.specs.Methods.{AreNames, IsMethod};
-ghost use Rattle.source_syntax.specs.Pieces.{ArePieces, AreParts};
-ghost use Rattle.source_syntax.specs.Readers.{IsOf, Reads};
-ghost use Rattle.source_syntax.specs.Walk.{IsForest};
+ghost use Rattle.source_nodes.specs.Pieces.{ArePieces, AreParts};
+ghost use Rattle.source_nodes.specs.Readers.{IsOf, Reads};
+ghost use Rattle.source_nodes.specs.Walk.{IsForest};
 ghost use Rattle.check_bodies.specs.NamedVariables.{name_of, names_of, number_if_named, AreNumbered, AreVariables, ServesVariables};
 
 use il_base::{Items, NoMemory};
@@ -22,11 +22,11 @@ use ilasm_grammar::productions::{
     NAME_OPT_SOME,
 };
 use opcode_table::Op;
+use source_nodes::pieces::{Piece, Sought, nodes_of, pieces_of};
+use source_nodes::reader::Reader;
+use source_nodes::walk::{child, has, leaf_at};
 use source_syntax::declared::Declared;
 use source_syntax::labels::names_at;
-use source_syntax::pieces::{Piece, Sought, nodes_of, pieces_of};
-use source_syntax::reader::Reader;
-use source_syntax::walk::{child, has, leaf_at};
 use std::alloc::Global;
 
 /// The arguments and the locals of a method that have names.

@@ -12,12 +12,12 @@ use Rattle.source_model.specs.Laws.{ForestsJoin}
 use Rattle.source_model.specs.Names.{extern_key, externs}
 use Rattle.source_model.specs.Source.{Source}
 use Rattle.source_model.specs.Values.{name_text}
-use Rattle.source_syntax.specs.Derived.{Fits}
+use Rattle.source_nodes.specs.Derived.{Fits}
 use Rattle.source_syntax.specs.Namings.{names_in, tokens_named}
-use Rattle.source_syntax.specs.Walk.{Opens}
+use Rattle.source_nodes.specs.Walk.{Opens}
 use Rattle.source_syntax.specs.declared.name_lists.Naming.TheVariants.{Assembly}
-use Rattle.source_syntax.specs.declared.walk.Opened.{Opened}
-use Rattle.source_syntax.proofs.Collecting.{each_other, each_own}
+use Rattle.source_nodes.specs.declared.walk.Opened.{Opened}
+use Rattle.source_nodes.proofs.Collecting.{each_other, each_own}
 use Rattle.source_syntax.proofs.SizeLemmas.{few_each}
 
 -- ---- how many

@@ -14,11 +14,11 @@ use Rattle.source_model.specs.Nodes.{Around, Node, entered, nodes, nodes_in, nod
 use Rattle.source_model.specs.OutOfRange.{asked_length, data_named_length, data_too_short_of, data_unsized_of, field_size, label_if_none, label_if_short}
 use Rattle.source_model.specs.Source.{Source}
 use Rattle.source_model.specs.Values.{name_text}
-use Rattle.source_syntax.specs.Derived.{FitsBody, HasBodies}
-use Rattle.source_syntax.specs.Least.{least, sooner}
-use Rattle.source_syntax.specs.Walk.{Opens, is_of}
-use Rattle.source_syntax.specs.declared.walk.Opened.{Opened}
-use Rattle.source_syntax.proofs.Collecting.{no_forest, of_joined}
+use Rattle.source_nodes.specs.Derived.{FitsBody, HasBodies}
+use Rattle.source_nodes.specs.Least.{least, sooner}
+use Rattle.source_nodes.specs.Walk.{Opens, is_of}
+use Rattle.source_nodes.specs.declared.walk.Opened.{Opened}
+use Rattle.source_nodes.proofs.Collecting.{no_forest, of_joined}
 use Rattle.source_syntax.proofs.LeastLemmas.{least_append, sooner_assoc}
 use Rattle.check_names.specs.MappedData.{counted_by, counted_length}
 use Rattle.check_names.proofs.MissingLemmas.{flat_filtered, flat_same}

@@ -15,11 +15,11 @@ use Rattle.source_model.specs.Names.{is_path}
 use Rattle.source_model.specs.OutOfRange.{asked_class_size}
 use Rattle.source_model.specs.Source.{Source}
 use Rattle.source_syntax.specs.ClassNumbers.{class_in, class_numbered, id_of, outer_of}
-use Rattle.source_syntax.specs.Derived.{FitsBody, HasBodies}
+use Rattle.source_nodes.specs.Derived.{FitsBody, HasBodies}
 use Rattle.source_syntax.specs.Nested.{IsNested, onward}
 use Rattle.source_syntax.specs.declared.class_paths.ClassName.{ClassName}
 use Rattle.source_syntax.proofs.ClassLemmas.{id_itself, id_same, path_itself, path_same}
-use Rattle.source_syntax.proofs.Collecting.{of_joined}
+use Rattle.source_nodes.proofs.Collecting.{of_joined}
 use Rattle.source_syntax.proofs.NestedLemmas.{to_append}
 use Rattle.check_names.specs.DeclaredClasses.{inner_path}
 use Rattle.check_data.specs.DeclaredSizes.{AreFilled, AreKnown, ClassSize, filled, first_size, is_unknown, size_list}

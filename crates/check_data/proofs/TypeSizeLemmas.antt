@@ -18,9 +18,9 @@ use Rattle.source_model.specs.Nodes.{Around}
 use Rattle.source_model.specs.OutOfRange.{asked_size, asked_size_at, asked_value_size}
 use Rattle.source_model.specs.Source.{Source}
 use Rattle.source_model.specs.Types.{base_type, named_type, suffixed, type_of, types_in}
-use Rattle.source_syntax.specs.Derived.{HasBodies}
-use Rattle.source_syntax.specs.Walk.{Opens}
-use Rattle.source_syntax.specs.declared.walk.Opened.{Opened}
+use Rattle.source_nodes.specs.Derived.{HasBodies}
+use Rattle.source_nodes.specs.Walk.{Opens}
+use Rattle.source_nodes.specs.declared.walk.Opened.{Opened}
 use Rattle.source_syntax.proofs.TypeLemmas as type
 
 -- ---- names

@@ -10,7 +10,7 @@ use Rattle.source_model.specs.Nodes.{Around, Node, entered, nodes_in, nothing_ar
 use Rattle.source_model.specs.OutOfRange.{data_named_length, data_too_short_of, data_unsized_of, field_size, label_if_none, label_if_short}
 use Rattle.source_model.specs.Source.{Source}
 use Rattle.source_model.specs.Values.{name_text}
-use Rattle.source_syntax.specs.Least.{least}
+use Rattle.source_nodes.specs.Least.{least}
 use Rattle.source_syntax.proofs.LeastLemmas.{flat_append}
 use Rattle.check_data.specs.FieldFaults.{AreLeast, where_field}
 use Rattle.check_data.specs.declared.mapped_fields.DataFaults.{DataFaults}

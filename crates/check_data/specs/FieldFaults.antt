@@ -6,7 +6,7 @@ use Rattle.source_model.specs.Data.{labelled}
 use Rattle.source_model.specs.Nodes.{Node}
 use Rattle.source_model.specs.OutOfRange.{data_too_short, data_too_short_of, data_unsized, data_unsized_of}
 use Rattle.source_model.specs.Source.{Source}
-use Rattle.source_syntax.specs.Least.{least}
+use Rattle.source_nodes.specs.Least.{least}
 use Rattle.source_syntax.specs.Namings.{AreNames}
 use Rattle.source_syntax.specs.declared.name_lists.Naming.TheVariants.{Label}
 use Rattle.check_names.specs.MappedData.{counted_length}

@@ -9,10 +9,10 @@ ghost use Rattle.source_model.specs.Forest.{Forest, preorder};
 ghost use Rattle.source_model.specs.Nodes.{type_id};
 ghost use Rattle.source_model.specs.Source.{Source};
 ghost use Rattle.source_syntax.specs.ClassNumbers.{class_in, class_numbered, id_of, outer_of};
-ghost use Rattle.source_syntax.specs.Derived.{HasBodies};
+ghost use Rattle.source_nodes.specs.Derived.{HasBodies};
 ghost use Rattle.source_syntax.specs.Nested.{IsNested};
-ghost use Rattle.source_syntax.specs.Readers.{IsOf, Reads};
-ghost use Rattle.source_syntax.specs.Walk.{IsForest};
+ghost use Rattle.source_nodes.specs.Readers.{IsOf, Reads};
+ghost use Rattle.source_nodes.specs.Walk.{IsForest};
 ghost use Rattle.check_names.specs.DeclaredClasses.{AreClasses};
 
 use check_names::class_rules::Classes;
@@ -20,10 +20,10 @@ use check_names::class_sizes::class_size;
 use il_base::{Items, NoMemory};
 use ilasm_grammar::{TreeNode, productions};
 use source_model::{derivations_are_forests, forests_join, forests_open};
+use source_nodes::derived::derivations_have_bodies;
+use source_nodes::reader::Reader;
+use source_nodes::walk::{leaf_at, next};
 use source_syntax::class_paths::ClassPaths;
-use source_syntax::derived::derivations_have_bodies;
-use source_syntax::reader::Reader;
-use source_syntax::walk::{leaf_at, next};
 use std::alloc::Global;
 use type_terms::TypeId;
 

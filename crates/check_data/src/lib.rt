@@ -4,4 +4,4 @@
 
 pub mod declared_sizes;
 pub mod mapped_fields;
-pub mod type_sizes;
+mod type_sizes;

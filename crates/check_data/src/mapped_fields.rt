@@ -10,12 +10,12 @@ ghost use Rattle.source_model.specs.Forest.{Forest, has, preorder};
 ghost use Rattle.source_model.specs.Names.{extern_key, externs};
 ghost use Rattle.source_model.specs.Nodes.{Around, Node, nodes_in, nothing_around};
 ghost use Rattle.source_model.specs.Source.{Source};
-ghost use Rattle.source_syntax.specs.Derived.{HasBodies};
-ghost use Rattle.source_syntax.specs.Least.{sooner};
+ghost use Rattle.source_nodes.specs.Derived.{HasBodies};
+ghost use Rattle.source_nodes.specs.Least.{sooner};
 ghost use Rattle.source_syntax.specs.Namings.{AreNames};
 ghost use Rattle.source_syntax.specs.Places.{IsAt};
-ghost use Rattle.source_syntax.specs.Readers.{Reads};
-ghost use Rattle.source_syntax.specs.Walk.{IsForest};
+ghost use Rattle.source_nodes.specs.Readers.{Reads};
+ghost use Rattle.source_nodes.specs.Walk.{IsForest};
 ghost use Rattle.source_syntax.specs.declared.name_lists.Naming.TheVariants as naming;
 ghost use Rattle.check_names.specs.DeclaredClasses.{AreClasses};
 
@@ -27,13 +27,13 @@ use il_base::NoMemory;
 use ilasm_grammar::TreeNode;
 use ilasm_grammar::productions::{AT_NAME, FIELD, TYPE};
 use source_model::forests_join;
+use source_nodes::derived::derivations_have_bodies;
+use source_nodes::least::sooner;
+use source_nodes::reader::Reader;
+use source_nodes::walk::{child, has, is_of, leaf_at, open, the};
 use source_syntax::declared::Declared;
-use source_syntax::derived::derivations_have_bodies;
-use source_syntax::least::sooner;
 use source_syntax::name_lists::Named;
 use source_syntax::place::Place;
-use source_syntax::reader::Reader;
-use source_syntax::walk::{child, has, is_of, leaf_at, open, the};
 use std::alloc::Global;
 
 /// The least labels behind `at` of fields that break the rules of data.

@@ -9,17 +9,17 @@ ghost use Rattle.source_model.specs.Nodes.{Around};
 ghost use Rattle.source_model.specs.OutOfRange.{asked_size};
 ghost use Rattle.source_model.specs.Source.{Source};
 ghost use Rattle.source_model.specs.Types.{base_type, type_of, types_in};
-ghost use Rattle.source_syntax.specs.Derived.{HasBodies};
-ghost use Rattle.source_syntax.specs.Walk.{IsForest};
+ghost use Rattle.source_nodes.specs.Derived.{HasBodies};
+ghost use Rattle.source_nodes.specs.Walk.{IsForest};
 
 use crate::declared_sizes::{ClassSizes, size_at};
 use check_names::stated_sizes::{keeps_size, primitive_size};
 use il_base::NoMemory;
 use ilasm_grammar::TreeNode;
 use ilasm_grammar::productions::{TYPE, TYPE_BASE_VALUETYPE};
+use source_nodes::walk::{has, open};
 use source_syntax::class_paths::ClassPaths;
 use source_syntax::place::Place;
-use source_syntax::walk::{has, open};
 use std::alloc::Global;
 use type_terms::{Scope, TypeName};
 

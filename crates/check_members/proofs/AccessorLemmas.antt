@@ -14,7 +14,7 @@ use Rattle.source_model.specs.Signatures.{generic_arguments_token, is_method_unb
 use Rattle.source_model.specs.Source.{Source}
 use Rattle.source_model.specs.TypeRules.{are_unbroken, breaks_signature, is_nothing}
 use Rattle.source_model.specs.Undeclared.{accessor_undeclared_of, is_one_of, is_this_class}
-use Rattle.source_syntax.specs.Least.{least, sooner}
+use Rattle.source_nodes.specs.Least.{least, sooner}
 use Rattle.check_members.specs.MemberKinds.{member_of}
 use Rattle.check_members.specs.OwnMethods.{is_own_method, own_methods, referred}
 use Rattle.check_members.specs.SameMembers.{is_member, is_same_member}

@@ -10,10 +10,10 @@ use Rattle.ilasm_grammar.specs.declared.symbol.Symbol.TheVariants.{Nonterminal}
 use Rattle.source_model.specs.Forest.{Forest, Part, none, leaf, branch, has, is_among, part, parts, the}
 use Rattle.source_model.specs.Nodes.{Around, Node, entered, nodes_in}
 use Rattle.source_model.specs.Source.{Source}
-use Rattle.source_syntax.specs.Derived.{FitsBody, FitsRule, HasBodies, head_of}
+use Rattle.source_nodes.specs.Derived.{FitsBody, FitsRule, HasBodies, head_of}
 use Rattle.source_syntax.proofs.BodyLemmas.{StaysChosen, closed_rule, fits_has, goes_on_with, nowhere_below}
 use Rattle.source_syntax.proofs.NameTokens.{IsBody, the_body}
-use Rattle.source_syntax.proofs.WrittenNames.{one_in, other_true}
+use Rattle.source_nodes.proofs.WrittenNames.{one_in, other_true}
 use Rattle.check_members.specs.OwnMethods.{accessor_items, accessors_of, has_accessors, undeclared_at}
 use Rattle.check_visitor.specs.Surroundings.{found_in}
 use Rattle.check_names.proofs.SignatureParts.{all_rules, everywhere}

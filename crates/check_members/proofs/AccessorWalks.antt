@@ -15,11 +15,11 @@ use Rattle.source_model.specs.Nodes.{Around, Node, class_token, entered, nodes, 
 use Rattle.source_model.specs.Signatures.{is_method_unbroken}
 use Rattle.source_model.specs.Source.{Source}
 use Rattle.source_model.specs.Undeclared.{accessor_undeclared_of, accessors_undeclared, accessors_undeclared_of}
-use Rattle.source_syntax.specs.Derived.{FitsBody, HasBodies}
-use Rattle.source_syntax.specs.Least.{least, sooner}
-use Rattle.source_syntax.specs.Walk.{Opens}
-use Rattle.source_syntax.specs.declared.walk.Opened.{Opened}
-use Rattle.source_syntax.proofs.Collecting.{no_forest, of_joined}
+use Rattle.source_nodes.specs.Derived.{FitsBody, HasBodies}
+use Rattle.source_nodes.specs.Least.{least, sooner}
+use Rattle.source_nodes.specs.Walk.{Opens}
+use Rattle.source_nodes.specs.declared.walk.Opened.{Opened}
+use Rattle.source_nodes.proofs.Collecting.{no_forest, of_joined}
 use Rattle.source_syntax.proofs.LeastLemmas.{least_append, sooner_assoc}
 use Rattle.check_members.specs.MemberKinds.{declarers, is_chosen, member_of, places, with_member}
 use Rattle.check_members.specs.OwnMethods.{accessor_items, accessors_of, has_accessors, own_methods, undeclared_at, with_own_method}

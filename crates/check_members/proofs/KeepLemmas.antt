@@ -12,10 +12,10 @@ use Rattle.source_model.specs.Laws.{ForestOpens}
 use Rattle.source_model.specs.Nodes.{Around, Node, entered, nodes_in}
 use Rattle.source_model.specs.Source.{Source}
 use Rattle.source_model.specs.TypeRules.{is_nothing}
-use Rattle.source_syntax.specs.Derived.{HasBodies}
-use Rattle.source_syntax.specs.Least.{least, sooner}
-use Rattle.source_syntax.specs.Walk.{IsForest}
-use Rattle.source_syntax.proofs.Collecting.{no_forest}
+use Rattle.source_nodes.specs.Derived.{HasBodies}
+use Rattle.source_nodes.specs.Least.{least, sooner}
+use Rattle.source_nodes.specs.Walk.{IsForest}
+use Rattle.source_nodes.proofs.Collecting.{no_forest}
 use Rattle.check_visitor.specs.Surroundings.{found_in}
 
 -- ---- nothing

@@ -12,8 +12,8 @@ use Rattle.source_model.specs.Forest.{Forest, Part, part, is_among, joined, part
 use Rattle.source_model.specs.Laws.{ForestOpens, ForestsJoin}
 use Rattle.source_model.specs.Nodes.{Around}
 use Rattle.source_model.specs.Source.{Source}
-use Rattle.source_syntax.specs.Least.{least}
-use Rattle.source_syntax.proofs.Collecting.{no_forest}
+use Rattle.source_nodes.specs.Least.{least}
+use Rattle.source_nodes.proofs.Collecting.{no_forest}
 use Rattle.check_members.proofs.MemberWalks.{forests_other, forests_own}
 use Rattle.check_members.proofs.TwiceLemmas.{twice_is}
 use Rattle.check_members.specs.LoneMembers.{is_met}

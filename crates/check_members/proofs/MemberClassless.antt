@@ -14,7 +14,7 @@ use Rattle.ilasm_grammar.proofs.TableFacts.{all_below-at}
 use Rattle.ilasm_grammar.proofs.TableLemmas.{rule_by-is}
 use Rattle.source_model.specs.Forest.{Forest, none, leaf, branch, is_among}
 use Rattle.source_model.specs.Source.{Source}
-use Rattle.source_syntax.specs.Derived.{Fits, FitsBody, FitsRule, HasBodies, head_of}
+use Rattle.source_nodes.specs.Derived.{Fits, FitsBody, FitsRule, HasBodies, head_of}
 use Rattle.check_names.proofs.Classless.{Classless}
 use Rattle.check_members.specs.MemberKinds.{places}
 use Rattle.check_members.specs.declared.member_kinds.Level.TheVariants as level

@@ -8,7 +8,7 @@ use Rattle.std.proofs.lemmas.Slice.Eq.{bytes_eq-Decides}
 use Rattle.type_terms.specs.Order.{term_order}
 use Rattle.type_terms.specs.Same.{is_same_signature}
 use Rattle.type_terms.proofs.SameLaws.{signature_itself, signature_same}
-use Rattle.source_syntax.proofs.WrittenNames.{both_true}
+use Rattle.source_nodes.proofs.WrittenNames.{both_true}
 use Rattle.check_members.specs.SameMembers.{is_member, is_same_member}
 use Rattle.check_members.specs.declared.member_sets.Member.{Member}
 

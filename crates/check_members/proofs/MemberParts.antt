@@ -15,14 +15,14 @@ use Rattle.source_model.specs.DeclaredTwice.{method_token, name_token_of}
 use Rattle.source_model.specs.Forest.{Forest, is_among, joined, leaf_at, part, parts, preorder, the}
 use Rattle.source_model.specs.Laws.{ForestsJoin}
 use Rattle.source_model.specs.Source.{Source}
-use Rattle.source_syntax.specs.Derived.{FitsBody, HasBodies, head_of}
-use Rattle.source_syntax.specs.Readers.{IsOf}
-use Rattle.source_syntax.specs.Walk.{IsForest, Opens}
-use Rattle.source_syntax.specs.declared.walk.Opened.{Opened}
-use Rattle.source_syntax.proofs.Collecting.{after_is, below_is, no_forest}
+use Rattle.source_nodes.specs.Derived.{FitsBody, HasBodies, head_of}
+use Rattle.source_nodes.specs.Readers.{IsOf}
+use Rattle.source_nodes.specs.Walk.{IsForest, Opens}
+use Rattle.source_nodes.specs.declared.walk.Opened.{Opened}
+use Rattle.source_nodes.proofs.Collecting.{after_is, below_is, no_forest}
 use Rattle.source_syntax.proofs.BodyLemmas.{fits_has}
 use Rattle.source_syntax.proofs.NameTokens.{IsBody, name_at, terminals_of_rule, the_body}
-use Rattle.source_syntax.proofs.WrittenNames.{fits_rule, one_in}
+use Rattle.source_nodes.proofs.WrittenNames.{fits_rule, one_in}
 use Rattle.check_members.specs.MemberKinds.{declarers, is_chosen, method_names, production_of}
 use Rattle.check_members.specs.declared.member_kinds.Kind.{Kind}
 use Rattle.check_members.specs.declared.member_kinds.Kind.TheVariants.{Field, Method, Property, Event}

@@ -8,11 +8,11 @@ use Rattle.source_model.specs.Forest.{Forest, Part, part, is_among, joined, part
 use Rattle.source_model.specs.Laws.{ForestsJoin}
 use Rattle.source_model.specs.Nodes.{Around}
 use Rattle.source_model.specs.Source.{Source}
-use Rattle.source_syntax.specs.Derived.{FitsBody, HasBodies}
-use Rattle.source_syntax.specs.Least.{least, sooner}
-use Rattle.source_syntax.specs.Walk.{Opens}
-use Rattle.source_syntax.specs.declared.walk.Opened.{Opened}
-use Rattle.source_syntax.proofs.Collecting.{no_forest, of_joined}
+use Rattle.source_nodes.specs.Derived.{FitsBody, HasBodies}
+use Rattle.source_nodes.specs.Least.{least, sooner}
+use Rattle.source_nodes.specs.Walk.{Opens}
+use Rattle.source_nodes.specs.declared.walk.Opened.{Opened}
+use Rattle.source_nodes.proofs.Collecting.{no_forest, of_joined}
 use Rattle.source_syntax.proofs.LeastLemmas.{least_append, sooner_assoc}
 use Rattle.check_members.proofs.MemberParts.{member_body}
 use Rattle.check_members.specs.MemberKinds.{again_after, again_in, again_with, declarers, declares, forests_of, is_chosen, parts_at, places, production_of, token_of, unbroken_member, with_member, IsPut}

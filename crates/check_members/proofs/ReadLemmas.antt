@@ -16,7 +16,7 @@ use Rattle.source_model.specs.Undeclared.{has_known_scope}
 use Rattle.source_model.specs.Values.{name_text, scope_text}
 use Rattle.source_syntax.specs.Namings.{AreNames, tokens_named}
 use Rattle.source_syntax.specs.Places.{IsAt}
-use Rattle.source_syntax.specs.Readers.{Reads}
+use Rattle.source_nodes.specs.Readers.{Reads}
 use Rattle.source_syntax.specs.declared.name_lists.Named.{Named}
 use Rattle.source_syntax.specs.declared.name_lists.Naming.TheVariants.{Assembly, Own}
 use Rattle.source_syntax.specs.declared.place.Place.{Place}

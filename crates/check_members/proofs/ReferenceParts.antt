@@ -21,12 +21,12 @@ use Rattle.source_model.specs.References.{owner_of}
 use Rattle.source_model.specs.Source.{Source}
 use Rattle.source_model.specs.Types.{the_type}
 use Rattle.source_model.specs.Undeclared.{is_class_named, names_this_class}
-use Rattle.source_syntax.specs.Derived.{Fits, FitsBody, HasBodies, head_of}
-use Rattle.source_syntax.specs.Readers.{IsOf}
+use Rattle.source_nodes.specs.Derived.{Fits, FitsBody, HasBodies, head_of}
+use Rattle.source_nodes.specs.Readers.{IsOf}
 use Rattle.source_syntax.specs.Sound.{HasPath}
 use Rattle.source_syntax.proofs.BodyLemmas.{fits_child, fits_has, fits_leaf, has_child, in_reference, in_signature, nowhere_below, tail_stays, target_stays}
 use Rattle.source_syntax.proofs.ReferenceLemmas.{child_has, target_is}
-use Rattle.source_syntax.proofs.WrittenNames.{fits_rule, is_name, is_scope, one_in, one_path}
+use Rattle.source_nodes.proofs.WrittenNames.{fits_rule, is_name, is_scope, one_in, one_path}
 use Rattle.check_members.specs.OwnMethods.{is_path_here}
 
 -- ---- the bodies

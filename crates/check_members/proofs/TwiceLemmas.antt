@@ -17,7 +17,7 @@ use Rattle.source_model.specs.Names.{classes}
 use Rattle.source_model.specs.Nodes.{Around, Node, class_token, entered, nodes, nodes_in, nothing_around, type_id}
 use Rattle.source_model.specs.Source.{Source}
 use Rattle.source_model.specs.Types.{type_of}
-use Rattle.source_syntax.specs.Least.{least, sooner}
+use Rattle.source_nodes.specs.Least.{least, sooner}
 use Rattle.source_syntax.proofs.LeastLemmas.{least_append, sooner_assoc}
 use Rattle.type_terms.specs.declared.term.SigType.{SigType}
 use Rattle.check_names.specs.DeclaredClasses.{inner_path}

@@ -13,9 +13,9 @@ use Rattle.source_model.specs.Forest.{Forest, is_among, joined, preorder}
 use Rattle.source_model.specs.Items.{members}
 use Rattle.source_model.specs.Laws.{ForestOpens, ForestsJoin}
 use Rattle.source_model.specs.Source.{Source}
-use Rattle.source_syntax.specs.Derived.{FitsBody, HasBodies}
-use Rattle.source_syntax.specs.Least.{least, sooner}
-use Rattle.source_syntax.proofs.Collecting.{no_forest, of_joined}
+use Rattle.source_nodes.specs.Derived.{FitsBody, HasBodies}
+use Rattle.source_nodes.specs.Least.{least, sooner}
+use Rattle.source_nodes.proofs.Collecting.{no_forest, of_joined}
 use Rattle.source_syntax.proofs.LeastLemmas.{least_append, sooner_assoc}
 use Rattle.check_names.specs.DeclaredClasses.{inner_path}
 use Rattle.check_names.proofs.Classless.{Classless, method_classless}

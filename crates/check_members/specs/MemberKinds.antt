@@ -52,7 +52,7 @@ use Rattle.source_model.specs.Signatures.{is_field_unbroken, is_method_unbroken,
 use Rattle.source_model.specs.Source.{Source}
 use Rattle.source_model.specs.Types.{type_of}
 use Rattle.source_model.specs.Values.{name_text}
-use Rattle.source_syntax.specs.Least.{least}
+use Rattle.source_nodes.specs.Least.{least}
 use Rattle.check_names.specs.DeclaredClasses.{inner_path}
 use Rattle.check_members.specs.SameMembers.{is_member}
 use Rattle.check_members.specs.declared.member_kinds.Kind.{Kind}

@@ -3,13 +3,13 @@
 
 pub mod accessor_rules;
 pub mod broken_signatures;
-pub mod class_accessors;
-pub mod lone_members;
+mod class_accessors;
+mod lone_members;
 pub mod member_kinds;
-pub mod member_reading;
+mod member_reading;
 pub mod member_rules;
-pub mod member_sets;
-pub mod own_methods;
-pub mod reference_reading;
-pub mod same_members;
-pub mod unbroken;
+mod member_sets;
+mod own_methods;
+mod reference_reading;
+mod same_members;
+mod unbroken;

@@ -5,9 +5,9 @@ ghost use Rattle.type_terms.specs.declared.name.TypeId.{TypeId};
 ghost use Rattle.source_model.specs.Forest.{Forest, preorder};
 ghost use Rattle.source_model.specs.Items.{members};
 ghost use Rattle.source_model.specs.Source.{Source};
-ghost use Rattle.source_syntax.specs.Derived.{HasBodies};
-ghost use Rattle.source_syntax.specs.Least.{least};
-ghost use Rattle.source_syntax.specs.Walk.{IsForest};
+ghost use Rattle.source_nodes.specs.Derived.{HasBodies};
+ghost use Rattle.source_nodes.specs.Least.{least};
+ghost use Rattle.source_nodes.specs.Walk.{IsForest};
 ghost use Rattle.check_members.specs.LoneMembers.{is_met};
 ghost use Rattle.check_members.specs.MemberKinds.{declarers, forests_of, is_chosen, parts_at, twice_within};
 ghost use Rattle.check_members.specs.declared.member_kinds.Kind.{Kind as AnyKind};
@@ -15,7 +15,7 @@ ghost use Rattle.check_members.specs.declared.member_kinds.Kind.{Kind as AnyKind
 use crate::member_kinds::{Kind, Level};
 use ilasm_grammar::{TreeNode, productions};
 use source_model::{forests_join, forests_open};
-use source_syntax::walk::next;
+use source_nodes::walk::next;
 
 /// Some of the kinds of members.
 #[derive(Debug, Clone, Copy, PartialEq, Eq, Drop)]

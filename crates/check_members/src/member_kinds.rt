@@ -5,11 +5,11 @@ ghost use Rattle.source_model.specs.DeclaredTwice.{method_token};
 ghost use Rattle.source_model.specs.Forest.{Forest, is_among, preorder};
 ghost use Rattle.check_members.specs.MemberKinds.{declarers, is_chosen, method_names, places, production_of, signature_parts, token_of};
 ghost use Rattle.check_members.specs.declared.member_kinds.Level.TheVariants as level;
-ghost use Rattle.source_syntax.specs.Walk.{IsForest};
+ghost use Rattle.source_nodes.specs.Walk.{IsForest};
 
 use ilasm_grammar::{TreeNode, productions};
 use source_model::forests_join;
-use source_syntax::walk::{is_of, leaf_at, open};
+use source_nodes::walk::{is_of, leaf_at, open};
 
 /// The kinds of members that have names.
 #[derive(Debug, Clone, Copy, PartialEq, Eq, Drop)]

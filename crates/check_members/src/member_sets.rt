@@ -36,7 +36,7 @@ impl Model for Members {
     ghost use Rattle.std.specs.Prelude.{List, nat_eq};
     ghost use Rattle.indexmap.specs.IndexMap.{get};
     ghost use Rattle.type_terms.specs.contracts.term.SigType as sig_type;
-    ghost use Rattle.source_syntax.specs.Chains.{IsChained};
+    ghost use Rattle.source_nodes.specs.Chains.{IsChained};
     ghost use Rattle.check_members.specs.MemberHashes.{member_hash};
     ghost use Rattle.check_members.specs.declared.member_sets.Member.{Member};
 

@@ -5,9 +5,9 @@ ghost use Rattle.source_model.specs.Forest.{Forest, chosen, preorder};
 ghost use Rattle.source_model.specs.Nodes.{Around};
 ghost use Rattle.source_model.specs.Source.{Source};
 ghost use Rattle.source_model.specs.TypeRules.{is_nothing};
-ghost use Rattle.source_syntax.specs.Derived.{HasBodies};
-ghost use Rattle.source_syntax.specs.Readers.{Reads};
-ghost use Rattle.source_syntax.specs.Walk.{IsForest};
+ghost use Rattle.source_nodes.specs.Derived.{HasBodies};
+ghost use Rattle.source_nodes.specs.Readers.{Reads};
+ghost use Rattle.source_nodes.specs.Walk.{IsForest};
 ghost use Rattle.check_members.specs.MemberKinds.{signature_parts};
 ghost use Rattle.check_visitor.specs.Surroundings.{HasParameters, IsSurrounding, found_in};
 
@@ -16,8 +16,8 @@ use check_visitor::asking::{Rule, Surrounding, first_in};
 use il_base::NoMemory;
 use ilasm_grammar::TreeNode;
 use source_model::{derivations_are_forests, forests_open};
-use source_syntax::reader::Reader;
-use source_syntax::walk::next;
+use source_nodes::reader::Reader;
+use source_nodes::walk::next;
 use std::alloc::Global;
 
 /// Whether no production of a member's signature breaks a rule.

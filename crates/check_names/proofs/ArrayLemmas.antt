@@ -12,12 +12,12 @@ use Rattle.source_model.specs.Laws.{ForestOpens, ForestsJoin}
 use Rattle.source_model.specs.Shapes.{commas}
 use Rattle.source_model.specs.Source.{Source, is_word}
 use Rattle.source_model.specs.TypeRules.{comma_past_rank, is_within}
-use Rattle.source_syntax.specs.Dimensions.{bound_of}
-use Rattle.source_syntax.specs.Integers.{distance}
-use Rattle.source_syntax.specs.Least.{least, sooner}
-use Rattle.source_syntax.specs.Readers.{Reads}
-use Rattle.source_syntax.specs.declared.reader.Reader.{Reader}
-use Rattle.source_syntax.specs.declared.shapes.Dimension.{Dimension}
+use Rattle.source_nodes.specs.Dimensions.{bound_of}
+use Rattle.source_nodes.specs.Integers.{distance}
+use Rattle.source_nodes.specs.Least.{least, sooner}
+use Rattle.source_nodes.specs.Readers.{Reads}
+use Rattle.source_nodes.specs.declared.reader.Reader.{Reader}
+use Rattle.source_nodes.specs.declared.shapes.Dimension.{Dimension}
 use Rattle.source_syntax.proofs.LeastLemmas.{least_append, sooner_assoc}
 use Rattle.source_syntax.proofs.Stepping.{Steps}
 use Rattle.check_names.specs.ArrayNumbers.{dimension_number, or_else}

@@ -11,7 +11,7 @@ use Rattle.source_model.specs.OutOfRange.{barred_arguments, barred_in_property, 
 use Rattle.source_model.specs.Source.{Source}
 use Rattle.source_model.specs.TypeRules.{arguments_out_of_range, generic_number_out_of_range, index_out_of_range, parameter_flags_out_of_range, path_too_long, path_too_long_in, second_ellipsis, typar_undeclared, typars_out_of_range}
 use Rattle.source_model.specs.Undeclared.{param_type_undeclared}
-use Rattle.source_syntax.specs.Least.{least}
+use Rattle.source_nodes.specs.Least.{least}
 use Rattle.check_visitor.specs.Surroundings.{is_scope}
 use Rattle.source_syntax.specs.declared.class_paths.ClassName.{ClassName}
 use Rattle.check_names.specs.AllOfParts.{broken_at, name_broken}

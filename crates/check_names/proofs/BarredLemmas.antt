@@ -2,7 +2,7 @@
 use Rattle.std.proofs.Common.{◌≡◌, ℕ, List, [], ◌∷◌, ◌++◌, ap, sym, ◌∙◌, refl, arith}
 use Rattle.std.specs.Prelude.{true, false, map, Option, None, Some}
 use Rattle.source_model.specs.Forest.{Forest, Part, below_each, each, first_token, has, is_any_part, parts}
-use Rattle.source_syntax.specs.Least.{least, sooner}
+use Rattle.source_nodes.specs.Least.{least, sooner}
 use Rattle.source_syntax.proofs.LeastLemmas.{least_append}
 
 -- the least of several times one token

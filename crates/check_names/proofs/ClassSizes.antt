@@ -11,8 +11,8 @@ use Rattle.source_model.specs.OutOfRange.{asked_class_size, is_32_bits, is_size_
 use Rattle.source_model.specs.Shapes.{natural}
 use Rattle.source_model.specs.Source.{Source}
 use Rattle.source_model.specs.Values.{int_at}
-use Rattle.source_syntax.specs.Readers.{Reads}
-use Rattle.source_syntax.specs.declared.reader.Reader.{Reader}
+use Rattle.source_nodes.specs.Readers.{Reads}
+use Rattle.source_nodes.specs.declared.reader.Reader.{Reader}
 use Rattle.check_names.specs.ClassSizes.{is_member, last_size, member_productions, ranged_size, size_or}
 
 -- the last of these numbers, or the one before

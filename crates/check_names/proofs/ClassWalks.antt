@@ -17,14 +17,14 @@ use Rattle.source_model.specs.Nodes.{Around, Node, class_token, entered, nodes, 
 use Rattle.source_model.specs.Source.{Source}
 use Rattle.source_syntax.specs.ClassNumbers.{Knows, class_in, class_numbered, class_of, id_of, outer_of}
 use Rattle.check_names.specs.DeclaredClasses.{AreAdded, ClassAt, IsEntered, Kept, again_in, class_list, declared_paths, inner_path, path_of}
-use Rattle.source_syntax.specs.Derived.{FitsBody, HasBodies}
-use Rattle.source_syntax.specs.Least.{least, sooner}
+use Rattle.source_nodes.specs.Derived.{FitsBody, HasBodies}
+use Rattle.source_nodes.specs.Least.{least, sooner}
 use Rattle.source_syntax.specs.Nested.{IsNested, onward}
-use Rattle.source_syntax.specs.Walk.{IsForest}
+use Rattle.source_nodes.specs.Walk.{IsForest}
 use Rattle.source_syntax.specs.declared.class_paths.ClassName.{ClassName}
 use Rattle.check_names.specs.declared.class_rules.Entered.{Entered}
 use Rattle.source_syntax.proofs.ClassLemmas.{id_itself, id_same, path_itself, path_same}
-use Rattle.source_syntax.proofs.Collecting.{of_joined}
+use Rattle.source_nodes.proofs.Collecting.{of_joined}
 use Rattle.source_syntax.proofs.LeastLemmas.{least_append, sooner_assoc, sooner_comm}
 use Rattle.check_names.proofs.Classless.{Classless, method_classless}
 use Rattle.source_syntax.proofs.NestedLemmas.{knows_again, knows_more, knows_none, to_append, to_kept, to_new}

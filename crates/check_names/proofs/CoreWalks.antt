@@ -13,11 +13,11 @@ use Rattle.source_model.specs.Forest.{Forest, each, joined, leaf_at, preorder}
 use Rattle.source_model.specs.Laws.{ForestsJoin}
 use Rattle.source_model.specs.Names.{externs}
 use Rattle.source_model.specs.Source.{Source}
-use Rattle.source_syntax.specs.Derived.{FitsBody, HasBodies}
-use Rattle.source_syntax.specs.Readers.{IsOf}
-use Rattle.source_syntax.specs.Walk.{Opens, is_of}
-use Rattle.source_syntax.specs.declared.walk.Opened.{Opened}
-use Rattle.source_syntax.proofs.Collecting.{each_other, each_own, is_other, no_forest, of_joined}
+use Rattle.source_nodes.specs.Derived.{FitsBody, HasBodies}
+use Rattle.source_nodes.specs.Readers.{IsOf}
+use Rattle.source_nodes.specs.Walk.{Opens, is_of}
+use Rattle.source_nodes.specs.declared.walk.Opened.{Opened}
+use Rattle.source_nodes.proofs.Collecting.{each_other, each_own, is_other, no_forest, of_joined}
 use Rattle.source_syntax.proofs.NameTokens.{name_at, terminals_of_rule}
 
 extern_name : slice_get (terminals_of_rule (ilasm ASSEMBLY_EXTERN)) 1 ≡ Some t.NAME

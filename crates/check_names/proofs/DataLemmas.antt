@@ -19,11 +19,11 @@ use Rattle.source_model.specs.Forest.{Forest, Part, first_token, joined, leaf_at
 use Rattle.source_model.specs.Laws.{ForestsJoin}
 use Rattle.source_model.specs.OutOfRange.{counted_length, item_past_length, stands_too_often}
 use Rattle.source_model.specs.Source.{Source}
-use Rattle.source_syntax.specs.Derived.{FitsBody}
-use Rattle.source_syntax.specs.Least.{least}
-use Rattle.source_syntax.specs.Readers.{IsOf, Reads}
-use Rattle.source_syntax.specs.declared.reader.Reader.{Reader}
-use Rattle.source_syntax.proofs.WrittenNames.{first_terminal, fits_rule, word_is_more}
+use Rattle.source_nodes.specs.Derived.{FitsBody}
+use Rattle.source_nodes.specs.Least.{least}
+use Rattle.source_nodes.specs.Readers.{IsOf, Reads}
+use Rattle.source_nodes.specs.declared.reader.Reader.{Reader}
+use Rattle.source_nodes.proofs.WrittenNames.{first_terminal, fits_rule, word_is_more}
 use Rattle.check_names.specs.DataItems.{is_item, known_length}
 use Rattle.check_visitor.proofs.AskingLemmas.{Bodied}
 

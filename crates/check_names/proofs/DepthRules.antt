@@ -14,10 +14,10 @@ use Rattle.ilasm_grammar.specs.declared.tree.TreeNode.TheVariants.{Branch, Leaf}
 use Rattle.source_model.specs.Forest.{Forest, none, leaf, branch, is_among, part, parts_outside}
 use Rattle.source_model.specs.Source.{Source}
 use Rattle.source_model.specs.Types.{suffixes}
-use Rattle.source_syntax.specs.Derived.{Fits, FitsBody, FitsRule, HasBodies, head_of}
+use Rattle.source_nodes.specs.Derived.{Fits, FitsBody, FitsRule, HasBodies, head_of}
 use Rattle.source_syntax.specs.Suffixes.{is_suffix}
 use Rattle.source_syntax.proofs.TypeWalks.{flipped}
-use Rattle.source_syntax.proofs.WrittenNames.{both_true, other_true}
+use Rattle.source_nodes.proofs.WrittenNames.{both_true, other_true}
 use Rattle.check_names.proofs.SignatureParts.{everywhere, all_rules}
 
 -- ---- what the grammar says of types

@@ -16,15 +16,15 @@ use Rattle.source_model.specs.Nodes.{Around}
 use Rattle.source_model.specs.Source.{Source}
 use Rattle.source_model.specs.TypeRules.{type_too_deep}
 use Rattle.source_model.specs.Types.{base_type, suffixed, type_of, types_in}
-use Rattle.source_syntax.specs.Derived.{FitsBody, HasBodies}
-use Rattle.source_syntax.specs.Least.{least, sooner}
-use Rattle.source_syntax.specs.Walk.{Opens, is_of}
-use Rattle.source_syntax.specs.declared.walk.Opened.{Opened}
-use Rattle.source_syntax.proofs.Collecting.{is_other, no_forest, of_joined}
+use Rattle.source_nodes.specs.Derived.{FitsBody, HasBodies}
+use Rattle.source_nodes.specs.Least.{least, sooner}
+use Rattle.source_nodes.specs.Walk.{Opens, is_of}
+use Rattle.source_nodes.specs.declared.walk.Opened.{Opened}
+use Rattle.source_nodes.proofs.Collecting.{is_other, no_forest, of_joined}
 use Rattle.source_syntax.proofs.LeastLemmas.{least_append, sooner_assoc}
 use Rattle.source_syntax.proofs.TypeLemmas as type
 use Rattle.source_syntax.proofs.TypeWalks.{flipped}
-use Rattle.source_syntax.proofs.WrittenNames.{fits_rule}
+use Rattle.source_nodes.proofs.WrittenNames.{fits_rule}
 use Rattle.check_visitor.specs.Surroundings.{found_in}
 use Rattle.check_names.specs.TypeDepths.{AreDepths, base_depth, own_token}
 use Rattle.check_names.specs.declared.type_depths.Depths.{Depths}

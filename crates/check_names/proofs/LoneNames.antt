@@ -10,10 +10,10 @@ use Rattle.source_model.specs.Nodes.{Node, type_id}
 use Rattle.source_model.specs.Source.{Source}
 use Rattle.source_model.specs.TypeRules.{path_too_long_in}
 use Rattle.source_syntax.specs.ClassNumbers.{class_in}
-use Rattle.source_syntax.specs.Derived.{FitsBody, HasBodies}
-use Rattle.source_syntax.specs.Least.{least}
+use Rattle.source_nodes.specs.Derived.{FitsBody, HasBodies}
+use Rattle.source_nodes.specs.Least.{least}
 use Rattle.source_syntax.specs.Nested.{onward}
-use Rattle.source_syntax.specs.Readers.{IsOf}
+use Rattle.source_nodes.specs.Readers.{IsOf}
 use Rattle.source_syntax.specs.declared.class_paths.ClassName.{ClassName}
 use Rattle.check_names.specs.AllOfParts.{broken_at}
 use Rattle.check_names.specs.Asked.{named}

@@ -14,11 +14,11 @@ use Rattle.source_model.specs.Laws.{ForestsJoin}
 use Rattle.source_model.specs.OutOfRange.{stands_too_often}
 use Rattle.source_model.specs.Source.{Source}
 use Rattle.source_model.specs.Values.{name_text}
-use Rattle.source_syntax.specs.Derived.{FitsBody, HasBodies}
-use Rattle.source_syntax.specs.Walk.{Opens, is_of}
-use Rattle.source_syntax.specs.declared.walk.Opened.{Opened}
-use Rattle.source_syntax.proofs.Collecting.{SoFar, each_other, each_own, ends, goes_in, is_other, starts}
-use Rattle.source_syntax.specs.declared.reader.Reader.{Reader}
+use Rattle.source_nodes.specs.Derived.{FitsBody, HasBodies}
+use Rattle.source_nodes.specs.Walk.{Opens, is_of}
+use Rattle.source_nodes.specs.declared.walk.Opened.{Opened}
+use Rattle.source_nodes.proofs.Collecting.{SoFar, each_other, each_own, ends, goes_in, is_other, starts}
+use Rattle.source_nodes.specs.declared.reader.Reader.{Reader}
 use Rattle.source_syntax.proofs.LabelLemmas.{position_first}
 use Rattle.check_names.specs.DataItems.{is_item, known_length}
 use Rattle.check_names.specs.MappedData.{counted_by, counted_length, length_labelled}

@@ -10,7 +10,7 @@ use Rattle.source_model.specs.Source.{Source}
 use Rattle.source_model.specs.TypeRules.{name_unless_among}
 use Rattle.source_model.specs.Undeclared.{data_undeclared, label_undeclared_of}
 use Rattle.source_model.specs.Values.{name_text}
-use Rattle.source_syntax.specs.Least.{least}
+use Rattle.source_nodes.specs.Least.{least}
 use Rattle.check_names.specs.Missing.{label_missing}
 use Rattle.source_syntax.proofs.ScopeLemmas.{either_way}
 

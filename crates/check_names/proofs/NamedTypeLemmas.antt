@@ -20,8 +20,8 @@ use Rattle.source_syntax.specs.ClassNumbers.{Knows, class_in, class_numbered, id
 use Rattle.check_names.specs.DeclaredClasses.{declared_paths}
 use Rattle.check_names.specs.NamedTypes.{is_first, path_missing, scope_by, scope_missing_in, standing_of, type_missing_in, written_scope_by}
 use Rattle.source_syntax.specs.Namings.{names_in, tokens_named}
-use Rattle.source_syntax.specs.Derived.{FitsBody, HasBodies}
-use Rattle.source_syntax.specs.Least.{least}
+use Rattle.source_nodes.specs.Derived.{FitsBody, HasBodies}
+use Rattle.source_nodes.specs.Least.{least}
 use Rattle.source_syntax.specs.Nested.{onward, reached}
 use Rattle.check_names.specs.WrittenTypes.{any_written, written_of}
 use Rattle.check_names.specs.declared.written.WrittenName.{WrittenName}

@@ -18,14 +18,14 @@ use Rattle.source_model.specs.Source.{Source}
 use Rattle.source_model.specs.TokenOrder.{numbers_from, StandsWithin, TokensStandInOrder}
 use Rattle.source_model.specs.TypeRules.{arguments_out_of_range, array_out_of_range, bound_out_of_range, comma_past_rank, generic_number_out_of_range, index_out_of_range, number_in_type_out_of_range, parameter_flags_out_of_range, second_ellipsis, size_after_gap, shape_out_of_range, typars_out_of_range, is_within}
 use Rattle.source_model.specs.Values.{int_at}
-use Rattle.source_syntax.specs.Derived.{DerivationsHaveBodies, Fits, FitsBody, HasBodies, OfEach}
-use Rattle.source_syntax.specs.Least.{least, sooner}
-use Rattle.source_syntax.specs.Readers.{Reads}
-use Rattle.source_syntax.specs.declared.reader.Reader.{Reader}
+use Rattle.source_nodes.specs.Derived.{DerivationsHaveBodies, Fits, FitsBody, HasBodies, OfEach}
+use Rattle.source_nodes.specs.Least.{least, sooner}
+use Rattle.source_nodes.specs.Readers.{Reads}
+use Rattle.source_nodes.specs.declared.reader.Reader.{Reader}
 use Rattle.source_syntax.proofs.LeastLemmas.{least_append}
 use Rattle.source_syntax.proofs.NameTokens.{Each, each_append, the_body}
 use Rattle.source_syntax.proofs.OrderLemmas.{splits}
-use Rattle.source_syntax.proofs.WrittenNames.{fits_rule}
+use Rattle.source_nodes.proofs.WrittenNames.{fits_rule}
 use Rattle.check_names.specs.ArrayNumbers.{array_number, declared_number, dimension_number, number_at, number_in_type, or_else, shape_number}
 
 -- ---- forests whose tokens follow one another

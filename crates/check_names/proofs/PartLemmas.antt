@@ -11,13 +11,13 @@ use Rattle.source_model.specs.TokenOrder.{TokensStandInOrder}
 use Rattle.source_model.specs.TypeRules.{path_too_long, typar_undeclared}
 use Rattle.source_model.specs.Undeclared.{data_undeclared, param_type_undeclared, scopes_undeclared, types_undeclared, typars_undeclared}
 use Rattle.source_model.specs.Values.{name_text}
-use Rattle.source_syntax.specs.Derived.{DerivationsHaveBodies}
-use Rattle.source_syntax.specs.Least.{least}
+use Rattle.source_nodes.specs.Derived.{DerivationsHaveBodies}
+use Rattle.source_nodes.specs.Least.{least}
 use Rattle.source_syntax.specs.Namings.{AreNames}
-use Rattle.source_syntax.specs.Readers.{Reads}
+use Rattle.source_nodes.specs.Readers.{Reads}
 use Rattle.source_syntax.specs.declared.name_lists.Named.{Named}
 use Rattle.source_syntax.specs.declared.name_lists.Naming.TheVariants.{Assembly, Label, Own}
-use Rattle.source_syntax.specs.declared.reader.Reader.{Reader}
+use Rattle.source_nodes.specs.declared.reader.Reader.{Reader}
 use Rattle.source_syntax.proofs.NamingLemmas.{labels_are}
 use Rattle.check_visitor.proofs.LeastOfRules.{and_rule}
 use Rattle.check_names.specs.AllOfParts.{broken_at, broken_in_parts}

@@ -16,7 +16,7 @@ use Rattle.source_model.specs.Undeclared.{object_undeclared_of, objects_undeclar
 use Rattle.source_syntax.specs.ClassNumbers.{Knows, class_in, id_of, outer_of}
 use Rattle.source_syntax.specs.Nested.{onward, reached}
 use Rattle.assembly_tree.specs.DataSize.{is_id}
-use Rattle.source_syntax.specs.Least.{least}
+use Rattle.source_nodes.specs.Least.{least}
 use Rattle.source_syntax.specs.declared.class_paths.ClassName.{ClassName}
 use Rattle.check_names.specs.DeclaredClasses.{declared_paths}
 use Rattle.check_names.specs.Roots.{is_root_named, is_rootless, rootless}

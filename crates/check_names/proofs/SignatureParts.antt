@@ -13,9 +13,9 @@ use Rattle.ilasm_grammar.specs.declared.symbol.Symbol.TheVariants.{Terminal, Non
 use Rattle.ilasm_grammar.specs.declared.terminals.TheConstants as t
 use Rattle.source_model.specs.Forest.{Forest, none, leaf, branch, Part, part, parts, child, has, is_any_part}
 use Rattle.source_model.specs.Source.{Source}
-use Rattle.source_syntax.specs.Derived.{Fits, FitsRule, FitsBody, HasBodies, head_of}
+use Rattle.source_nodes.specs.Derived.{Fits, FitsRule, FitsBody, HasBodies, head_of}
 use Rattle.source_syntax.proofs.NameTokens.{IsBody}
-use Rattle.source_syntax.proofs.WrittenNames.{both_true, fits_rule}
+use Rattle.source_nodes.proofs.WrittenNames.{both_true, fits_rule}
 
 -- the nonterminals of signatures and of the ends of targets, and of what stands within them
 abbrev inside : ℕ → Bool

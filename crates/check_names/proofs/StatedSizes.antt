@@ -24,9 +24,9 @@ use Rattle.source_model.specs.Shapes.{dimensions, is_vector, lower_bounds, sizes
 use Rattle.source_model.specs.Source.{Source}
 use Rattle.source_model.specs.Types.{array, base_type, first_owner, int_type, named_type, owners_in, suffix, suffixed, suffixes, variable_number}
 use Rattle.source_syntax.specs.Suffixes.{is_suffix}
-use Rattle.source_syntax.specs.Walk.{Opens}
-use Rattle.source_syntax.specs.declared.walk.Opened.{Opened}
-use Rattle.source_syntax.proofs.Collecting.{no_forest}
+use Rattle.source_nodes.specs.Walk.{Opens}
+use Rattle.source_nodes.specs.declared.walk.Opened.{Opened}
+use Rattle.source_nodes.proofs.Collecting.{no_forest}
 use Rattle.source_syntax.proofs.TypeLemmas as type
 use Rattle.check_names.specs.StatedSizes.{base_width}
 use Rattle.check_names.specs.TypeDepths.{is_modifier}

@@ -23,16 +23,16 @@ use Rattle.source_model.specs.Nodes.{Around}
 use Rattle.source_model.specs.Source.{Source}
 use Rattle.source_model.specs.TypeRules.{type_too_deep}
 use Rattle.source_model.specs.Types.{first_owner, owners_in, suffix, suffixed, suffixes, the_owner, type_of, types_in}
-use Rattle.source_syntax.specs.Derived.{Fits, FitsBody, HasBodies}
-use Rattle.source_syntax.specs.Least.{least, sooner}
+use Rattle.source_nodes.specs.Derived.{Fits, FitsBody, HasBodies}
+use Rattle.source_nodes.specs.Least.{least, sooner}
 use Rattle.source_syntax.specs.Suffixes.{is_suffix}
-use Rattle.source_syntax.specs.Walk.{Opens}
-use Rattle.source_syntax.specs.declared.walk.Opened.{Opened}
-use Rattle.source_syntax.proofs.Collecting.{no_forest, of_joined}
+use Rattle.source_nodes.specs.Walk.{Opens}
+use Rattle.source_nodes.specs.declared.walk.Opened.{Opened}
+use Rattle.source_nodes.proofs.Collecting.{no_forest, of_joined}
 use Rattle.source_syntax.proofs.LeastLemmas.{least_append, sooner_assoc}
 use Rattle.source_syntax.proofs.TypeLemmas as type
 use Rattle.source_syntax.proofs.TypeWalks.{flipped, one_type_production}
-use Rattle.source_syntax.proofs.WrittenNames.{fits_rule}
+use Rattle.source_nodes.proofs.WrittenNames.{fits_rule}
 use Rattle.check_visitor.specs.Surroundings.{found_in}
 use Rattle.check_names.specs.TypeDepths.{AreDepths, is_modifier, modifier_depth}
 use Rattle.check_names.specs.declared.type_depths.Depths.{Depths}

@@ -15,13 +15,13 @@ use Rattle.ilasm_grammar.specs.declared.terminals.TheConstants as t
 use Rattle.source_model.specs.Forest.{Forest, none, leaf, branch, child, each, has, leaf_at}
 use Rattle.source_model.specs.Names.{Written, name_and_tail, path_tokens, with_scope, without_scope, written_name}
 use Rattle.source_model.specs.Source.{Source}
-use Rattle.source_syntax.specs.Derived.{Fits, FitsRule, FitsBody, HasBodies}
+use Rattle.source_nodes.specs.Derived.{Fits, FitsRule, FitsBody, HasBodies}
 use Rattle.source_syntax.specs.Namings.{names_in}
-use Rattle.source_syntax.specs.Readers.{IsOf}
+use Rattle.source_nodes.specs.Readers.{IsOf}
 use Rattle.source_syntax.specs.declared.name_lists.Naming.TheVariants.{Slash}
 use Rattle.source_syntax.proofs.NameTokens.{Each, IsBody, each_body, name_at, scope_at, terminals_of_rule}
 use Rattle.check_names.proofs.SignatureParts.{tail_of_field_target, tail_of_target}
-use Rattle.source_syntax.proofs.WrittenNames.{one_path, path_begins, slash_names}
+use Rattle.source_nodes.proofs.WrittenNames.{one_path, path_begins, slash_names}
 
 -- ---- a path at the top
 

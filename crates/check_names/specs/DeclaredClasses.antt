@@ -9,7 +9,7 @@ use Rattle.source_model.specs.Names.{classes, is_path, module_path}
 use Rattle.source_model.specs.Nodes.{Node, class_token, type_id}
 use Rattle.source_model.specs.Source.{Source}
 use Rattle.source_syntax.specs.ClassNumbers.{Knows, class_numbered}
-use Rattle.source_syntax.specs.Least.{least}
+use Rattle.source_nodes.specs.Least.{least}
 use Rattle.source_syntax.specs.declared.class_paths.ClassName.{ClassName}
 use Rattle.check_names.specs.declared.class_rules.Classes.{Classes}
 use Rattle.check_names.specs.declared.class_rules.Entered.{Entered}

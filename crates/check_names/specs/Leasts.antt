@@ -5,7 +5,7 @@ use Rattle.source_model.specs.DeclaredTwice.{types_twice, members_twice, externs
 use Rattle.source_model.specs.OutOfRange.{numbers_out_of_range, types_too_deep, nestings_too_deep, data_too_short, data_unsized}
 use Rattle.source_model.specs.Source.{Source}
 use Rattle.source_model.specs.Undeclared.{types_undeclared, scopes_undeclared, objects_undeclared, typars_undeclared, accessors_undeclared, assembly_undeclared, data_undeclared}
-use Rattle.source_syntax.specs.Least.{least}
+use Rattle.source_nodes.specs.Least.{least}
 use Rattle.check_names.specs.declared.firsts.Twice.{Twice}
 use Rattle.check_names.specs.declared.firsts.Undeclared.{Undeclared}
 use Rattle.check_names.specs.declared.firsts.Unbounded.{Unbounded}

@@ -7,7 +7,7 @@ use Rattle.source_model.specs.Nodes.{Around}
 use Rattle.source_model.specs.Source.{Source}
 use Rattle.source_model.specs.TypeRules.{type_too_deep}
 use Rattle.source_model.specs.Types.{the_owner}
-use Rattle.source_syntax.specs.Least.{least}
+use Rattle.source_nodes.specs.Least.{least}
 use Rattle.check_visitor.specs.Surroundings.{found_in}
 use Rattle.check_names.specs.declared.type_depths.Depths.{Depths}
 

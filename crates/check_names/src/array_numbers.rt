@@ -8,10 +8,10 @@ ghost use Rattle.source_model.specs.Shapes.{commas};
 ghost use Rattle.source_model.specs.Source.{Source};
 ghost use Rattle.source_model.specs.TypeRules.{comma_past_rank, first_size, is_within, lower_out_of_range, size_after_gap, size_out_of_range};
 ghost use Rattle.source_model.specs.Values.{int_at};
-ghost use Rattle.source_syntax.specs.Dimensions.{bound_of};
-ghost use Rattle.source_syntax.specs.Least.{least};
-ghost use Rattle.source_syntax.specs.Readers.{Reads};
-ghost use Rattle.source_syntax.specs.Walk.{IsForest};
+ghost use Rattle.source_nodes.specs.Dimensions.{bound_of};
+ghost use Rattle.source_nodes.specs.Least.{least};
+ghost use Rattle.source_nodes.specs.Readers.{Reads};
+ghost use Rattle.source_nodes.specs.Walk.{IsForest};
 ghost use Rattle.check_names.specs.ArrayNumbers.{array_number, dimension_number, shape_number};
 
 use check_visitor::ranges::{outside, unless};
@@ -19,10 +19,10 @@ use il_base::NoMemory;
 use il_lexer::word;
 use ilasm_grammar::{TreeNode, productions};
 use source_model::{derivations_are_forests, forests_join, forests_open};
-use source_syntax::least::sooner;
-use source_syntax::reader::Reader;
-use source_syntax::shapes::{Dimension, dimensions};
-use source_syntax::walk::{has, next};
+use source_nodes::least::sooner;
+use source_nodes::reader::Reader;
+use source_nodes::shapes::{Dimension, dimensions};
+use source_nodes::walk::{has, next};
 use std::alloc::Global;
 
 // How many commas a shape may have: one less than its most dimensions.

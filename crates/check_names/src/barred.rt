@@ -8,17 +8,17 @@ ghost use Rattle.source_model.specs.OutOfRange.{barred_arguments, barred_in_prop
 ghost use Rattle.source_model.specs.Signatures.{conventions, ellipses, generic_arguments_token, not_in_property};
 ghost use Rattle.source_model.specs.Source.{Source};
 ghost use Rattle.source_model.specs.TypeRules.{parameter_flags_out_of_range};
-ghost use Rattle.source_syntax.specs.Least.{least};
-ghost use Rattle.source_syntax.specs.Readers.{Reads};
-ghost use Rattle.source_syntax.specs.Walk.{IsForest};
+ghost use Rattle.source_nodes.specs.Least.{least};
+ghost use Rattle.source_nodes.specs.Readers.{Reads};
+ghost use Rattle.source_nodes.specs.Walk.{IsForest};
 
 use crate::number_rules::flags_token;
 use check_visitor::ranges::outside;
 use check_visitor::repeats::{Pick, first_of_parts};
 use ilasm_grammar::{TreeNode, productions};
-use source_syntax::least::sooner;
-use source_syntax::reader::Reader;
-use source_syntax::walk::{child, has, leaf_at, the};
+use source_nodes::least::sooner;
+use source_nodes::reader::Reader;
+use source_nodes::walk::{child, has, leaf_at, the};
 
 /// The number of a parameter's `flags(n)` that is out of its range.
 pub fn parameter_flags_number(reader: &Reader, production: u16, below: &[TreeNode]) -> Option<u32>

@@ -9,18 +9,18 @@ ghost use Rattle.source_model.specs.Nodes.{type_id};
 ghost use Rattle.source_model.specs.Source.{Source};
 ghost use Rattle.source_syntax.specs.ClassNumbers.{IsNumber, Knows, class_numbered};
 ghost use Rattle.check_names.specs.DeclaredClasses.{AreAdded, AreClasses, IsEntered, Kept};
-ghost use Rattle.source_syntax.specs.Derived.{HasBodies};
-ghost use Rattle.source_syntax.specs.Readers.{IsOf, Reads};
-ghost use Rattle.source_syntax.specs.Walk.{IsForest};
+ghost use Rattle.source_nodes.specs.Derived.{HasBodies};
+ghost use Rattle.source_nodes.specs.Readers.{IsOf, Reads};
+ghost use Rattle.source_nodes.specs.Walk.{IsForest};
 
 use il_base::{NoMemory, Text};
 use ilasm_grammar::{TreeNode, productions};
 use source_model::{derivations_are_forests, forests_join, forests_open};
+use source_nodes::derived::derivations_have_bodies;
+use source_nodes::least::sooner;
+use source_nodes::reader::Reader;
+use source_nodes::walk::{leaf_at, next};
 use source_syntax::class_paths::ClassPaths;
-use source_syntax::derived::derivations_have_bodies;
-use source_syntax::least::sooner;
-use source_syntax::reader::Reader;
-use source_syntax::walk::{leaf_at, next};
 use std::alloc::Global;
 use type_terms::TypeId;
 

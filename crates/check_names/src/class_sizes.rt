@@ -5,14 +5,14 @@ ghost use Rattle.source_model.specs.Forest.{Forest, preorder};
 ghost use Rattle.source_model.specs.OutOfRange.{asked_class_size};
 ghost use Rattle.source_model.specs.Source.{Source};
 ghost use Rattle.source_model.specs.Values.{int_at};
-ghost use Rattle.source_syntax.specs.Readers.{Reads};
-ghost use Rattle.source_syntax.specs.Walk.{IsForest};
+ghost use Rattle.source_nodes.specs.Readers.{Reads};
+ghost use Rattle.source_nodes.specs.Walk.{IsForest};
 ghost use Rattle.check_names.specs.ClassSizes.{is_member, last_size, ranged_size, size_or};
 
 use ilasm_grammar::{TreeNode, productions};
 use source_model::{derivations_are_forests, forests_join, forests_open};
-use source_syntax::reader::Reader;
-use source_syntax::walk::{leaf_at, next};
+use source_nodes::reader::Reader;
+use source_nodes::walk::{leaf_at, next};
 
 /// The bytes that are asked of data for a value of a class, where its layout states them: its class size, and 0 where that is out
 /// of its range.

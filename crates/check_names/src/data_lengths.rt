@@ -8,10 +8,10 @@ ghost use Rattle.source_model.specs.Nodes.{Node};
 ghost use Rattle.source_model.specs.OutOfRange.{counted_length, data_too_long, is_repeat, item_past_length, stands_too_often};
 ghost use Rattle.source_model.specs.Source.{Source};
 ghost use Rattle.source_model.specs.Values.{array_bytes, int_at};
-ghost use Rattle.source_syntax.specs.Derived.{FitsBody, HasBodies};
-ghost use Rattle.source_syntax.specs.Least.{least};
-ghost use Rattle.source_syntax.specs.Readers.{IsOf, Reads};
-ghost use Rattle.source_syntax.specs.Walk.{IsForest};
+ghost use Rattle.source_nodes.specs.Derived.{FitsBody, HasBodies};
+ghost use Rattle.source_nodes.specs.Least.{least};
+ghost use Rattle.source_nodes.specs.Readers.{IsOf, Reads};
+ghost use Rattle.source_nodes.specs.Walk.{IsForest};
 ghost use Rattle.check_names.specs.DataItems.{is_item, known_length};
 ghost use Rattle.check_visitor.specs.NumberTests.{bits_in};
 
@@ -20,8 +20,8 @@ use check_visitor::ranges::Width;
 use il_base::NoMemory;
 use ilasm_grammar::{TreeNode, productions};
 use source_model::{derivations_are_forests, forests_join, forests_open};
-use source_syntax::reader::Reader;
-use source_syntax::walk::{first_token, has, leaf_at, next, the};
+use source_nodes::reader::Reader;
+use source_nodes::walk::{first_token, has, leaf_at, next, the};
 use std::alloc::Global;
 
 // How many bytes one declaration of data may have, and how often an item may stand.

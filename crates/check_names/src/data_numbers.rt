@@ -6,17 +6,17 @@ ghost use Rattle.source_model.specs.Forest.{Forest, preorder};
 ghost use Rattle.source_model.specs.Nodes.{Node};
 ghost use Rattle.source_model.specs.OutOfRange.{data_number_out_of_range};
 ghost use Rattle.source_model.specs.Source.{Source};
-ghost use Rattle.source_syntax.specs.Least.{least};
+ghost use Rattle.source_nodes.specs.Least.{least};
 ghost use Rattle.check_visitor.specs.NumberTests.{bits_in, item_out_of_range};
-ghost use Rattle.source_syntax.specs.Readers.{Reads};
-ghost use Rattle.source_syntax.specs.Walk.{IsForest};
+ghost use Rattle.source_nodes.specs.Readers.{Reads};
+ghost use Rattle.source_nodes.specs.Walk.{IsForest};
 
 use crate::number_rules::int_width;
 use check_visitor::ranges::{Limit, Width, beyond_in_each};
 use ilasm_grammar::{TreeNode, productions};
-use source_syntax::least::sooner;
-use source_syntax::reader::Reader;
-use source_syntax::walk::{has, the};
+use source_nodes::least::sooner;
+use source_nodes::reader::Reader;
+use source_nodes::walk::{has, the};
 
 // How often an item may stand.
 const MOST: u32 = 67_108_864;

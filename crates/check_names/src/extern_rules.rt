@@ -3,10 +3,10 @@
 ghost use Rattle.std.specs.Prelude.{◌≡◌, ◌++◌, IfOk};
 ghost use Rattle.source_model.specs.Source.{Source};
 ghost use Rattle.source_model.specs.Undeclared.{objects_undeclared, scopes_undeclared};
-ghost use Rattle.source_syntax.specs.Least.{least};
+ghost use Rattle.source_nodes.specs.Least.{least};
 ghost use Rattle.source_syntax.specs.Namings.{AreNames};
-ghost use Rattle.source_syntax.specs.Readers.{Reads};
-ghost use Rattle.source_syntax.specs.Walk.{IsForest};
+ghost use Rattle.source_nodes.specs.Readers.{Reads};
+ghost use Rattle.source_nodes.specs.Walk.{IsForest};
 ghost use Rattle.source_syntax.specs.declared.name_lists.Naming.TheVariants as naming;
 ghost use Rattle.check_names.specs.DeclaredClasses.{AreClasses};
 
@@ -14,9 +14,9 @@ use crate::class_rules::Classes;
 use crate::named_types::scope_undeclared;
 use crate::roots::object_undeclared;
 use il_base::NoMemory;
-use source_syntax::least::sooner;
+use source_nodes::least::sooner;
+use source_nodes::reader::Reader;
 use source_syntax::name_lists::Named;
-use source_syntax::reader::Reader;
 use std::alloc::Global;
 
 /// The least name in brackets that is no assembly's, or name of a class that would have `System.Object` as its base where that

@@ -2,25 +2,25 @@
 //! the least token at which it is broken, and the first of each class of rules from the least tokens of its rules.
 #![tactic(auto)]
 
-pub mod array_numbers;
-pub mod asked;
+mod array_numbers;
+mod asked;
 pub mod barred;
 pub mod class_rules;
 pub mod class_sizes;
-pub mod data_lengths;
-pub mod data_numbers;
+mod data_lengths;
+mod data_numbers;
 pub mod extern_rules;
 pub mod firsts;
 pub mod mapped_data;
 pub mod merging;
 pub mod named_types;
 pub mod nestings;
-pub mod number_rules;
+mod number_rules;
 pub mod out_of_range;
-pub mod param_numbers;
+mod param_numbers;
 pub mod parts;
 pub mod roots;
 pub mod stated_sizes;
 pub mod type_depths;
 pub mod undeclared;
-pub mod written;
+mod written;

@@ -4,21 +4,21 @@ ghost use Rattle.std.specs.Prelude.{◌≡◌, ◌≤◌, ◌++◌, IfOk, map, m
 ghost use Rattle.source_model.specs.Data.{data_named, labelled};
 ghost use Rattle.source_model.specs.Forest.{Forest, preorder};
 ghost use Rattle.source_model.specs.Source.{Source};
-ghost use Rattle.source_syntax.specs.Derived.{HasBodies};
+ghost use Rattle.source_nodes.specs.Derived.{HasBodies};
 ghost use Rattle.source_syntax.specs.Namings.{AreNames};
-ghost use Rattle.source_syntax.specs.Readers.{Reads};
+ghost use Rattle.source_nodes.specs.Readers.{Reads};
 ghost use Rattle.source_syntax.specs.declared.name_lists.Naming.TheVariants as naming;
-ghost use Rattle.source_syntax.specs.Walk.{IsForest};
+ghost use Rattle.source_nodes.specs.Walk.{IsForest};
 ghost use Rattle.check_names.specs.MappedData.{counted_by, counted_length, length_labelled};
 
 use crate::data_lengths::{is_item, known_length};
 use il_base::{Items, NoMemory};
 use ilasm_grammar::{TreeNode, productions};
 use source_model::{derivations_are_forests, forests_join, forests_open};
-use source_syntax::derived::derivations_have_bodies;
+use source_nodes::derived::derivations_have_bodies;
+use source_nodes::reader::Reader;
+use source_nodes::walk::{has, is_of, next, open};
 use source_syntax::name_lists::Named;
-use source_syntax::reader::Reader;
-use source_syntax::walk::{has, is_of, next, open};
 use std::alloc::Global;
 
 // Up to which number bytes are counted: no value has so many.

@@ -3,7 +3,7 @@
 ghost use Rattle.std.specs.Prelude.{◌≡◌, ℕ, List, if◌then◌else◌};
 ghost use Rattle.source_model.specs.Faults.{earlier, earliest, is_before, rule_at};
 ghost use Rattle.check_names.specs.Breaches.{any_broken, broken_of};
-ghost use Rattle.source_syntax.specs.Least.{least};
+ghost use Rattle.source_nodes.specs.Least.{least};
 
 /// A rule, by its number in its class, is broken at a token.
 #[derive(Debug, Clone, Copy, PartialEq, Eq, Drop)]

@@ -11,11 +11,11 @@ ghost use Rattle.source_model.specs.TypeRules.{scope_token_unless};
 ghost use Rattle.source_model.specs.Undeclared.{scopes_undeclared, types_undeclared};
 ghost use Rattle.source_syntax.specs.ClassNumbers.{class_in, class_numbered};
 ghost use Rattle.check_names.specs.DeclaredClasses.{AreClasses};
-ghost use Rattle.source_syntax.specs.Least.{least};
+ghost use Rattle.source_nodes.specs.Least.{least};
 ghost use Rattle.check_names.specs.NamedTypes.{is_first, path_missing, scope_by, scope_missing_in, standing_of, type_missing_in, written_scope_by};
 ghost use Rattle.source_syntax.specs.Namings.{AreNames};
-ghost use Rattle.source_syntax.specs.Readers.{IsOf, Reads};
-ghost use Rattle.source_syntax.specs.Walk.{IsForest};
+ghost use Rattle.source_nodes.specs.Readers.{IsOf, Reads};
+ghost use Rattle.source_nodes.specs.Walk.{IsForest};
 ghost use Rattle.source_syntax.specs.declared.name_lists.Naming.TheVariants as naming;
 
 use crate::class_rules::Classes;
@@ -23,10 +23,10 @@ use crate::written::written_name;
 use check_visitor::asking::{Rule, Surrounding, first_at_all};
 use il_base::NoMemory;
 use ilasm_grammar::TreeNode;
+use source_nodes::reader::Reader;
 use source_syntax::class_paths::ClassPaths;
 use source_syntax::declared::Declared;
 use source_syntax::name_lists::Named;
-use source_syntax::reader::Reader;
 use std::alloc::Global;
 
 /// Which assembly a name in brackets stands for.

@@ -7,17 +7,17 @@ ghost use Rattle.source_model.specs.Nodes.{Node};
 ghost use Rattle.source_model.specs.OutOfRange.{class_too_deep, nestings_too_deep};
 ghost use Rattle.source_model.specs.Source.{Source};
 ghost use Rattle.source_model.specs.TypeRules.{past_100_names, path_too_long, path_too_long_in};
-ghost use Rattle.source_syntax.specs.Least.{least};
+ghost use Rattle.source_nodes.specs.Least.{least};
 ghost use Rattle.check_visitor.specs.Surroundings.{IsNode};
-ghost use Rattle.source_syntax.specs.Readers.{Reads};
-ghost use Rattle.source_syntax.specs.Walk.{IsForest};
+ghost use Rattle.source_nodes.specs.Readers.{Reads};
+ghost use Rattle.source_nodes.specs.Walk.{IsForest};
 
 use check_visitor::asking::{Rule, Surrounding, first_at_all};
 use il_base::NoMemory;
 use ilasm_grammar::{TreeNode, productions};
-use source_syntax::least::sooner;
-use source_syntax::reader::Reader;
-use source_syntax::walk::{child, count, has, leaf_at};
+use source_nodes::least::sooner;
+use source_nodes::reader::Reader;
+use source_nodes::walk::{child, count, has, leaf_at};
 use std::alloc::Global;
 
 /// The least name of a class, or first name of a path, that nests deeper than 100.

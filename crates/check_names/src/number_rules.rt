@@ -9,16 +9,16 @@ ghost use Rattle.source_model.specs.Nodes.{Node};
 ghost use Rattle.source_model.specs.OutOfRange.{constant_out_of_range, flags_out_of_range, layout_number_out_of_range, manifest_number_out_of_range};
 ghost use Rattle.source_model.specs.Source.{Source};
 ghost use Rattle.source_model.specs.Types.{int_type};
-ghost use Rattle.source_syntax.specs.Least.{least};
+ghost use Rattle.source_nodes.specs.Least.{least};
 ghost use Rattle.check_visitor.specs.NumberTests.{bits_in, place_out_of_range, unsigned_bits, version_out_of_range};
-ghost use Rattle.source_syntax.specs.Readers.{Reads};
-ghost use Rattle.source_syntax.specs.Walk.{IsForest};
+ghost use Rattle.source_nodes.specs.Readers.{Reads};
+ghost use Rattle.source_nodes.specs.Walk.{IsForest};
 
 use check_visitor::ranges::{Limit, Test, Width, beyond_in_each, failing, outside, outside_width};
 use ilasm_grammar::{TreeNode, productions};
-use source_syntax::least::sooner;
-use source_syntax::reader::Reader;
-use source_syntax::walk::{child, has, last_token, leaf_at, the};
+use source_nodes::least::sooner;
+use source_nodes::reader::Reader;
+use source_nodes::walk::{child, has, last_token, leaf_at, the};
 
 /// The least number of the manifest that is out of its range, where this production is one of its lines.
 pub fn manifest_number(reader: &Reader, production: u16, below: &[TreeNode]) -> Option<u32>

@@ -6,9 +6,9 @@ ghost use Rattle.source_model.specs.Forest.{preorder};
 ghost use Rattle.source_model.specs.Nodes.{Node};
 ghost use Rattle.source_model.specs.OutOfRange.{numbers_out_of_range};
 ghost use Rattle.source_model.specs.Source.{Source};
-ghost use Rattle.source_syntax.specs.Least.{least};
-ghost use Rattle.source_syntax.specs.Readers.{Reads};
-ghost use Rattle.source_syntax.specs.Walk.{IsForest};
+ghost use Rattle.source_nodes.specs.Least.{least};
+ghost use Rattle.source_nodes.specs.Readers.{Reads};
+ghost use Rattle.source_nodes.specs.Walk.{IsForest};
 ghost use Rattle.check_names.specs.ArrayNumbers.{declared_number, number_at, number_in_signature, number_in_type};
 
 use crate::array_numbers::array_number;
@@ -24,9 +24,9 @@ use check_visitor::counts::{
 use il_base::NoMemory;
 use ilasm_grammar::TreeNode;
 use source_model::tokens_stand_in_order;
-use source_syntax::derived::derivations_have_bodies;
-use source_syntax::least::sooner;
-use source_syntax::reader::Reader;
+use source_nodes::derived::derivations_have_bodies;
+use source_nodes::least::sooner;
+use source_nodes::reader::Reader;
 use std::alloc::Global;
 
 /// The least number or count of a source that is out of its range.

@@ -5,17 +5,17 @@ ghost use Rattle.source_model.specs.Forest.{Forest, preorder};
 ghost use Rattle.source_model.specs.Nodes.{Node, typar_names};
 ghost use Rattle.source_model.specs.OutOfRange.{key_out_of_range, param_out_of_range};
 ghost use Rattle.source_model.specs.Source.{Source};
-ghost use Rattle.source_syntax.specs.Least.{least};
-ghost use Rattle.source_syntax.specs.Readers.{Reads};
-ghost use Rattle.source_syntax.specs.Walk.{IsForest};
+ghost use Rattle.source_nodes.specs.Least.{least};
+ghost use Rattle.source_nodes.specs.Readers.{Reads};
+ghost use Rattle.source_nodes.specs.Walk.{IsForest};
 ghost use Rattle.check_visitor.specs.Surroundings.{HasParameters, IsNode};
 
 use check_visitor::asking::Surrounding;
 use check_visitor::ranges::{Limit, beyond_in_each, outside};
 use ilasm_grammar::{TreeNode, productions};
+use source_nodes::reader::Reader;
+use source_nodes::walk::leaf_at;
 use source_syntax::declared::Declared;
-use source_syntax::reader::Reader;
-use source_syntax::walk::leaf_at;
 
 /// The number behind `.param` that no parameter or generic parameter around it has.
 pub fn param_number(

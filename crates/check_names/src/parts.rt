@@ -5,10 +5,10 @@ ghost use Rattle.std.specs.Prelude.{◌≡◌, IfOk, true};
 ghost use Rattle.source_model.specs.Forest.{Forest, is_among, preorder};
 ghost use Rattle.source_model.specs.Nodes.{Node, nothing_around};
 ghost use Rattle.source_model.specs.Source.{Source};
-ghost use Rattle.source_syntax.specs.Derived.{FitsBody, HasBodies};
-ghost use Rattle.source_syntax.specs.Least.{least};
-ghost use Rattle.source_syntax.specs.Readers.{Reads};
-ghost use Rattle.source_syntax.specs.Walk.{IsForest};
+ghost use Rattle.source_nodes.specs.Derived.{FitsBody, HasBodies};
+ghost use Rattle.source_nodes.specs.Least.{least};
+ghost use Rattle.source_nodes.specs.Readers.{Reads};
+ghost use Rattle.source_nodes.specs.Walk.{IsForest};
 ghost use Rattle.check_names.specs.Asked.{named};
 ghost use Rattle.check_names.specs.AllOfParts.{broken_at, name_broken};
 ghost use Rattle.check_visitor.specs.Surroundings.{IsDerived, IsNode, found_in};
@@ -24,10 +24,10 @@ use check_visitor::asking::{Rule, Surrounding, first_outside};
 use check_visitor::counts::argument_past_most;
 use il_base::NoMemory;
 use ilasm_grammar::{TreeNode, productions};
-use source_syntax::least::sooner;
+use source_nodes::least::sooner;
+use source_nodes::reader::Reader;
+use source_nodes::walk::{child, has, leaf_at};
 use source_syntax::name_lists::Named;
-use source_syntax::reader::Reader;
-use source_syntax::walk::{child, has, leaf_at};
 use std::alloc::Global;
 
 /// The least token at which a production among these nodes, which stand in no class and no method, breaks any of these rules.

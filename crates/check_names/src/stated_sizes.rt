@@ -11,7 +11,7 @@ ghost use Rattle.source_model.specs.Nodes.{Around};
 ghost use Rattle.source_model.specs.Source.{Source};
 ghost use Rattle.source_model.specs.Types.{base_type, suffixed};
 ghost use Rattle.source_syntax.specs.Suffixes.{is_suffix};
-ghost use Rattle.source_syntax.specs.Walk.{IsForest};
+ghost use Rattle.source_nodes.specs.Walk.{IsForest};
 ghost use Rattle.check_names.specs.StatedSizes.{base_width};
 
 use crate::data_lengths::width_length;
@@ -22,7 +22,7 @@ use ilasm_grammar::productions::{
     TYPE_BASE_BOOL, TYPE_BASE_CHAR, TYPE_BASE_FLOAT32, TYPE_BASE_FLOAT64, TYPE_BASE_INT_TYPE,
 };
 use source_model::forests_join;
-use source_syntax::walk::open;
+use source_nodes::walk::open;
 
 /// Whether a type has the size of what its suffixes stand behind: where these are modifiers. Else it has none.
 pub fn keeps_size(suffixes: &[TreeNode]) -> bool

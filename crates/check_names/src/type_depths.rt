@@ -11,11 +11,11 @@ ghost use Rattle.source_model.specs.OutOfRange.{types_too_deep};
 ghost use Rattle.source_model.specs.Source.{Source};
 ghost use Rattle.source_model.specs.TypeRules.{type_too_deep};
 ghost use Rattle.source_model.specs.Types.{owners_in, suffix, suffixed, suffixes, type_of, types_in};
-ghost use Rattle.source_syntax.specs.Derived.{FitsBody, HasBodies};
-ghost use Rattle.source_syntax.specs.Least.{least, sooner};
-ghost use Rattle.source_syntax.specs.Readers.{Reads};
+ghost use Rattle.source_nodes.specs.Derived.{FitsBody, HasBodies};
+ghost use Rattle.source_nodes.specs.Least.{least, sooner};
+ghost use Rattle.source_nodes.specs.Readers.{Reads};
 ghost use Rattle.source_syntax.specs.Suffixes.{is_suffix};
-ghost use Rattle.source_syntax.specs.Walk.{IsForest};
+ghost use Rattle.source_nodes.specs.Walk.{IsForest};
 ghost use Rattle.check_visitor.specs.Surroundings.{found_in};
 ghost use Rattle.check_names.specs.TypeDepths.{AreDepths, base_depth, is_modifier, modifier_depth, own_token};
 
@@ -27,10 +27,10 @@ use ilasm_grammar::productions::{
     TYPE_SUFFIX_STAR,
 };
 use source_model::forests_join;
-use source_syntax::derived::derivations_have_bodies;
-use source_syntax::least::sooner;
-use source_syntax::reader::Reader;
-use source_syntax::walk::{child, first_token, is_of, open};
+use source_nodes::derived::derivations_have_bodies;
+use source_nodes::least::sooner;
+use source_nodes::reader::Reader;
+use source_nodes::walk::{child, first_token, is_of, open};
 
 // The most that a type may be deep.
 const MOST: u8 = 100;

@@ -6,12 +6,12 @@ ghost use Rattle.source_model.specs.Forest.{Forest, has, preorder};
 ghost use Rattle.source_model.specs.Source.{Source};
 ghost use Rattle.source_model.specs.TypeRules.{index_undeclared, name_unless_among, typar_undeclared};
 ghost use Rattle.source_model.specs.Undeclared.{data_undeclared, key_undeclared, param_type_undeclared, typars_undeclared};
-ghost use Rattle.source_syntax.specs.Derived.{HasBodies};
-ghost use Rattle.source_syntax.specs.Least.{least};
+ghost use Rattle.source_nodes.specs.Derived.{HasBodies};
+ghost use Rattle.source_nodes.specs.Least.{least};
 ghost use Rattle.check_names.specs.Missing.{label_missing};
 ghost use Rattle.source_syntax.specs.Namings.{AreNames};
-ghost use Rattle.source_syntax.specs.Readers.{IsOf, Reads};
-ghost use Rattle.source_syntax.specs.Walk.{IsForest};
+ghost use Rattle.source_nodes.specs.Readers.{IsOf, Reads};
+ghost use Rattle.source_nodes.specs.Walk.{IsForest};
 ghost use Rattle.source_syntax.specs.declared.name_lists.Naming.TheVariants as naming;
 
 use check_visitor::asking::{Rule, Surrounding, first_at_all};
@@ -21,10 +21,10 @@ use ilasm_grammar::productions::{
     AT_NAME, INDEX_NAME, MEMBER_PARAM, PARAM_OF_TYPE, TYPAR_KEY_NAME, TYPE_BASE_BANG,
     TYPE_BASE_DOUBLE_BANG,
 };
+use source_nodes::reader::Reader;
+use source_nodes::walk::{has, leaf_at, the};
 use source_syntax::declared::Declared;
 use source_syntax::name_lists::Named;
-use source_syntax::reader::Reader;
-use source_syntax::walk::{has, leaf_at, the};
 use std::alloc::Global;
 
 /// The least label behind `at` that no data of the source has.

@@ -3,7 +3,7 @@
 ghost use Rattle.std.specs.Prelude.{◌≡◌, ℕ, IfOk, Some};
 ghost use Rattle.source_model.specs.Forest.{Forest, preorder};
 ghost use Rattle.source_model.specs.Names.{name_and_tail, path_tokens, with_scope, without_scope, written_name};
-ghost use Rattle.source_syntax.specs.Walk.{IsForest};
+ghost use Rattle.source_nodes.specs.Walk.{IsForest};
 ghost use Rattle.check_names.specs.WrittenTypes.{any_written};
 
 use il_base::{Items, NoMemory};
@@ -13,8 +13,8 @@ use ilasm_grammar::productions::{
     NAME_TAIL_DOUBLE_COLON, NAME_TAIL_SLASH, PATH, TARGET_NAME, TARGET_SCOPE, TYPE_NAME_PATH,
     TYPE_NAME_SCOPE,
 };
+use source_nodes::walk::{child, has, leaf_at};
 use source_syntax::name_lists::{Naming, name_tokens};
-use source_syntax::walk::{child, has, leaf_at};
 use std::alloc::Global;
 
 /// The token of the assembly's name in brackets, where there is one, and those of the names of the path.

@@ -8,7 +8,7 @@ use Rattle.ilasm_grammar.specs.declared.tree.TreeNode.{TreeNode}
 use Rattle.ilasm_grammar.specs.declared.tree.TreeNode.TheVariants.{Branch, Leaf}
 use Rattle.source_model.specs.Forest as tree
 use Rattle.source_model.specs.Forest.{Forest, Part, below_each, each, has, is_any_part, part, parts, preorder}
-use Rattle.source_syntax.specs.Walk.{is_of}
+use Rattle.source_nodes.specs.Walk.{is_of}
 use Rattle.check_source.specs.Census.{is_asked, is_long, one_of}
 use Rattle.check_source.specs.declared.census.Census.{Census}
 use Rattle.check_members.specs.OwnMethods.{is_owner}

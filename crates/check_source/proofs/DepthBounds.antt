@@ -19,7 +19,7 @@ use Rattle.source_model.specs.OutOfRange.{types_too_deep}
 use Rattle.source_model.specs.Source.{Source}
 use Rattle.source_model.specs.TypeRules.{type_too_deep}
 use Rattle.source_model.specs.Types.{base_type, first_owner, owners_in, suffix, suffixed, suffixes, type_of, types_in}
-use Rattle.source_syntax.specs.Least.{least}
+use Rattle.source_nodes.specs.Least.{least}
 use Rattle.check_names.specs.TypeDepths.{is_modifier}
 use Rattle.check_names.proofs.DepthLemmas.{base_is, suffix_is}
 use Rattle.check_source.specs.Census.{is_long}

@@ -17,7 +17,7 @@ use Rattle.source_model.specs.Forest.{Forest, Part, part, is_among, parts, preor
 use Rattle.source_model.specs.Items.{declarations}
 use Rattle.source_model.specs.Nodes.{nothing_around}
 use Rattle.source_model.specs.Source.{Source}
-use Rattle.source_syntax.specs.Least.{least}
+use Rattle.source_nodes.specs.Least.{least}
 use Rattle.check_bodies.proofs.PastLemmas.{all_of}
 use Rattle.check_members.proofs.LoneLemmas.{none_twice}
 use Rattle.check_members.proofs.MemberWalks.{forests_other}

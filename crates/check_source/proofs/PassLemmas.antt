@@ -6,7 +6,7 @@ use Rattle.source_model.specs.DeclaredTwice.{members_twice}
 use Rattle.source_model.specs.OutOfRange.{nestings_too_deep, numbers_out_of_range}
 use Rattle.source_model.specs.Source.{Source}
 use Rattle.source_model.specs.Undeclared.{data_undeclared, scopes_undeclared, types_undeclared, typars_undeclared}
-use Rattle.source_syntax.specs.Least.{least, sooner}
+use Rattle.source_nodes.specs.Least.{least, sooner}
 use Rattle.source_syntax.proofs.LeastLemmas.{least_append}
 use Rattle.check_bodies.specs.AllOfBodies.{broken_in_bodies}
 use Rattle.check_visitor.proofs.LeastOfRules.{neither_rule}

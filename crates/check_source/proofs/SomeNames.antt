@@ -10,10 +10,10 @@ use Rattle.source_model.specs.Forest as tree
 use Rattle.source_model.specs.Forest.{Forest, below_each, each, part, parts, preorder}
 use Rattle.source_model.specs.Laws.{ForestsJoin}
 use Rattle.source_syntax.specs.Namings.{names_in, production_of, tokens_named}
-use Rattle.source_syntax.specs.Walk.{IsForest, Opens, is_of}
+use Rattle.source_nodes.specs.Walk.{IsForest, Opens, is_of}
 use Rattle.source_syntax.specs.declared.name_lists.Naming.{Naming}
-use Rattle.source_syntax.specs.declared.walk.Opened.{Opened}
-use Rattle.source_syntax.proofs.Collecting.{each_own}
+use Rattle.source_nodes.specs.declared.walk.Opened.{Opened}
+use Rattle.source_nodes.proofs.Collecting.{each_own}
 use Rattle.source_syntax.proofs.NamingLemmas.{Names}
 use Rattle.check_source.proofs.CensusLemmas.{count_branch, count_first, count_of, no_parts, one_if}
 

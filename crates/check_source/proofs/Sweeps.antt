@@ -15,12 +15,12 @@ use Rattle.source_model.specs.Laws.{ForestOpens, ForestsJoin, OneForest}
 use Rattle.source_model.specs.Nodes.{Node, entered, nodes, nodes_in, nothing_around}
 use Rattle.source_model.specs.Source.{Source}
 use Rattle.source_model.specs.TokenOrder.{TokensStandInOrder}
-use Rattle.source_syntax.specs.Derived.{DerivationsHaveBodies, FitsBody}
-use Rattle.source_syntax.specs.Least.{least, sooner}
-use Rattle.source_syntax.specs.Readers.{Reads}
-use Rattle.source_syntax.specs.Walk.{IsForest}
-use Rattle.source_syntax.specs.declared.reader.Reader.{Reader}
-use Rattle.source_syntax.proofs.Collecting.{of_joined}
+use Rattle.source_nodes.specs.Derived.{DerivationsHaveBodies, FitsBody}
+use Rattle.source_nodes.specs.Least.{least, sooner}
+use Rattle.source_nodes.specs.Readers.{Reads}
+use Rattle.source_nodes.specs.Walk.{IsForest}
+use Rattle.source_nodes.specs.declared.reader.Reader.{Reader}
+use Rattle.source_nodes.proofs.Collecting.{of_joined}
 use Rattle.source_syntax.proofs.LeastLemmas.{least_append, sooner_assoc, sooner_comm}
 use Rattle.source_syntax.proofs.MethodLemmas.{back_run, front_run, nothing_more}
 use Rattle.check_visitor.specs.Surroundings.{found_in, is_scope}

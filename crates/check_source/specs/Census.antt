@@ -5,7 +5,7 @@ use Rattle.ilasm_grammar.specs.declared.productions.TheConstants.{ASSEMBLY_ASSEM
 use Rattle.ilasm_grammar.specs.declared.tree.TreeNode.{TreeNode}
 use Rattle.ilasm_grammar.specs.declared.tree.TreeNode.TheVariants.{Branch, Leaf}
 use Rattle.source_model.specs.Forest.{is_among}
-use Rattle.source_syntax.specs.Walk.{is_of}
+use Rattle.source_nodes.specs.Walk.{is_of}
 use Rattle.check_source.specs.declared.census.Census.{Census}
 
 -- the productions that are asked for: what names an assembly or this module, data and what stands at it, an entry, what has

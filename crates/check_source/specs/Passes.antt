@@ -9,7 +9,7 @@ use Rattle.source_model.specs.Nodes.{nothing_around}
 use Rattle.source_model.specs.OutOfRange.{nestings_too_deep, numbers_out_of_range}
 use Rattle.source_model.specs.Source.{Source}
 use Rattle.source_model.specs.Undeclared.{data_undeclared, scopes_undeclared, types_undeclared, typars_undeclared}
-use Rattle.source_syntax.specs.Least.{least}
+use Rattle.source_nodes.specs.Least.{least}
 use Rattle.check_visitor.specs.Surroundings.{found_in}
 use Rattle.check_bodies.specs.AllOfBodies.{body_broken, broken_in_bodies}
 use Rattle.check_members.specs.MemberKinds.{twice_within}

@@ -2,8 +2,8 @@
 
 ghost use Rattle.std.specs.Prelude.{IfOk};
 ghost use Rattle.source_model.specs.Source.{Source};
-ghost use Rattle.source_syntax.specs.Readers.{Reads};
-ghost use Rattle.source_syntax.specs.Walk.{IsForest};
+ghost use Rattle.source_nodes.specs.Readers.{Reads};
+ghost use Rattle.source_nodes.specs.Walk.{IsForest};
 ghost use Rattle.check_source.specs.AllDeclared.{AreDeclarations};
 ghost use Rattle.check_source.specs.Census.{IsCensusOf};
 
@@ -12,8 +12,8 @@ use crate::declared_names::collect_some;
 use check_names::class_rules::{Classes, collect_classes};
 use il_base::NoMemory;
 use ilasm_grammar::productions::{ASSEMBLY_ASSEMBLY_ATTR_STAR, ASSEMBLY_EXTERN, DATA};
+use source_nodes::reader::Reader;
 use source_syntax::name_lists::{Named, Naming};
-use source_syntax::reader::Reader;
 use std::alloc::Global;
 
 /// The declarations of a source, by their names.

@@ -4,16 +4,16 @@ ghost use Rattle.std.specs.Prelude.{◌≡◌, count_by, IfOk};
 ghost use Rattle.source_model.specs.Forest.{Forest, preorder};
 ghost use Rattle.source_model.specs.Source.{Source};
 ghost use Rattle.source_syntax.specs.Namings.{AreNames, names_in, production_of};
-ghost use Rattle.source_syntax.specs.Readers.{Reads};
-ghost use Rattle.source_syntax.specs.Walk.{IsForest, is_of};
+ghost use Rattle.source_nodes.specs.Readers.{Reads};
+ghost use Rattle.source_nodes.specs.Walk.{IsForest, is_of};
 
 use il_base::{Items, NoMemory};
 use ilasm_grammar::TreeNode;
 use source_model::forests_join;
-use source_syntax::derived::derivations_have_bodies;
+use source_nodes::derived::derivations_have_bodies;
+use source_nodes::reader::Reader;
+use source_nodes::walk::{is_of, open};
 use source_syntax::name_lists::{Named, Naming, name_tokens, texts};
-use source_syntax::reader::Reader;
-use source_syntax::walk::{is_of, open};
 use std::alloc::Global;
 
 /// The names of all such declarations of a source, whose production so many nodes have. What stands behind them isn't looked at.

@@ -6,9 +6,9 @@ ghost use Rattle.source_model.specs.Denotes.{broken_d};
 ghost use Rattle.source_model.specs.Faults.{earliest};
 ghost use Rattle.source_model.specs.Forest.{preorder};
 ghost use Rattle.source_model.specs.Source.{Source};
-ghost use Rattle.source_syntax.specs.Least.{least};
-ghost use Rattle.source_syntax.specs.Readers.{Reads};
-ghost use Rattle.source_syntax.specs.Walk.{IsForest};
+ghost use Rattle.source_nodes.specs.Least.{least};
+ghost use Rattle.source_nodes.specs.Readers.{Reads};
+ghost use Rattle.source_nodes.specs.Walk.{IsForest};
 ghost use Rattle.check_names.specs.Breaches.{any_broken};
 ghost use Rattle.check_names.specs.Leasts.{AreTwice};
 ghost use Rattle.check_source.specs.AllDeclared.{AreDeclarations};
@@ -25,8 +25,8 @@ use check_names::merging::Breach;
 use check_visitor::repeats::{entry_twice, manifest_twice};
 use il_base::NoMemory;
 use ilasm_grammar::productions::{ASSEMBLY_ASSEMBLY_ATTR_STAR, DECL_MODULE, ITEM_ENTRYPOINT};
+use source_nodes::reader::Reader;
 use source_syntax::name_lists::{assembly_again, label_again};
-use source_syntax::reader::Reader;
 use std::alloc::Global;
 
 /// The first rule of class D that a source breaks, where `found` is the least token at which a rule is broken that is asked in

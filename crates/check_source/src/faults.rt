@@ -3,8 +3,8 @@
 
 ghost use Rattle.std.specs.Prelude.{◌≡◌, ◌<◌, ◌≤◌, ◌^◌, IfOk, length, option_map};
 ghost use Rattle.source_model.specs.Source.{Source, place_at};
-ghost use Rattle.source_syntax.specs.Readers.{Reads};
-ghost use Rattle.source_syntax.specs.Walk.{IsForest};
+ghost use Rattle.source_nodes.specs.Readers.{Reads};
+ghost use Rattle.source_nodes.specs.Walk.{IsForest};
 ghost use Rattle.check_source.specs.AllDeclared.{AreDeclarations};
 ghost use Rattle.check_source.specs.Census.{IsCensusOf};
 ghost use Rattle.check_source.specs.SourceFaults.{IsFault, IsFirst, classed};
@@ -19,7 +19,7 @@ use check_names::merging::Breach;
 use il_base::{NoMemory, Pos};
 use il_lexer::{end_place, place_of};
 use source_model::{NameClass, the_first_is_least};
-use source_syntax::reader::Reader;
+use source_nodes::reader::Reader;
 use std::alloc::Global;
 
 /// The first rule that a source breaks: its class, its number in that class, and where.

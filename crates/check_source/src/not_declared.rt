@@ -11,12 +11,12 @@ ghost use Rattle.source_model.specs.Nodes.{Node};
 ghost use Rattle.source_model.specs.Source.{Source};
 ghost use Rattle.source_model.specs.TypeRules.{breaks_signature, is_nothing};
 ghost use Rattle.source_model.specs.Undeclared.{accessors_undeclared, objects_undeclared, scopes_undeclared};
-ghost use Rattle.source_syntax.specs.Least.{least};
+ghost use Rattle.source_nodes.specs.Least.{least};
 ghost use Rattle.source_syntax.specs.Namings.{AreNames};
-ghost use Rattle.source_syntax.specs.Readers.{Reads};
+ghost use Rattle.source_nodes.specs.Readers.{Reads};
 ghost use Rattle.source_syntax.specs.declared.name_lists.Naming.TheVariants as naming;
 ghost use Rattle.check_members.specs.BrokenSignatures.{part_broken};
-ghost use Rattle.source_syntax.specs.Walk.{IsForest};
+ghost use Rattle.source_nodes.specs.Walk.{IsForest};
 ghost use Rattle.check_names.specs.Breaches.{any_broken};
 ghost use Rattle.check_names.specs.DeclaredClasses.{AreClasses};
 ghost use Rattle.check_names.specs.Leasts.{AreUndeclared};
@@ -40,8 +40,8 @@ use check_names::undeclared::{label_undeclared as data_undeclared, typar_undecla
 use check_visitor::repeats::without_assembly;
 use il_base::NoMemory;
 use ilasm_grammar::productions::{EVENT, PROPERTY};
+use source_nodes::reader::Reader;
 use source_syntax::name_lists::Named;
-use source_syntax::reader::Reader;
 use std::alloc::Global;
 
 /// The first rule of class N that a source breaks, where `found` is the least token at which a rule is broken that is asked in

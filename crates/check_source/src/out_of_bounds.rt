@@ -8,9 +8,9 @@ ghost use Rattle.source_model.specs.Faults.{earliest};
 ghost use Rattle.source_model.specs.Forest.{preorder};
 ghost use Rattle.source_model.specs.OutOfRange.{numbers_out_of_range, types_too_deep};
 ghost use Rattle.source_model.specs.Source.{Source};
-ghost use Rattle.source_syntax.specs.Least.{least};
-ghost use Rattle.source_syntax.specs.Readers.{Reads};
-ghost use Rattle.source_syntax.specs.Walk.{IsForest};
+ghost use Rattle.source_nodes.specs.Least.{least};
+ghost use Rattle.source_nodes.specs.Readers.{Reads};
+ghost use Rattle.source_nodes.specs.Walk.{IsForest};
 ghost use Rattle.check_names.specs.Breaches.{any_broken};
 ghost use Rattle.check_names.specs.Leasts.{AreUnbounded};
 ghost use Rattle.check_data.specs.FieldFaults.{AreDataFaults};
@@ -32,8 +32,8 @@ use check_names::out_of_range::number_out_of_range;
 use check_names::type_depths::type_too_deep;
 use il_base::NoMemory;
 use ilasm_grammar::productions::AT_NAME;
-use source_syntax::least::sooner;
-use source_syntax::reader::Reader;
+use source_nodes::least::sooner;
+use source_nodes::reader::Reader;
 use std::alloc::Global;
 
 /// The first rule of class B that a source breaks, where `found` is the least token at which a rule is broken that is asked in

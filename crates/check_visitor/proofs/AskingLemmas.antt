@@ -14,14 +14,14 @@ use Rattle.source_model.specs.Laws.{ForestOpens, ForestsJoin, OneForest}
 use Rattle.source_model.specs.Nodes.{Around, Node, entered, nodes_in, class_token, type_id, typar_names, typars}
 use Rattle.source_model.specs.Source.{Source}
 use Rattle.source_model.specs.Values.{name_text}
-use Rattle.source_syntax.specs.Derived.{FitsBody, HasBodies}
-use Rattle.source_syntax.specs.Least.{least, sooner}
+use Rattle.source_nodes.specs.Derived.{FitsBody, HasBodies}
+use Rattle.source_nodes.specs.Least.{least, sooner}
 use Rattle.check_visitor.specs.Surroundings.{found_in, is_scope, HasParameters, IsQuiet, IsSurrounding, PassesQuiet}
-use Rattle.source_syntax.specs.Readers.{Reads}
-use Rattle.source_syntax.specs.Walk.{IsForest}
+use Rattle.source_nodes.specs.Readers.{Reads}
+use Rattle.source_nodes.specs.Walk.{IsForest}
 use Rattle.check_visitor.specs.declared.asking.Surrounding.{Surrounding}
-use Rattle.source_syntax.specs.declared.reader.Reader.{Reader}
-use Rattle.source_syntax.proofs.Collecting.{of_joined}
+use Rattle.source_nodes.specs.declared.reader.Reader.{Reader}
+use Rattle.source_nodes.proofs.Collecting.{of_joined}
 use Rattle.source_syntax.proofs.LabelTokens.{all_append}
 use Rattle.source_syntax.proofs.LeastLemmas.{flat_append, least_append, sooner_assoc}
 use Rattle.source_syntax.proofs.SizeLemmas.{child_smaller, few_each}

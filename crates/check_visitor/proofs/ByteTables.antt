@@ -5,7 +5,7 @@ use Rattle.std.specs.List.{list_all}
 use Rattle.std.proofs.lemmas.Bool.{ltb-true}
 use Rattle.std.proofs.lemmas.Bool.Decides.{Decides-eqb}
 use Rattle.source_model.specs.Forest.{is_among}
-use Rattle.source_syntax.proofs.WrittenNames.{both_true}
+use Rattle.source_nodes.proofs.WrittenNames.{both_true}
 
 -- the byte with this number isn't zero
 abbrev pub byte_at : List ℕ → ℕ → Bool

@@ -5,7 +5,7 @@ use Rattle.source_model.specs.Forest as tree
 use Rattle.source_model.specs.Forest.{Forest, each, first_token, joined, preorder}
 use Rattle.source_model.specs.Laws.{ForestsJoin}
 use Rattle.source_model.specs.TypeRules.{first_of}
-use Rattle.source_syntax.specs.Least.{least}
+use Rattle.source_nodes.specs.Least.{least}
 use Rattle.source_syntax.proofs.SizeLemmas.{few_each}
 use Rattle.check_visitor.proofs.RepeatLemmas.{drop_none, each_other, each_own}
 

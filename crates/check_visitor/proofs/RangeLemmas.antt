@@ -12,13 +12,13 @@ use Rattle.source_model.specs.OutOfRange.{is_16_bits, is_32_bits, is_natural_wit
 use Rattle.source_model.specs.Source.{Source}
 use Rattle.source_model.specs.TypeRules.{is_within, unless}
 use Rattle.source_model.specs.Types.{int_type}
-use Rattle.source_syntax.specs.Integers.{distance}
-use Rattle.source_syntax.specs.Least.{least, sooner}
+use Rattle.source_nodes.specs.Integers.{distance}
+use Rattle.source_nodes.specs.Least.{least, sooner}
 use Rattle.check_visitor.specs.NumberTests.{test_of, unsigned_bits, version_out_of_range}
-use Rattle.source_syntax.specs.Readers.{Reads}
+use Rattle.source_nodes.specs.Readers.{Reads}
 use Rattle.check_visitor.specs.declared.ranges.Test.{Test}
 use Rattle.check_visitor.specs.declared.ranges.Test.TheVariants.{ImageBase, FileAlignment, CorFlags, Implementation, Pack}
-use Rattle.source_syntax.specs.declared.reader.Reader.{Reader}
+use Rattle.source_nodes.specs.declared.reader.Reader.{Reader}
 use Rattle.source_syntax.proofs.LeastLemmas.{least_append, sooner_assoc}
 
 -- what is further from 0 than both bounds lies outside

@@ -5,7 +5,7 @@ use Rattle.source_model.specs.Forest as tree
 use Rattle.source_model.specs.Forest.{Forest, Part, part, parts, each, below_each, has, is_any_part, joined}
 use Rattle.source_model.specs.Laws.{ForestsJoin}
 use Rattle.source_model.specs.Undeclared.{end_unless_some}
-use Rattle.source_syntax.specs.Least.{least, sooner}
+use Rattle.source_nodes.specs.Least.{least, sooner}
 use Rattle.check_visitor.specs.Picks.{picked, picked_past}
 use Rattle.check_visitor.specs.declared.repeats.Pick.{Pick}
 use Rattle.source_syntax.proofs.LeastLemmas.{sooner_assoc}

@@ -7,22 +7,22 @@ ghost use Rattle.source_model.specs.Forest.{Forest, preorder};
 ghost use Rattle.source_model.specs.Nodes.{Around, Node, entered, nodes, nothing_around, typar_names};
 ghost use Rattle.source_model.specs.Parameters.{parameters};
 ghost use Rattle.source_model.specs.Source.{Source};
-ghost use Rattle.source_syntax.specs.Least.{least};
-ghost use Rattle.source_syntax.specs.Derived.{HasBodies};
+ghost use Rattle.source_nodes.specs.Least.{least};
+ghost use Rattle.source_nodes.specs.Derived.{HasBodies};
 ghost use Rattle.check_visitor.specs.Surroundings.{found_in, is_scope, HasParameters, IsDerived, IsNode, IsQuiet, IsSurrounding, PassesQuiet};
-ghost use Rattle.source_syntax.specs.Readers.{Reads};
-ghost use Rattle.source_syntax.specs.Walk.{IsForest};
+ghost use Rattle.source_nodes.specs.Readers.{Reads};
+ghost use Rattle.source_nodes.specs.Walk.{IsForest};
 
 use crate::counts::count_each;
 use il_base::{Boxed, NoMemory};
 use ilasm_grammar::{TreeNode, productions};
 use source_model::{derivations_are_forests, forests_join, forests_open};
+use source_nodes::derived::derivations_have_bodies;
+use source_nodes::least::sooner;
+use source_nodes::reader::Reader;
+use source_nodes::walk::{child, next};
 use source_syntax::declared::Declared;
-use source_syntax::derived::derivations_have_bodies;
-use source_syntax::least::sooner;
 use source_syntax::name_lists::typar_names;
-use source_syntax::reader::Reader;
-use source_syntax::walk::{child, next};
 use std::alloc::Global;
 
 /// What stands around a place: the number of the classes that it is in, counted up to 101, the nodes below the innermost of
@@ -54,7 +54,7 @@ pub trait Rule {
     ghost use Rattle.std.specs.Prelude.{◌≡◌, ℕ, List, None, false};
     ghost use Rattle.source_model.specs.Nodes.{Node};
     ghost use Rattle.source_model.specs.Source.{Source};
-    ghost use Rattle.source_syntax.specs.Least.{least};
+    ghost use Rattle.source_nodes.specs.Least.{least};
     ghost use Rattle.check_visitor.specs.Surroundings.{is_scope};
 
     /// The tokens at which a production breaks it.

@@ -6,15 +6,15 @@ ghost use Rattle.source_model.specs.Nodes.{Node};
 ghost use Rattle.source_model.specs.Source.{Source};
 ghost use Rattle.source_model.specs.TypeRules.{arguments_out_of_range, first_of, generic_number_out_of_range, index_out_of_range, past_count, second_ellipsis, typars_out_of_range};
 ghost use Rattle.source_model.specs.Variables.{locals};
-ghost use Rattle.source_syntax.specs.Least.{least};
-ghost use Rattle.source_syntax.specs.Readers.{Reads};
-ghost use Rattle.source_syntax.specs.Walk.{IsForest};
+ghost use Rattle.source_nodes.specs.Least.{least};
+ghost use Rattle.source_nodes.specs.Readers.{Reads};
+ghost use Rattle.source_nodes.specs.Walk.{IsForest};
 
 use crate::ranges::outside;
 use ilasm_grammar::{TreeNode, productions};
 use source_model::{derivations_are_forests, forests_join, forests_open};
-use source_syntax::reader::Reader;
-use source_syntax::walk::{first_token, has, leaf_at, next, the};
+use source_nodes::reader::Reader;
+use source_nodes::walk::{first_token, has, leaf_at, next, the};
 
 // How many parameters, arguments or generic parameters one owner may have.
 const MOST: usize = 65_535;

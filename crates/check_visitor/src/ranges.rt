@@ -8,17 +8,17 @@ ghost use Rattle.source_model.specs.OutOfRange.{fits_width, is_32_bits, is_natur
 ghost use Rattle.source_model.specs.Source.{Source};
 ghost use Rattle.source_model.specs.TypeRules.{is_within, unless};
 ghost use Rattle.source_model.specs.Values.{int_at};
-ghost use Rattle.source_syntax.specs.Integers.{distance};
-ghost use Rattle.source_syntax.specs.Least.{least};
+ghost use Rattle.source_nodes.specs.Integers.{distance};
+ghost use Rattle.source_nodes.specs.Least.{least};
 ghost use Rattle.check_visitor.specs.NumberTests.{bits_in, keeps_within, test_of};
-ghost use Rattle.source_syntax.specs.Readers.{Reads};
-ghost use Rattle.source_syntax.specs.Walk.{IsForest};
+ghost use Rattle.source_nodes.specs.Readers.{Reads};
+ghost use Rattle.source_nodes.specs.Walk.{IsForest};
 
 use ilasm_grammar::TreeNode;
 use source_model::{derivations_are_forests, forests_join, forests_open};
-use source_syntax::least::sooner;
-use source_syntax::reader::Reader;
-use source_syntax::walk::{leaf_at, next};
+use source_nodes::least::sooner;
+use source_nodes::reader::Reader;
+use source_nodes::walk::{leaf_at, next};
 
 /// A test that a number without a sign must pass.
 #[derive(Debug, Clone, Copy, PartialEq, Eq, Drop)]

@@ -5,16 +5,16 @@ ghost use Rattle.source_model.specs.DeclaredTwice.{entries_twice, manifests_twic
 ghost use Rattle.source_model.specs.Forest.{Forest, preorder};
 ghost use Rattle.source_model.specs.Source.{Source};
 ghost use Rattle.source_model.specs.Undeclared.{assembly_undeclared};
-ghost use Rattle.source_syntax.specs.Least.{least};
+ghost use Rattle.source_nodes.specs.Least.{least};
 ghost use Rattle.check_visitor.specs.Picks.{picked, picked_past};
-ghost use Rattle.source_syntax.specs.Readers.{Reads};
-ghost use Rattle.source_syntax.specs.Walk.{IsForest};
+ghost use Rattle.source_nodes.specs.Readers.{Reads};
+ghost use Rattle.source_nodes.specs.Walk.{IsForest};
 
 use ilasm_grammar::{TreeNode, productions};
 use source_model::{derivations_are_forests, forests_join, forests_open};
-use source_syntax::least::sooner;
-use source_syntax::reader::Reader;
-use source_syntax::walk::{first_token, has, leaf_at, next};
+use source_nodes::least::sooner;
+use source_nodes::reader::Reader;
+use source_nodes::walk::{first_token, has, leaf_at, next};
 
 /// Which token stands for a declaration: the first below its production, or one at the top there, counted from 0.
 #[derive(Debug, Clone, Copy, PartialEq, Eq, Drop)]

@@ -22,13 +22,13 @@ use Rattle.lower_manifest.specs.Chosen.{are_of}
 use Rattle.source_flags.specs.declared.gathering.Kind.TheVariants.{Declarations, One}
 use Rattle.lower_manifest.proofs.Among.{externs_declared}
 use Rattle.source_flags.proofs.Gathered.{IsSought, all_follow, of_parts}
-use Rattle.source_syntax.specs.Derived.{Fits, HasBodies}
+use Rattle.source_nodes.specs.Derived.{Fits, HasBodies}
 use Rattle.source_syntax.specs.Namings.{tokens_named}
 use Rattle.source_syntax.specs.Places.{IsAt}
-use Rattle.source_syntax.specs.Readers.{Reads}
+use Rattle.source_nodes.specs.Readers.{Reads}
 use Rattle.source_syntax.specs.declared.name_lists.Naming.TheVariants as naming
 use Rattle.source_syntax.specs.declared.place.Place.{Place}
-use Rattle.source_syntax.proofs.PieceLemmas.{mapped_below}
+use Rattle.source_nodes.proofs.PieceLemmas.{mapped_below}
 use Rattle.source_syntax.proofs.SizeLemmas.{few_each}
 use Rattle.lower_manifest.proofs.ExternLemmas.{mapped_flat}
 use Rattle.elaborate.specs.ClassParts.{AreGlobals}

@@ -18,19 +18,19 @@ use Rattle.source_model.specs.Nodes.{Around, typar_names, typars}
 use Rattle.source_model.specs.Source.{Source}
 use Rattle.source_model.specs.Values.{name_text}
 use Rattle.source_model.specs.Forest as tree
-use Rattle.source_syntax.specs.Pieces.{ArePieces, piece_of, written}
+use Rattle.source_nodes.specs.Pieces.{ArePieces, piece_of, written}
 use Rattle.source_syntax.specs.Places.{IsAt}
-use Rattle.source_syntax.specs.declared.pieces.Piece.{Piece}
-use Rattle.source_syntax.specs.Readers.{Reads}
+use Rattle.source_nodes.specs.declared.pieces.Piece.{Piece}
+use Rattle.source_nodes.specs.Readers.{Reads}
 use Rattle.source_syntax.specs.declared.place.Place.{Place}
 use Rattle.source_syntax.proofs.NameTokens.{terminals_of_rule}
-use Rattle.source_syntax.proofs.ShapeLemmas.{few_parts}
+use Rattle.source_nodes.proofs.ShapeLemmas.{few_parts}
 use Rattle.source_syntax.proofs.SizeLemmas.{child_smaller, few_each}
 use Rattle.source_flags.specs.InRange.{AllInRange, IsInRange}
 use Rattle.source_flags.specs.Lines.{productions_of}
 use Rattle.source_flags.specs.declared.gathering.Kind.TheVariants.{Members}
 use Rattle.source_flags.proofs.Gathered.{IsSought, all_follow, of_parts}
-use Rattle.lower_members.specs.Ranged.{IsRanged}
+use Rattle.param_lines.specs.Ranged.{IsRanged}
 use Rattle.lower_members.specs.SignedMethods.{declared, signed}
 use Rattle.elaborate.specs.Bases.{is_outside}
 use Rattle.elaborate.specs.ClassParts.{AreMembers, IsHead, IsKnown, inner, is_accessed}

@@ -19,9 +19,9 @@ use Rattle.source_flags.proofs.Apart.{is_past, mask_of, same_outside}
 use Rattle.source_flags.proofs.Gathered.{has_bodies}
 use Rattle.ilasm_grammar.specs.Ilasm.{has_bit}
 use Rattle.ilasm_grammar.proofs.TableCheck.{ilasm_tables}
-use Rattle.source_syntax.specs.Derived.{FitsBody, HasBodies}
+use Rattle.source_nodes.specs.Derived.{FitsBody, HasBodies}
 use Rattle.elaborate.proofs.ClassLemmas.{all_ranged}
-use Rattle.source_syntax.proofs.Collecting.{no_forest, of_joined}
+use Rattle.source_nodes.proofs.Collecting.{no_forest, of_joined}
 use Rattle.elaborate.specs.ClassParts.{inner}
 use Rattle.elaborate.specs.WholeParts.{AllWhole, IsWhole}
 

@@ -28,8 +28,8 @@ use Rattle.source_model.specs.Laws.{OneMeaning}
 use Rattle.source_model.specs.Source.{Source}
 use Rattle.source_model.specs.Undeclared.{types_undeclared, scopes_undeclared, objects_undeclared, typars_undeclared, accessors_undeclared, assembly_undeclared, data_undeclared, end_unless_some}
 use Rattle.source_model.specs.declared.fault.NameClass.{NameClass}
-use Rattle.source_syntax.specs.Readers.{Reads}
-use Rattle.source_syntax.specs.declared.reader.Reader.{Reader}
+use Rattle.source_nodes.specs.Readers.{Reads}
+use Rattle.source_nodes.specs.declared.reader.Reader.{Reader}
 use Rattle.elaborate.specs.Elaborated.{IsCause}
 use Rattle.elaborate.specs.declared.name_fault.NameFault.{NameFault}
 use Rattle.elaborate.specs.declared.name_fault.NameFault.TheVariants.{Bad, NoMemory}

@@ -23,7 +23,7 @@ use Rattle.ilasm_grammar.proofs.Tables.{all_below}
 use Rattle.source_model.specs.Forest.{Forest, Part, none, leaf, branch, part, parts, parts_outside, is_among}
 use Rattle.source_model.specs.Items.{members}
 use Rattle.source_model.specs.Source.{Source}
-use Rattle.source_syntax.specs.Derived.{Fits, FitsBody, FitsRule, HasBodies}
+use Rattle.source_nodes.specs.Derived.{Fits, FitsBody, FitsRule, HasBodies}
 use Rattle.source_flags.specs.Lines.{productions_of}
 use Rattle.source_flags.specs.declared.gathering.Kind.TheVariants.{Members, One}
 use Rattle.source_flags.proofs.Apart.{all_in, all_outside, are_apart, stays}

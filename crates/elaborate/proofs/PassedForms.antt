@@ -7,7 +7,7 @@ use Rattle.ilasm_grammar.proofs.Tables.{all_below}
 use Rattle.source_flags.proofs.Apart.{all_outside, are_apart, stays}
 use Rattle.source_model.specs.Forest.{Forest, parts, parts_outside}
 use Rattle.source_model.specs.Source.{Source}
-use Rattle.source_syntax.specs.Derived.{HasBodies}
+use Rattle.source_nodes.specs.Derived.{HasBodies}
 use Rattle.elaborate.specs.Standing.{passed_forms}
 
 -- the nonterminals that stand somewhere below what is gone past

@@ -21,7 +21,7 @@ use Rattle.source_flags.specs.InRange.{AllInRange, IsInRange}
 use Rattle.source_flags.proofs.Bits.{passes_at}
 use Rattle.source_flags.proofs.Gathered.{all_append}
 use Rattle.lower_members.specs.ClassSizes as word
-use Rattle.lower_members.specs.Ranged.{IsRanged}
+use Rattle.param_lines.specs.Ranged.{IsRanged}
 use Rattle.check_data.specs.DeclaredSizes as asked
 use Rattle.elaborate.specs.KnownSizes.{known_size}
 use Rattle.elaborate.proofs.ClassLemmas.{members_ranged}

@@ -13,7 +13,7 @@ use Rattle.source_model.specs.Items.{members}
 use Rattle.source_model.specs.Names.{class_at, is_path}
 use Rattle.source_model.specs.Nodes.{Around, Node, entered, nodes, nodes_in, nodes_of, nothing_around}
 use Rattle.source_model.specs.Source.{Source}
-use Rattle.source_syntax.specs.Derived.{OfEach}
+use Rattle.source_nodes.specs.Derived.{OfEach}
 use Rattle.lower_members.specs.ClassSizes.{size_numbered}
 use Rattle.source_flags.specs.Lines.{productions_of}
 use Rattle.source_flags.specs.declared.gathering.Kind.TheVariants.{Members}

@@ -8,8 +8,8 @@ use Rattle.ilasm_grammar.specs.declared.tree.TreeNode.TheVariants.{Branch, Leaf}
 use Rattle.source_model.specs.Forest as tree
 use Rattle.source_model.specs.Forest.{Forest, Part, is_among, is_any_part, joined, part, parts_outside, preorder}
 use Rattle.source_model.specs.Laws.{ForestOpens, ForestsJoin, OneForest}
-use Rattle.source_syntax.specs.Walk.{IsForest}
-use Rattle.source_syntax.proofs.Collecting.{no_forest}
+use Rattle.source_nodes.specs.Walk.{IsForest}
+use Rattle.source_nodes.proofs.Collecting.{no_forest}
 use Rattle.elaborate.specs.Standing.{IsStanding, passed_forms, stands_outside}
 use Rattle.elaborate.specs.declared.standing.Standing.{Standing}
 

@@ -13,7 +13,7 @@ use Rattle.source_model.specs.Nodes.{Around, class_token, nothing_around, type_i
 use Rattle.source_model.specs.Parameters.{generics}
 use Rattle.source_model.specs.Source.{Source}
 use Rattle.source_model.specs.Types.{owners_in}
-use Rattle.source_syntax.specs.Readers.{Reads}
+use Rattle.source_nodes.specs.Readers.{Reads}
 use Rattle.elaborate.specs.declared.assemblies.Globals.{Globals}
 use Rattle.elaborate.specs.declared.classes.Known.{Known}
 use Rattle.elaborate.specs.declared.class_heads.Head.{Head}

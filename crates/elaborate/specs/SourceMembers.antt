@@ -1,8 +1,8 @@
 -- What is known of a source wherever its members are read.
 use Rattle.source_flags.specs.InRange.{AllInRange}
 use Rattle.source_model.specs.Source.{Source}
-use Rattle.source_syntax.specs.Readers.{Reads}
-use Rattle.source_syntax.specs.declared.reader.Reader.{Reader}
+use Rattle.source_nodes.specs.Readers.{Reads}
+use Rattle.source_nodes.specs.declared.reader.Reader.{Reader}
 use Rattle.lower_members.specs.ClassSizes.{AreSizes}
 use Rattle.lower_members.specs.LabelledData.{AreData}
 use Rattle.lower_members.specs.declared.class_sizes.ClassSizes.{ClassSizes}

@@ -17,7 +17,7 @@ use Rattle.ilasm_grammar.specs.declared.productions.TheConstants.{
 }
 use Rattle.ilasm_grammar.specs.declared.tree.TreeNode.{TreeNode}
 use Rattle.source_model.specs.Forest.{Forest, is_any_part, parts_outside}
-use Rattle.source_syntax.specs.Walk.{is_of}
+use Rattle.source_nodes.specs.Walk.{is_of}
 
 -- what stands in the head of a class, and the members and declarations in which no data and no size of a class stands
 -- (ECMA-335 II.10.1, II.10.2)

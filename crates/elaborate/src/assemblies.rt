@@ -9,10 +9,10 @@ ghost use Rattle.source_model.specs.Forest.{has};
 ghost use Rattle.source_model.specs.Items.{declarations};
 ghost use Rattle.source_model.specs.Nodes.{nothing_around};
 ghost use Rattle.source_model.specs.Source.{Source};
-ghost use Rattle.source_syntax.specs.Pieces.{ArePieces, AreParts};
+ghost use Rattle.source_nodes.specs.Pieces.{ArePieces, AreParts};
 ghost use Rattle.source_syntax.specs.Places.{IsAt};
-ghost use Rattle.source_syntax.specs.Readers.{Reads};
-ghost use Rattle.source_syntax.specs.Walk.{IsForest};
+ghost use Rattle.source_nodes.specs.Readers.{Reads};
+ghost use Rattle.source_nodes.specs.Walk.{IsForest};
 
 use crate::classes::{Known, classes_in};
 use crate::cores::core_scope;
@@ -23,10 +23,10 @@ use il_base::NoMemory;
 use lower_manifest::externs::extern_assemblies;
 use lower_manifest::manifests::manifest;
 use source_flags::gathering::{Kind, parts_of};
+use source_nodes::pieces::Piece;
+use source_nodes::reader::Reader;
 use source_syntax::declared::Declared;
-use source_syntax::pieces::Piece;
 use source_syntax::place::Place;
-use source_syntax::reader::Reader;
 use std::alloc::Global;
 
 /// The assembly that a source denotes whose productions are whole and which has the declaration of an assembly.

@@ -8,15 +8,15 @@ ghost use Rattle.source_model.specs.Forest.{Forest, preorder};
 ghost use Rattle.source_model.specs.Nodes.{Around};
 ghost use Rattle.source_model.specs.Source.{Source};
 ghost use Rattle.source_syntax.specs.Places.{IsAt};
-ghost use Rattle.source_syntax.specs.Walk.{IsForest};
+ghost use Rattle.source_nodes.specs.Walk.{IsForest};
 ghost use Rattle.type_terms.specs.declared.name.TypeId.{TypeId};
 
 use crate::cores::object_id;
 use il_base::NoMemory;
 use ilasm_grammar::TreeNode;
 use ilasm_grammar::productions::{EXTENDS, EXTENDS_OPT_SOME};
+use source_nodes::walk::{child, has};
 use source_syntax::place::Place;
-use source_syntax::walk::{child, has};
 use std::alloc::Global;
 use type_terms::{Owner, Path, Scope, TypeId, TypeName};
 

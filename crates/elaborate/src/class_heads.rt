@@ -12,9 +12,9 @@ ghost use Rattle.source_model.specs.Items.{members};
 ghost use Rattle.source_model.specs.Nodes.{Around};
 ghost use Rattle.source_model.specs.Source.{Source};
 ghost use Rattle.source_model.specs.Types.{owners_in};
-ghost use Rattle.source_syntax.specs.Pieces.{ArePieces, AreParts};
+ghost use Rattle.source_nodes.specs.Pieces.{ArePieces, AreParts};
 ghost use Rattle.source_syntax.specs.Places.{IsAt};
-ghost use Rattle.source_syntax.specs.Walk.{IsForest};
+ghost use Rattle.source_nodes.specs.Walk.{IsForest};
 
 use crate::bases::{base, is_root};
 use assembly_tree::Layout;
@@ -24,9 +24,9 @@ use ilasm_grammar::productions::IMPLEMENTS_OPT_SOME;
 use lower_members::layouts::layout;
 use sorted_owners::rising;
 use source_flags::declared_flags::type_flags;
-use source_syntax::pieces::Piece;
+use source_nodes::pieces::Piece;
+use source_nodes::walk::{child, leaf_at};
 use source_syntax::place::Place;
-use source_syntax::walk::{child, leaf_at};
 use std::alloc::Global;
 use type_terms::{Owner, Owners, Scope, TypeId};
 

@@ -12,9 +12,9 @@ ghost use Rattle.source_model.specs.Members.{methods};
 ghost use Rattle.source_model.specs.Nodes.{Around};
 ghost use Rattle.source_model.specs.Source.{Source};
 ghost use Rattle.lower_manifest.specs.Runs.{is_custom};
-ghost use Rattle.source_syntax.specs.Pieces.{ArePieces, AreParts};
+ghost use Rattle.source_nodes.specs.Pieces.{ArePieces, AreParts};
 ghost use Rattle.source_syntax.specs.Places.{IsAt};
-ghost use Rattle.source_syntax.specs.Walk.{IsForest};
+ghost use Rattle.source_nodes.specs.Walk.{IsForest};
 
 use crate::member_reader::MemberReader;
 use assembly_tree::{Attributes, Events, Fields, Generics, Method, Methods, Properties};
@@ -28,7 +28,7 @@ use lower_manifest::runs::own_customs;
 use lower_members::events::events;
 use lower_members::method_tables::MethodTable;
 use lower_members::properties::properties;
-use source_syntax::pieces::Piece;
+use source_nodes::pieces::Piece;
 use source_syntax::place::Place;
 use std::alloc::Global;
 

@@ -12,9 +12,9 @@ ghost use Rattle.source_model.specs.Forest.{Forest, preorder};
 ghost use Rattle.source_model.specs.Items.{members};
 ghost use Rattle.source_model.specs.Nodes.{Around, typar_names};
 ghost use Rattle.source_model.specs.Source.{Source};
-ghost use Rattle.source_syntax.specs.Pieces.{ArePieces, AreParts};
+ghost use Rattle.source_nodes.specs.Pieces.{ArePieces, AreParts};
 ghost use Rattle.source_syntax.specs.Places.{IsAt};
-ghost use Rattle.source_syntax.specs.Walk.{IsForest};
+ghost use Rattle.source_nodes.specs.Walk.{IsForest};
 
 use crate::class_heads::{Head, read_head};
 use crate::class_members::{Members, read_members};
@@ -24,12 +24,12 @@ use assembly_tree::{TypeDef, TypeDefs};
 use il_base::{Items, NoMemory};
 use ilasm_grammar::{TreeNode, productions};
 use source_model::{derivations_are_forests, forests_join, forests_open};
+use source_nodes::pieces::Piece;
+use source_nodes::reader::Reader;
+use source_nodes::walk::{child, next};
 use source_syntax::declared::Declared;
 use source_syntax::name_lists::typar_names;
-use source_syntax::pieces::Piece;
 use source_syntax::place::Place;
-use source_syntax::reader::Reader;
-use source_syntax::walk::{child, next};
 use std::alloc::Global;
 use type_terms::Scope;
 

@@ -8,14 +8,14 @@ ghost use Rattle.source_model.specs.Classes.{core_names, core_scope, system_obje
 ghost use Rattle.source_model.specs.Manifests.{extern_assemblies};
 ghost use Rattle.source_model.specs.Names.{is_declared_path};
 ghost use Rattle.source_model.specs.Source.{Source};
-ghost use Rattle.source_syntax.specs.Readers.{Reads};
-ghost use Rattle.source_syntax.specs.Walk.{IsForest};
+ghost use Rattle.source_nodes.specs.Readers.{Reads};
+ghost use Rattle.source_nodes.specs.Walk.{IsForest};
 
 use assembly_tree::ExternAssembly;
 use check_names::class_rules::collect_classes;
 use il_base::{NoMemory, Text};
-use source_syntax::narrowing::word_of;
-use source_syntax::reader::Reader;
+use source_nodes::narrowing::word_of;
+use source_nodes::reader::Reader;
 use std::alloc::Global;
 use type_terms::{Scope, TypeId};
 

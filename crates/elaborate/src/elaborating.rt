@@ -28,7 +28,7 @@ use ilasm_grammar::{Tree, one_derivation};
 use laws_formed_sources::laws::what_is_denoted_is_formed;
 use lower_methods::laws::faultless_sources_are_whole;
 use source_model::{derivations_are_forests, one_meaning};
-use source_syntax::reader::Reader;
+use source_nodes::reader::Reader;
 use std::alloc::Global;
 
 /// The assembly that a source of at most 2^27 bytes denotes, which is well formed, from its at most 2^24 tokens and their

@@ -6,22 +6,22 @@ ghost use Rattle.source_model.specs.Forest.{Forest, parts, preorder};
 ghost use Rattle.source_model.specs.Items.{declarations};
 ghost use Rattle.source_model.specs.Names.{extern_key, externs, key_token};
 ghost use Rattle.source_model.specs.Source.{Source};
-ghost use Rattle.source_syntax.specs.Derived.{HasBodies};
-ghost use Rattle.source_syntax.specs.Pieces.{ArePieces, AreParts};
-ghost use Rattle.source_syntax.specs.Readers.{Reads};
-ghost use Rattle.source_syntax.specs.Walk.{IsForest};
+ghost use Rattle.source_nodes.specs.Derived.{HasBodies};
+ghost use Rattle.source_nodes.specs.Pieces.{ArePieces, AreParts};
+ghost use Rattle.source_nodes.specs.Readers.{Reads};
+ghost use Rattle.source_nodes.specs.Walk.{IsForest};
 
 use il_base::{Items, NoMemory};
 use ilasm_grammar::TreeNode;
 use ilasm_grammar::productions::{ALIAS, ASSEMBLY_EXTERN, DECL_ASSEMBLY};
 use lower_manifest::chosen::pieces_among;
 use source_flags::gathering::{Kind, parts_of};
+use source_nodes::derived::derivations_have_bodies;
+use source_nodes::pieces::{Piece, nodes_of};
+use source_nodes::reader::Reader;
+use source_nodes::walk::{has, leaf_at, the};
 use source_syntax::declared::Declared;
-use source_syntax::derived::derivations_have_bodies;
 use source_syntax::name_lists::texts;
-use source_syntax::pieces::{Piece, nodes_of};
-use source_syntax::reader::Reader;
-use source_syntax::walk::{has, leaf_at, the};
 use std::alloc::Global;
 
 /// The keys by which a source names other assemblies in order, from all declarations of the source.

@@ -10,8 +10,8 @@ ghost use Rattle.source_flags.specs.InRange.{AllInRange};
 ghost use Rattle.source_model.specs.Classes.{assembly};
 ghost use Rattle.source_model.specs.Forest.{has};
 ghost use Rattle.source_model.specs.Source.{Source};
-ghost use Rattle.source_syntax.specs.Readers.{Reads};
-ghost use Rattle.source_syntax.specs.Walk.{IsForest};
+ghost use Rattle.source_nodes.specs.Readers.{Reads};
+ghost use Rattle.source_nodes.specs.Walk.{IsForest};
 
 use crate::assemblies::read_assembly;
 use crate::known_sizes::read_sizes;
@@ -21,7 +21,7 @@ use assembly_tree::Assembly;
 use il_base::NoMemory;
 use ilasm_grammar::productions::{DATA, MEMBER_SIZE};
 use lower_members::labelled_data::{LabelledData, collect_data, no_data};
-use source_syntax::reader::Reader;
+use source_nodes::reader::Reader;
 use std::alloc::Global;
 
 /// The assembly that a source denotes, whose productions are whole and which has the declaration of an assembly; `plain` where it

@@ -5,14 +5,14 @@ ghost use Rattle.elaborate.specs.HeadForms.{head_forms};
 ghost use Rattle.source_flags.specs.Lines.{productions_of};
 ghost use Rattle.source_flags.specs.declared.gathering.Kind.TheVariants.{Members};
 ghost use Rattle.source_model.specs.Forest.{Forest, is_among, parts_outside, preorder};
-ghost use Rattle.source_syntax.specs.Pieces.{ArePieces};
-ghost use Rattle.source_syntax.specs.Walk.{IsForest};
+ghost use Rattle.source_nodes.specs.Pieces.{ArePieces};
+ghost use Rattle.source_nodes.specs.Walk.{IsForest};
 
 use il_base::{Items, NoMemory};
 use ilasm_grammar::{TreeNode, productions};
 use source_flags::gathering::{Kind, is_of_kind};
 use source_model::{derivations_are_forests, forests_join, forests_open};
-use source_syntax::pieces::Piece;
+use source_nodes::pieces::Piece;
 
 /// Gathers the members of a class in a list, in place of what it held, from what stands below the class's production. The head of
 /// the class is gone past.

@@ -8,15 +8,15 @@ ghost use Rattle.lower_members.specs.ClassSizes.{AreSizes};
 ghost use Rattle.source_flags.specs.InRange.{AllInRange};
 ghost use Rattle.source_model.specs.Forest.{parts};
 ghost use Rattle.source_model.specs.Source.{Source};
-ghost use Rattle.source_syntax.specs.Readers.{Reads};
-ghost use Rattle.source_syntax.specs.Walk.{IsForest};
+ghost use Rattle.source_nodes.specs.Readers.{Reads};
+ghost use Rattle.source_nodes.specs.Walk.{IsForest};
 
 use check_data::declared_sizes::collect_sizes;
 use check_names::class_rules::collect_classes;
 use il_base::{Items, NoMemory};
 use lower_members::class_sizes::ClassSizes;
+use source_nodes::reader::Reader;
 use source_syntax::class_paths::ClassPaths;
-use source_syntax::reader::Reader;
 use std::alloc::Global;
 
 /// The sizes of the classes of a source, from whether a class states one.

@@ -2,21 +2,21 @@
 //! and the classes that it nests, and the assembly as a whole.
 #![tactic(auto)]
 
-pub mod assemblies;
-pub mod bases;
-pub mod class_heads;
-pub mod class_members;
-pub mod classes;
-pub mod cores;
-pub mod elaborating;
-pub mod extern_keys;
-pub mod faultless_sources;
-pub mod gathering;
-pub mod known_sizes;
-pub mod member_reader;
-pub mod name_fault;
-pub mod source_members;
-pub mod standing;
+mod assemblies;
+mod bases;
+mod class_heads;
+mod class_members;
+mod classes;
+mod cores;
+mod elaborating;
+mod extern_keys;
+mod faultless_sources;
+mod gathering;
+mod known_sizes;
+mod member_reader;
+mod name_fault;
+mod source_members;
+mod standing;
 
 pub use elaborating::{elaborate, elaborate_spans};
 pub use name_fault::NameFault;

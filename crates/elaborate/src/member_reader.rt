@@ -3,7 +3,7 @@
 use assembly_tree::{Fields, Generics, Methods};
 use il_base::NoMemory;
 use ilasm_grammar::TreeNode;
-use source_syntax::pieces::Piece;
+use source_nodes::pieces::Piece;
 use source_syntax::place::Place;
 use std::alloc::Global;
 
@@ -12,7 +12,7 @@ pub trait MemberReader {
     ghost use Rattle.std.specs.Prelude.{◌≡◌, ◌<◌, ◌^◌, IfOk, List, length};
     ghost use Rattle.std.specs.List.{AllByRecursion};
     ghost use Rattle.elaborate.specs.WholeParts.{IsWholePart};
-    ghost use Rattle.lower_members.specs.Ranged.{IsRanged};
+    ghost use Rattle.param_lines.specs.Ranged.{IsRanged};
     ghost use Rattle.source_flags.specs.InRange.{AllInRange};
     ghost use Rattle.source_model.specs.Forest.{Forest, Part, preorder};
     ghost use Rattle.source_model.specs.Items.{runs};
@@ -20,9 +20,9 @@ pub trait MemberReader {
     ghost use Rattle.source_model.specs.Nodes.{Around};
     ghost use Rattle.source_model.specs.Parameters.{generics};
     ghost use Rattle.source_model.specs.Source.{Source};
-    ghost use Rattle.source_syntax.specs.Pieces.{ArePieces, AreParts};
+    ghost use Rattle.source_nodes.specs.Pieces.{ArePieces, AreParts};
     ghost use Rattle.source_syntax.specs.Places.{IsAt};
-    ghost use Rattle.source_syntax.specs.Walk.{IsForest};
+    ghost use Rattle.source_nodes.specs.Walk.{IsForest};
 
     /// It knows what it needs of a source.
     ghost knows: { Self → Source → Type 0 };

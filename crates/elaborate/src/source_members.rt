@@ -11,9 +11,9 @@ use lower_members::fields::{FieldContext, fields};
 use lower_members::generics::generics;
 use lower_members::labelled_data::LabelledData;
 use lower_methods::method_lists::methods;
-use source_syntax::pieces::Piece;
+use source_nodes::pieces::Piece;
+use source_nodes::reader::Reader;
 use source_syntax::place::Place;
-use source_syntax::reader::Reader;
 use std::alloc::Global;
 
 /// A source with its data and the sizes of its classes.

@@ -3,11 +3,11 @@
 ghost use Rattle.std.specs.Prelude.{◌≡◌, ◌||◌, ◌==◌, true};
 ghost use Rattle.elaborate.specs.Standing.{HaveNeither, IsStanding, passed_forms};
 ghost use Rattle.source_model.specs.Forest.{Forest, is_among, preorder};
-ghost use Rattle.source_syntax.specs.Walk.{IsForest};
+ghost use Rattle.source_nodes.specs.Walk.{IsForest};
 
 use ilasm_grammar::{TreeNode, productions};
 use source_model::{derivations_are_forests, forests_join, forests_open};
-use source_syntax::walk::next;
+use source_nodes::walk::next;
 
 /// Of each of two productions, whether a part of it stands somewhere.
 #[derive(Debug, Clone, Copy, PartialEq, Eq, Drop)]

@@ -3,7 +3,7 @@
 ghost use Rattle.laws_formed_sources.specs.bodies.Laws.{BodiesAreFormed, BodiesHaveForm, BodiesNameWell, InstructionsFit, MethodsHaveBodies, NodesAreGood, ShortBranchesReach};
 
 use il_lexer::{the_longest_spelling_is_taken, tokens_are_spellings};
-use source_syntax::derived::derivations_have_bodies;
+use source_nodes::derived::derivations_have_bodies;
 
 /// In a source that breaks no rule each production breaks none, with what stands below it, and at most 65,535 generic
 /// parameters of a class and of a method stand around it (ECMA-335 II.10.1.7).

@@ -2,7 +2,7 @@
 
 ghost use Rattle.laws_formed_sources.specs.contents.Laws.{FieldsHaveContents};
 
-use source_syntax::derived::derivations_have_bodies;
+use source_nodes::derived::derivations_have_bodies;
 
 /// In a source that breaks no rule, a field has no data, or as many bytes as a value of its type has in the assembly that the
 /// source denotes (ECMA-335 II.16.3, II.22.18).

@@ -2,7 +2,7 @@
 
 ghost use Rattle.laws_formed_sources.specs.members.Laws.{AccessorsAreMethods, OneEntry};
 
-use source_syntax::derived::derivations_have_bodies;
+use source_nodes::derived::derivations_have_bodies;
 
 /// In a source that breaks no rule the accessors of a class's properties and events are among its methods (ECMA-335 II.17,
 /// II.18, II.22.28).

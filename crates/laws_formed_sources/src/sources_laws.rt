@@ -4,7 +4,7 @@ ghost use Rattle.laws_formed_sources.specs.sources.Remaining.{RemainsSuffice};
 ghost use Rattle.laws_formed_sources.specs.sources.Laws.{AllAreFaultless, ClassesAreDeclared, EventsAreFormed, FieldRefsAreFormed, FieldsAreFormed, MethodRefsAreFormed, MethodsAreFormed, OwnersAreFormed, PlainRefsAreFormed, PropertiesAreFormed, SignaturesAreFormed, TypesAreFormed};
 
 use il_lexer::{the_longest_spelling_is_taken, tokens_are_spellings};
-use source_syntax::derived::derivations_have_bodies;
+use source_nodes::derived::derivations_have_bodies;
 use type_terms::orders_are_total;
 
 /// In a source that breaks no rule, each production breaks none.

@@ -19,9 +19,9 @@ use Rattle.source_model.specs.Source.{Source}
 use Rattle.source_model.specs.TypeRules.{past_count}
 use Rattle.source_model.specs.Variables.{local_types, locals}
 use Rattle.source_syntax.specs.Methods.{IsMethod}
-use Rattle.source_syntax.specs.Pieces.{ArePieces, piece_of, written}
-use Rattle.source_syntax.specs.declared.pieces.Piece.{Piece}
-use Rattle.source_syntax.proofs.SoundLemmas.{nothing_in}
+use Rattle.source_nodes.specs.Pieces.{ArePieces, piece_of, written}
+use Rattle.source_nodes.specs.declared.pieces.Piece.{Piece}
+use Rattle.source_nodes.proofs.Empties.{nothing_in}
 use Rattle.source_flags.specs.InRange.{AllInRange}
 use Rattle.lower_bodies.specs.MethodsInRange.{IsMethodInRange}
 use Rattle.lower_bodies.specs.WholeBodies.{IsBodyOf}

@@ -15,10 +15,10 @@ use Rattle.source_model.specs.Forest.{Forest, is_among, joined, part, parts, pre
 use Rattle.source_model.specs.Nodes.{Around}
 use Rattle.source_model.specs.Source.{Source}
 use Rattle.source_model.specs.Types.{the_owner}
-use Rattle.source_syntax.specs.Derived.{FitsBody, HasBodies, OfEach}
-use Rattle.source_syntax.specs.Walk.{Opens, is_of}
-use Rattle.source_syntax.specs.declared.walk.Opened.{Opened}
-use Rattle.source_syntax.proofs.Collecting.{SoFar, ends, goes_in, starts}
+use Rattle.source_nodes.specs.Derived.{FitsBody, HasBodies, OfEach}
+use Rattle.source_nodes.specs.Walk.{Opens, is_of}
+use Rattle.source_nodes.specs.declared.walk.Opened.{Opened}
+use Rattle.source_nodes.proofs.Collecting.{SoFar, ends, goes_in, starts}
 use Rattle.source_flags.specs.InRange.{AllInRange, IsInRange}
 use Rattle.source_flags.specs.declared.outside.Shut.TheVariants.{Instructions}
 use Rattle.source_flags.proofs.Apart.{same_outside}

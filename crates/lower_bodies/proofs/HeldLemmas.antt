@@ -10,8 +10,8 @@ use Rattle.source_model.specs.Clauses.{clause_forms}
 use Rattle.source_model.specs.Forest as tree
 use Rattle.source_model.specs.Forest.{Forest, Part, is_among, is_any_part, joined, part, parts, parts_outside, preorder}
 use Rattle.source_model.specs.Laws.{ForestOpens, ForestsJoin, OneForest}
-use Rattle.source_syntax.specs.Derived.{HasBodies}
-use Rattle.source_syntax.specs.Walk.{IsForest}
+use Rattle.source_nodes.specs.Derived.{HasBodies}
+use Rattle.source_nodes.specs.Walk.{IsForest}
 use Rattle.source_model.specs.Source.{Source}
 use Rattle.lower_bodies.specs.HeldItems.{AddsTo, IsHeld, holding_nothing, holds, line_forms, passed_forms, told_forms}
 use Rattle.lower_bodies.specs.declared.held.Held.{Held}

@@ -13,9 +13,9 @@ use Rattle.source_model.specs.Nodes.{Around}
 use Rattle.source_model.specs.Operands.{instruction}
 use Rattle.source_model.specs.Source.{Source}
 use Rattle.ilasm_grammar.specs.declared.tree.TreeNode.{TreeNode}
-use Rattle.source_syntax.specs.Pieces.{ArePieces, piece_of, written}
-use Rattle.source_syntax.specs.declared.pieces.Piece.{Piece}
-use Rattle.source_syntax.proofs.SoundLemmas.{nothing_in}
+use Rattle.source_nodes.specs.Pieces.{ArePieces, piece_of, written}
+use Rattle.source_nodes.specs.declared.pieces.Piece.{Piece}
+use Rattle.source_nodes.proofs.Empties.{nothing_in}
 use Rattle.source_flags.specs.InRange.{IsInRange}
 use Rattle.source_flags.proofs.Gathered.{IsSought, all_at, of_parts}
 use Rattle.lower_bodies.specs.MethodsInRange.{IsInstructionInRange, IsMethodInRange}

@@ -11,7 +11,7 @@ use Rattle.source_model.specs.Forest as tree
 use Rattle.source_model.specs.Forest.{Forest, Part, part, parts_outside, preorder, is_among, joined, leaf_at}
 use Rattle.source_model.specs.Instructions.{instruction_forms}
 use Rattle.source_model.specs.Laws.{ForestOpens, ForestsJoin, OneForest}
-use Rattle.source_syntax.specs.Walk.{IsForest}
+use Rattle.source_nodes.specs.Walk.{IsForest}
 
 -- the first tokens at the top of some parts
 abbrev pub tokens_at : List Part → List ℕ

@@ -7,7 +7,7 @@ use Rattle.ilasm_grammar.specs.declared.productions.TheConstants.{DEF_ARG, DEF_A
 use Rattle.lower_manifest.proofs.Absent.{none_in_parts, nothing_of}
 use Rattle.source_model.specs.Forest.{Forest, child, has, is_any_part, leaf_at, parts}
 use Rattle.source_model.specs.Parameters.{parameters}
-use Rattle.source_syntax.specs.declared.pieces.Piece.{Piece}
+use Rattle.source_nodes.specs.declared.pieces.Piece.{Piece}
 use Rattle.lower_bodies.specs.NamedVariables.{names_of, numbers_from}
 
 pub no_pieces : (xs : List Piece) → (length xs == 0) ≡ true → xs ≡ []

@@ -17,7 +17,7 @@ use Rattle.source_model.specs.TypeRules.{is_within}
 use Rattle.source_model.specs.Values.{little_number, real_bytes}
 use Rattle.source_model.specs.Variables.{variable_number, variable_token}
 use Rattle.source_flags.proofs.Bits.{of_16_bits}
-use Rattle.source_syntax.proofs.WrittenNames.{both_true}
+use Rattle.source_nodes.proofs.WrittenNames.{both_true}
 use Rattle.lower_bodies.proofs.RealParts.{real_forms}
 
 holds : (c : Bool) (k : ℕ) → (if c then [] else k ∷ []) ≡ [] → c ≡ true

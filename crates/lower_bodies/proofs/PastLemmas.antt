@@ -12,7 +12,7 @@ use Rattle.source_model.specs.Clauses.{clause_forms}
 use Rattle.source_model.specs.Forest.{Forest, is_among, parts, parts_outside}
 use Rattle.source_model.specs.Instructions.{instruction_forms}
 use Rattle.source_model.specs.Source.{Source}
-use Rattle.source_syntax.specs.Derived.{HasBodies}
+use Rattle.source_nodes.specs.Derived.{HasBodies}
 use Rattle.lower_bodies.specs.HeldItems.{going_forms, head_forms, line_forms, passed_forms, told_forms}
 
 pub local_past : is_past Instructions (LOCAL ∷ []) ≡ true

@@ -26,13 +26,13 @@ use Rattle.ilasm_grammar.specs.declared.symbol.Symbol.TheVariants.{Nonterminal, 
 use Rattle.ilasm_grammar.specs.declared.terminals.TheConstants as t
 use Rattle.source_model.specs.Forest.{Forest, none, leaf, branch, has, leaf_at, the}
 use Rattle.source_model.specs.Source.{Source}
-use Rattle.source_syntax.specs.Derived.{Fits, FitsBody, HasBodies, head_of}
-use Rattle.source_syntax.specs.Readers.{IsOf}
+use Rattle.source_nodes.specs.Derived.{Fits, FitsBody, HasBodies, head_of}
+use Rattle.source_nodes.specs.Readers.{IsOf}
 use Rattle.source_syntax.proofs.BodyLemmas.{fits_has, has_own}
 use Rattle.source_syntax.proofs.NameTokens.{IsBody, name_at, terminals_of_rule, the_body}
 use Rattle.source_syntax.proofs.ReferenceLemmas.{sound_part}
 use Rattle.source_syntax.proofs.VariableLemmas.{within_in}
-use Rattle.source_syntax.proofs.WrittenNames.{fits_rule, one_in}
+use Rattle.source_nodes.proofs.WrittenNames.{fits_rule, one_in}
 use Rattle.source_flags.specs.InRange.{AllInRange, IsInRange}
 use Rattle.lower_manifest.proofs.ConstantLemmas.{the_has}
 use Rattle.lower_manifest.proofs.Tokens.{array_at}

@@ -7,7 +7,7 @@ use Rattle.std.proofs.lemmas.Nat.{mod_below}
 use Rattle.std.proofs.lemmas.Slice.Eq.{bytes_eq-Decides}
 use Rattle.source_model.specs.Source.{Source}
 use Rattle.source_model.specs.Values.{name_text}
-use Rattle.source_syntax.proofs.PieceLemmas.{take_next}
+use Rattle.source_nodes.proofs.PieceLemmas.{take_next}
 use Rattle.lower_bodies.specs.LabelSlots.{first_named, if_named, numbered, slot_of}
 
 -- ---- what is found in a list with one item more

@@ -12,14 +12,14 @@ use Rattle.ilasm_grammar.specs.declared.symbol.Symbol.TheVariants.{Terminal, Non
 use Rattle.ilasm_grammar.specs.declared.terminals.TheConstants as t
 use Rattle.source_model.specs.Forest.{Forest, none, leaf, branch, child, each, has, is_any_part, leaf_at, part, parts}
 use Rattle.source_model.specs.Source.{Source}
-use Rattle.source_syntax.specs.Derived.{Fits, FitsBody, HasBodies, head_of}
+use Rattle.source_nodes.specs.Derived.{Fits, FitsBody, HasBodies, head_of}
 use Rattle.source_syntax.specs.Methods.{AreNames}
-use Rattle.source_syntax.specs.Readers.{IsOf}
+use Rattle.source_nodes.specs.Readers.{IsOf}
 use Rattle.source_syntax.proofs.BodyLemmas.{StaysChosen, all_in, closed_rule, enters, has_child, nowhere_below}
 use Rattle.source_syntax.proofs.LabelTokens.{all_append}
 use Rattle.source_syntax.proofs.NameTokens.{Each, IsBody, each_body, name_at, terminals_of_rule}
 use Rattle.source_syntax.proofs.VariableLemmas.{index_is}
-use Rattle.source_syntax.proofs.WrittenNames.{fits_rule}
+use Rattle.source_nodes.proofs.WrittenNames.{fits_rule}
 use Rattle.lower_bodies.specs.NamedVariables.{name_of, names_of}
 
 -- ---- names of parameters and locals

@@ -5,12 +5,12 @@ use Rattle.source_model.specs.Forest.{Forest, preorder}
 use Rattle.source_model.specs.Instructions.{instruction_forms, instructions_of, labels}
 use Rattle.source_model.specs.Source.{Source}
 use Rattle.source_syntax.specs.Methods.{AreNames}
-use Rattle.source_syntax.specs.Pieces.{ArePieces}
-use Rattle.source_syntax.specs.Readers.{Reads}
+use Rattle.source_nodes.specs.Pieces.{ArePieces}
+use Rattle.source_nodes.specs.Readers.{Reads}
 use Rattle.source_syntax.proofs.LabelTokens.{labels_are_names}
 use Rattle.source_syntax.proofs.OpTokens.{instructions_have_tokens}
 use Rattle.source_syntax.proofs.OrderLemmas.{starts_never_fall}
-use Rattle.source_syntax.proofs.PieceLemmas.{as_many}
+use Rattle.source_nodes.proofs.PieceLemmas.{as_many}
 use Rattle.lower_bodies.specs.CodePlaces.{HaveNames, IsCode}
 use Rattle.lower_bodies.specs.MethodsInRange.{IsMethodInRange}
 use Rattle.lower_bodies.specs.declared.code_places.Code.{Code}

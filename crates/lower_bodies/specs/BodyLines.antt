@@ -3,7 +3,7 @@ use Rattle.std.specs.Prelude.{◌≡◌, List}
 use Rattle.ilasm_grammar.specs.declared.tree.TreeNode.{TreeNode}
 use Rattle.source_model.specs.Forest.{Forest}
 use Rattle.source_model.specs.Instructions.{instructions_of, labels}
-use Rattle.source_syntax.specs.Pieces.{ArePieces}
+use Rattle.source_nodes.specs.Pieces.{ArePieces}
 use Rattle.lower_bodies.specs.HeldItems.{IsHeld}
 use Rattle.lower_bodies.specs.declared.body_lines.Lines.{Lines}
 

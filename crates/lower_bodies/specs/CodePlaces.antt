@@ -6,8 +6,8 @@ use Rattle.source_model.specs.Instructions.{instructions_of, labels, mnemonic_to
 use Rattle.source_model.specs.Source.{Source}
 use Rattle.source_model.specs.Values.{name_text}
 use Rattle.source_syntax.specs.Methods.{AreNames}
-use Rattle.source_syntax.specs.Pieces.{ArePieces}
-use Rattle.source_syntax.specs.Readers.{Reads}
+use Rattle.source_nodes.specs.Pieces.{ArePieces}
+use Rattle.source_nodes.specs.Readers.{Reads}
 use Rattle.lower_bodies.specs.LabelSlots.{HaveSlots}
 use Rattle.lower_bodies.specs.declared.code_places.Code.{Code}
 use Rattle.lower_bodies.specs.declared.code_places.Names.{Names}

@@ -2,7 +2,7 @@
 use Rattle.std.specs.Prelude.{◌≡◌, ℕ, zero, suc, ◌/◌, ◌%◌, ◌^◌, List, Option, None, Some, bit_xor, bytes_eq, find, get_or, if◌then◌else◌, slice_get}
 use Rattle.source_model.specs.Source.{Source}
 use Rattle.source_model.specs.Values.{name_text}
-use Rattle.source_syntax.specs.TextHash.{text_hash}
+use Rattle.source_nodes.specs.TextHash.{text_hash}
 
 -- the first of some tokens that is this name
 abbrev pub first_named : Source → List ℕ → List ℕ → Option ℕ

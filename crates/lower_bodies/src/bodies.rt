@@ -11,9 +11,9 @@ ghost use Rattle.source_model.specs.Nodes.{Around, Node};
 ghost use Rattle.source_model.specs.Source.{Source};
 ghost use Rattle.source_flags.specs.InRange.{AllInRange};
 ghost use Rattle.source_syntax.specs.Methods.{IsMethod};
-ghost use Rattle.source_syntax.specs.Pieces.{ArePieces, AreParts};
+ghost use Rattle.source_nodes.specs.Pieces.{ArePieces, AreParts};
 ghost use Rattle.source_syntax.specs.Places.{IsAt};
-ghost use Rattle.source_syntax.specs.Walk.{IsForest};
+ghost use Rattle.source_nodes.specs.Walk.{IsForest};
 ghost use Rattle.lower_bodies.specs.BodyLines.{AreLines};
 ghost use Rattle.lower_bodies.specs.BodyPlaces.{IsWithin};
 ghost use Rattle.lower_bodies.specs.CodePlaces.{HaveNames, IsCode};
@@ -34,10 +34,10 @@ use assembly_tree::Body;
 use il_base::NoMemory;
 use ilasm_grammar::TreeNode;
 use ilasm_grammar::productions::INSTRUCTION_OP_VAR;
+use source_nodes::pieces::Piece;
+use source_nodes::reader::Reader;
 use source_syntax::labels::names_at;
-use source_syntax::pieces::Piece;
 use source_syntax::place::Place;
-use source_syntax::reader::Reader;
 use std::alloc::Global;
 
 /// How long, in bytes, each of two labels may be that are compared one by one.

@@ -6,17 +6,17 @@ ghost use Rattle.lower_bodies.specs.HeldItems.{going_forms, head_forms};
 ghost use Rattle.source_model.specs.Forest.{Forest, is_among, preorder};
 ghost use Rattle.source_model.specs.Instructions.{instruction_forms};
 ghost use Rattle.source_model.specs.Source.{Source};
-ghost use Rattle.source_syntax.specs.Derived.{HasBodies};
-ghost use Rattle.source_syntax.specs.Pieces.{AreParts};
-ghost use Rattle.source_syntax.specs.Walk.{IsForest};
+ghost use Rattle.source_nodes.specs.Derived.{HasBodies};
+ghost use Rattle.source_nodes.specs.Pieces.{AreParts};
+ghost use Rattle.source_nodes.specs.Walk.{IsForest};
 
 use crate::held::{Held, is_told};
 use crate::labels::Labels;
 use il_base::{Items, NoMemory};
 use ilasm_grammar::{TreeNode, productions};
 use source_model::{derivations_are_forests, forests_join, forests_open};
-use source_syntax::pieces::{Piece, nodes_of};
-use source_syntax::walk::leaf_at;
+use source_nodes::pieces::{Piece, nodes_of};
+use source_nodes::walk::leaf_at;
 use std::alloc::Global;
 
 /// The productions of the instructions of a method and the tokens of the names of its labels, each in order, and what else it holds.

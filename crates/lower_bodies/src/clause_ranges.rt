@@ -6,16 +6,16 @@ ghost use Rattle.source_model.specs.Clauses.{block_in, filter_start, handler_ran
 ghost use Rattle.source_model.specs.Forest.{Forest, preorder};
 ghost use Rattle.source_model.specs.Source.{Source};
 ghost use Rattle.lower_bodies.specs.CodePlaces.{IsCode};
-ghost use Rattle.source_syntax.specs.Derived.{HasBodies};
-ghost use Rattle.source_syntax.specs.Readers.{IsOf};
-ghost use Rattle.source_syntax.specs.Walk.{IsForest};
+ghost use Rattle.source_nodes.specs.Derived.{HasBodies};
+ghost use Rattle.source_nodes.specs.Readers.{IsOf};
+ghost use Rattle.source_nodes.specs.Walk.{IsForest};
 ghost use Rattle.lower_bodies.specs.Ranges.{range_of};
 
 use crate::code_places::Code;
 use il_base::NoMemory;
 use ilasm_grammar::{TreeNode, productions};
 use source_model::{derivations_are_forests, forests_open};
-use source_syntax::walk::{child, leaf_at, next};
+use source_nodes::walk::{child, leaf_at, next};
 use std::alloc::Global;
 
 /// Instructions by their numbers, from the first up to the one behind the last.

@@ -6,7 +6,7 @@ ghost use Rattle.source_model.specs.Forest.{Forest, is_among, part, preorder};
 ghost use Rattle.source_model.specs.Nodes.{Around};
 ghost use Rattle.source_model.specs.Source.{Source};
 ghost use Rattle.source_flags.specs.InRange.{AllInRange};
-ghost use Rattle.source_syntax.specs.Walk.{IsForest};
+ghost use Rattle.source_nodes.specs.Walk.{IsForest};
 ghost use Rattle.lower_bodies.specs.BodyPlaces.{IsWithin};
 ghost use Rattle.lower_bodies.specs.ClauseNodes.{IsClause, IsNoClause};
 
@@ -16,7 +16,7 @@ use assembly_tree::{Clause, ClauseKind, Clauses};
 use il_base::{Items, NoMemory};
 use ilasm_grammar::{TreeNode, productions};
 use source_model::forests_join;
-use source_syntax::walk::{is_of, open};
+use source_nodes::walk::{is_of, open};
 use std::alloc::Global;
 
 /// The exception clauses of a method in the order of their last tokens, from the nodes below the method's production.

@@ -11,19 +11,19 @@ ghost use Rattle.source_model.specs.Source.{Source};
 ghost use Rattle.source_syntax.specs.Labels.{count_below};
 ghost use Rattle.source_model.specs.Values.{name_text};
 ghost use Rattle.source_syntax.specs.Methods.{AreNames};
-ghost use Rattle.source_syntax.specs.Pieces.{ArePieces};
-ghost use Rattle.source_syntax.specs.Readers.{IsOf, Reads};
+ghost use Rattle.source_nodes.specs.Pieces.{ArePieces};
+ghost use Rattle.source_nodes.specs.Readers.{IsOf, Reads};
 
 use crate::label_slots::{SLOTS, number_in};
 use il_base::NoMemory;
 use ilasm_grammar::TreeNode;
 use source_model::{derivations_are_forests, forests_join, forests_open};
+use source_nodes::equality::are_equal;
+use source_nodes::narrowing::word_of;
+use source_nodes::pieces::{Piece, nodes_of};
+use source_nodes::reader::Reader;
+use source_nodes::walk::next;
 use source_syntax::declared::Declared;
-use source_syntax::equality::are_equal;
-use source_syntax::narrowing::word_of;
-use source_syntax::pieces::{Piece, nodes_of};
-use source_syntax::reader::Reader;
-use source_syntax::walk::next;
 use std::alloc::Global;
 
 /// How a label of a method is found by its name.

@@ -9,10 +9,10 @@ ghost use Rattle.source_model.specs.Forest.{Forest, parts, preorder};
 ghost use Rattle.source_model.specs.Nodes.{Around};
 ghost use Rattle.source_model.specs.Source.{Source};
 ghost use Rattle.source_flags.specs.InRange.{AllInRange};
-ghost use Rattle.source_syntax.specs.Derived.{HasBodies};
-ghost use Rattle.source_syntax.specs.Pieces.{ArePieces, AreParts};
-ghost use Rattle.source_syntax.specs.Readers.{Reads};
-ghost use Rattle.source_syntax.specs.Walk.{IsForest};
+ghost use Rattle.source_nodes.specs.Derived.{HasBodies};
+ghost use Rattle.source_nodes.specs.Pieces.{ArePieces, AreParts};
+ghost use Rattle.source_nodes.specs.Readers.{Reads};
+ghost use Rattle.source_nodes.specs.Walk.{IsForest};
 ghost use Rattle.lower_bodies.specs.BodyPlaces.{IsWithin};
 ghost use Rattle.lower_bodies.specs.HeldItems.{IsHeld};
 
@@ -26,8 +26,8 @@ use ilasm_grammar::productions::LOCAL;
 use lower_manifest::bounds::bound;
 use source_flags::gathering::Kind;
 use source_flags::outside::{Shut, parts_outside};
-use source_syntax::pieces::Piece;
-use source_syntax::reader::Reader;
+use source_nodes::pieces::Piece;
+use source_nodes::reader::Reader;
 use std::alloc::Global;
 
 /// The productions of a method's locals.

@@ -6,7 +6,7 @@ ghost use Rattle.source_model.specs.Forest.{Forest};
 ghost use Rattle.source_model.specs.Instructions.{instructions_of};
 ghost use Rattle.source_model.specs.Nodes.{Around};
 ghost use Rattle.source_model.specs.Source.{Source};
-ghost use Rattle.source_syntax.specs.Pieces.{ArePieces, AreParts};
+ghost use Rattle.source_nodes.specs.Pieces.{ArePieces, AreParts};
 ghost use Rattle.lower_bodies.specs.BodyPlaces.{IsWithin};
 ghost use Rattle.lower_bodies.specs.MethodsInRange.{IsMethodInRange};
 
@@ -15,7 +15,7 @@ use crate::operands::push_instruction;
 use assembly_tree::Code;
 use il_base::{Items, NoMemory};
 use ilasm_grammar::TreeNode;
-use source_syntax::pieces::{Piece, nodes_of};
+use source_nodes::pieces::{Piece, nodes_of};
 use std::alloc::Global;
 
 /// The instructions of a method in order, from the nodes below its production and the productions of its instructions.

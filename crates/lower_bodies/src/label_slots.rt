@@ -7,10 +7,10 @@ ghost use Rattle.il_lexer.specs.declared.types.TokenKind.TheVariants.{Name};
 ghost use Rattle.source_model.specs.Source.{Source};
 ghost use Rattle.source_model.specs.Values.{name_text};
 ghost use Rattle.source_syntax.specs.Methods.{AreNames};
-ghost use Rattle.source_syntax.specs.Readers.{IsOf, Reads};
+ghost use Rattle.source_nodes.specs.Readers.{IsOf, Reads};
 
-use source_syntax::hashes::text_hash;
-use source_syntax::reader::Reader;
+use source_nodes::hashes::text_hash;
+use source_nodes::reader::Reader;
 
 // How many labels are found so. Eight names have slots of their own in about two of three methods; of more some mostly share one.
 const FEW: usize = 8;

@@ -7,12 +7,12 @@ ghost use Rattle.source_model.specs.Nodes.{Around};
 ghost use Rattle.source_model.specs.Source.{Source};
 ghost use Rattle.source_model.specs.Variables.{local_types};
 ghost use Rattle.source_flags.specs.InRange.{AllInRange};
-ghost use Rattle.source_syntax.specs.Pieces.{ArePieces, AreParts};
+ghost use Rattle.source_nodes.specs.Pieces.{ArePieces, AreParts};
 ghost use Rattle.source_syntax.specs.Places.{IsAt};
 
 use il_base::{Items, NoMemory};
 use ilasm_grammar::TreeNode;
-use source_syntax::pieces::{Piece, nodes_of};
+use source_nodes::pieces::{Piece, nodes_of};
 use source_syntax::place::Place;
 use std::alloc::Global;
 use type_terms::Types;

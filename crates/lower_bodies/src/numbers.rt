@@ -4,11 +4,11 @@ ghost use Rattle.std.specs.Prelude.{◌≡◌, ℤ, pos, negsuc, int_le, true};
 ghost use Rattle.source_model.specs.Operands.{number_in};
 ghost use Rattle.source_model.specs.Source.{Source};
 ghost use Rattle.source_model.specs.Values.{int_at};
-ghost use Rattle.source_syntax.specs.Readers.{Reads};
+ghost use Rattle.source_nodes.specs.Readers.{Reads};
 
 use lower_manifest::wrapping::number_in;
 use opcode_table::OperandKind;
-use source_syntax::reader::Reader;
+use source_nodes::reader::Reader;
 
 /// The number that an INT spells, as an operand of this kind holds it.
 pub fn number(reader: &Reader, kind: OperandKind, token: u32) -> i64

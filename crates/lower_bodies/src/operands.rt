@@ -15,10 +15,10 @@ ghost use Rattle.source_model.specs.Types.{the_owner};
 ghost use Rattle.source_model.specs.Variables.{variable_number};
 ghost use Rattle.lower_bodies.specs.CodePlaces.{IsCode};
 ghost use Rattle.source_flags.specs.InRange.{AllInRange, IsInRange};
-ghost use Rattle.source_syntax.specs.Derived.{FitsBody, HasBodies};
+ghost use Rattle.source_nodes.specs.Derived.{FitsBody, HasBodies};
 ghost use Rattle.source_syntax.specs.Methods.{AreNames};
 ghost use Rattle.source_syntax.specs.Places.{IsAt};
-ghost use Rattle.source_syntax.specs.Walk.{IsForest};
+ghost use Rattle.source_nodes.specs.Walk.{IsForest};
 ghost use Rattle.lower_bodies.specs.BodyPlaces.{IsWithin};
 ghost use Rattle.lower_bodies.specs.MethodsInRange.{IsInstructionInRange};
 ghost use Rattle.lower_bodies.specs.NamedVariables.{takes_variables};
@@ -44,10 +44,10 @@ use ilasm_grammar::productions::{
     TOKEN_OPERAND_METHOD,
 };
 use opcode_table::{Op, kind_of};
+use source_nodes::operations::op_of;
+use source_nodes::walk::{has, leaf_at, the};
 use source_syntax::labels;
-use source_syntax::operations::op_of;
 use source_syntax::place::Place;
-use source_syntax::walk::{has, leaf_at, the};
 use std::alloc::Global;
 
 /// Adds an instruction, from its production and the nodes below that.

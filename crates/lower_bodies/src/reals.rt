@@ -7,16 +7,16 @@ ghost use Rattle.source_model.specs.Forest.{Part, preorder};
 ghost use Rattle.source_model.specs.Operands.{real_bits};
 ghost use Rattle.source_model.specs.Source.{Source};
 ghost use Rattle.source_model.specs.Values.{little_number};
-ghost use Rattle.source_syntax.specs.Derived.{FitsBody, HasBodies};
-ghost use Rattle.source_syntax.specs.Readers.{Reads};
-ghost use Rattle.source_syntax.specs.Walk.{IsForest};
+ghost use Rattle.source_nodes.specs.Derived.{FitsBody, HasBodies};
+ghost use Rattle.source_nodes.specs.Readers.{Reads};
+ghost use Rattle.source_nodes.specs.Walk.{IsForest};
 
 use il_base::NoMemory;
 use ilasm_grammar::TreeNode;
 use ilasm_grammar::productions::{REAL_BITS_FLOAT32, REAL_BITS_FLOAT64, REAL_BITS_REAL_BYTES};
 use lower_manifest::wrapping::low_32;
-use source_syntax::reader::Reader;
-use source_syntax::walk::{has, leaf_at, the};
+use source_nodes::reader::Reader;
+use source_nodes::walk::{has, leaf_at, the};
 use std::alloc::Global;
 
 /// The bits of the real number of an instruction, from the nodes below its production.

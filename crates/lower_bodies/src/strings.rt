@@ -9,16 +9,16 @@ ghost use Rattle.source_model.specs.Forest.{Forest, preorder};
 ghost use Rattle.source_model.specs.Operands.{string_units};
 ghost use Rattle.source_model.specs.Source.{Source};
 ghost use Rattle.source_model.specs.Values.{array_bytes, units, units_of_bytes};
-ghost use Rattle.source_syntax.specs.Derived.{FitsBody, HasBodies};
-ghost use Rattle.source_syntax.specs.Readers.{IsOf, Reads};
-ghost use Rattle.source_syntax.specs.Walk.{IsForest};
+ghost use Rattle.source_nodes.specs.Derived.{FitsBody, HasBodies};
+ghost use Rattle.source_nodes.specs.Readers.{IsOf, Reads};
+ghost use Rattle.source_nodes.specs.Walk.{IsForest};
 
 use il_base::{Items, NoMemory, Units};
 use ilasm_grammar::TreeNode;
 use ilasm_grammar::productions::{STRING_OPERAND_BYTES, STRING_OPERAND_TEXT, TEXT};
 use lower_manifest::texts::text_in;
-use source_syntax::reader::Reader;
-use source_syntax::walk::{has, leaf_at, the};
+use source_nodes::reader::Reader;
+use source_nodes::walk::{has, leaf_at, the};
 use std::alloc::Global;
 
 /// The units of the string of an instruction, from the nodes below its production: those of a text, or those that bytes spell.

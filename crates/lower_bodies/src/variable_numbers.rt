@@ -8,9 +8,9 @@ ghost use Rattle.source_model.specs.Shapes.{natural};
 ghost use Rattle.source_model.specs.Source.{Source};
 ghost use Rattle.source_model.specs.Values.{or_zero};
 ghost use Rattle.source_model.specs.Variables.{variable_number};
-ghost use Rattle.source_syntax.specs.Derived.{FitsBody, HasBodies};
-ghost use Rattle.source_syntax.specs.Readers.{Reads};
-ghost use Rattle.source_syntax.specs.Walk.{IsForest};
+ghost use Rattle.source_nodes.specs.Derived.{FitsBody, HasBodies};
+ghost use Rattle.source_nodes.specs.Readers.{Reads};
+ghost use Rattle.source_nodes.specs.Walk.{IsForest};
 ghost use Rattle.lower_bodies.specs.NamedVariables.{AreVariables};
 
 use crate::variables::Variables;
@@ -18,9 +18,9 @@ use il_base::NoMemory;
 use ilasm_grammar::TreeNode;
 use ilasm_grammar::productions::{INDEX_INT, INDEX_NAME};
 use source_flags::naturals::natural_16;
-use source_syntax::operations::op_of;
-use source_syntax::reader::Reader;
-use source_syntax::walk::{child, has, leaf_at};
+use source_nodes::operations::op_of;
+use source_nodes::reader::Reader;
+use source_nodes::walk::{child, has, leaf_at};
 use std::alloc::Global;
 
 /// The number of the variable of an instruction, written as a number or by its name, from the nodes below its production.

@@ -18,9 +18,9 @@ use Rattle.ilasm_grammar.proofs.TableFacts.{at_rule}
 use Rattle.ilasm_grammar.proofs.Tables.{all_below, implies}
 use Rattle.source_model.specs.Forest.{Forest, none, leaf, branch, Part, part, parts, parts_outside, is_among}
 use Rattle.source_model.specs.Source.{Source}
-use Rattle.source_syntax.specs.Derived.{Fits, FitsRule, HasBodies}
-use Rattle.source_syntax.specs.Pieces.{ArePieces, piece_of, written}
-use Rattle.source_syntax.specs.declared.pieces.Piece.{Piece}
+use Rattle.source_nodes.specs.Derived.{Fits, FitsRule, HasBodies}
+use Rattle.source_nodes.specs.Pieces.{ArePieces, piece_of, written}
+use Rattle.source_nodes.specs.declared.pieces.Piece.{Piece}
 use Rattle.source_syntax.proofs.MethodLemmas.{drop_at}
 use Rattle.source_flags.specs.Lines.{productions_of}
 use Rattle.lower_manifest.specs.Chosen.{are_of}

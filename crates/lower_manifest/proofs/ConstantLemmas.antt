@@ -16,12 +16,12 @@ use Rattle.source_model.specs.Forest.{Forest, Part, none, leaf, branch, below_ea
 use Rattle.source_model.specs.OutOfRange.{is_16_bits}
 use Rattle.source_model.specs.Source.{Source}
 use Rattle.source_model.specs.Values.{int_at}
-use Rattle.source_syntax.specs.Derived.{FitsBody, head_of}
-use Rattle.source_syntax.specs.Readers.{IsOf}
+use Rattle.source_nodes.specs.Derived.{FitsBody, head_of}
+use Rattle.source_nodes.specs.Readers.{IsOf}
 use Rattle.source_syntax.proofs.BodyLemmas.{any_front, fits_has, has_later}
 use Rattle.source_syntax.proofs.NameTokens.{terminals_of_rule}
 use Rattle.source_syntax.proofs.ReferenceLemmas.{sound_part}
-use Rattle.source_syntax.proofs.WrittenNames.{fits_rule, one_in}
+use Rattle.source_nodes.proofs.WrittenNames.{fits_rule, one_in}
 use Rattle.source_flags.specs.InRange.{AllInRange, IsInRange}
 use Rattle.source_flags.proofs.Bits.{passes_at}
 use Rattle.lower_manifest.proofs.KeyLemmas.{only}

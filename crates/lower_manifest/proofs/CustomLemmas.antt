@@ -18,12 +18,12 @@ use Rattle.source_model.specs.Manifests.{attribute}
 use Rattle.source_model.specs.Nodes.{Around}
 use Rattle.source_model.specs.References.{method_ref}
 use Rattle.source_model.specs.Source.{Source}
-use Rattle.source_syntax.specs.Derived.{Fits, FitsBody, HasBodies, head_of}
-use Rattle.source_syntax.specs.Readers.{IsOf}
+use Rattle.source_nodes.specs.Derived.{Fits, FitsBody, HasBodies, head_of}
+use Rattle.source_nodes.specs.Readers.{IsOf}
 use Rattle.source_syntax.proofs.BodyLemmas.{fits_child, fits_has}
 use Rattle.source_syntax.proofs.NameTokens.{terminals_of_rule}
 use Rattle.source_syntax.proofs.ReferenceLemmas.{child_has, sound_part}
-use Rattle.source_syntax.proofs.WrittenNames.{fits_rule, one_in}
+use Rattle.source_nodes.proofs.WrittenNames.{fits_rule, one_in}
 use Rattle.lower_manifest.specs.Customs.{value_in}
 use Rattle.source_flags.specs.InRange.{AllInRange, IsInRange}
 use Rattle.lower_manifest.proofs.Tokens.{equals_at}

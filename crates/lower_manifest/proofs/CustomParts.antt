@@ -10,8 +10,8 @@ use Rattle.ilasm_grammar.specs.declared.productions.TheConstants.{ASSEMBLY_ITEM_
 use Rattle.source_model.specs.Forest.{Forest, Part}
 use Rattle.source_model.specs.Items.{begins_run, customs_outside, is_custom}
 use Rattle.source_model.specs.Source.{Source}
-use Rattle.source_syntax.specs.Derived.{FitsBody}
-use Rattle.source_syntax.proofs.WrittenNames.{fits_rule}
+use Rattle.source_nodes.specs.Derived.{FitsBody}
+use Rattle.source_nodes.proofs.WrittenNames.{fits_rule}
 use Rattle.lower_manifest.specs.Customs.{IsCustom}
 use Rattle.source_flags.specs.InRange.{AllInRange, IsInRange}
 use Rattle.lower_manifest.proofs.CustomLemmas.{holds_method, one_body}

@@ -13,9 +13,9 @@ use Rattle.source_model.specs.Forest.{Part, parts}
 use Rattle.source_model.specs.Items.{declarations}
 use Rattle.source_model.specs.Manifests.{extern_assemblies, extern_assembly}
 use Rattle.source_model.specs.Source.{Source}
-use Rattle.source_syntax.specs.Derived.{Fits, HasBodies}
+use Rattle.source_nodes.specs.Derived.{Fits, HasBodies}
 use Rattle.source_syntax.proofs.NameTokens.{terminals_of_rule}
-use Rattle.source_syntax.proofs.PieceLemmas.{mapped_below, take_next}
+use Rattle.source_nodes.proofs.PieceLemmas.{mapped_below, take_next}
 use Rattle.source_flags.specs.InRange.{AllInRange, IsInRange}
 use Rattle.source_flags.specs.Lines.{productions_of}
 use Rattle.lower_manifest.specs.Chosen.{are_of}

@@ -5,7 +5,7 @@ use Rattle.std.specs.List.{flat_map}
 use Rattle.std.proofs.lemmas.Option.{same_Some}
 use Rattle.source_model.specs.Forest.{Forest, Part, none, below_each, first_or, is_any_part}
 use Rattle.source_model.specs.Manifests.{last_said}
-use Rattle.source_syntax.proofs.SoundLemmas.{nothing_in}
+use Rattle.source_nodes.proofs.Empties.{nothing_in}
 use Rattle.source_flags.specs.Lines.{last_part}
 
 -- the last of what stands below some parts

@@ -19,8 +19,8 @@ use Rattle.source_model.specs.OutOfRange.{
 }
 use Rattle.source_model.specs.Source.{Source}
 use Rattle.source_model.specs.TypeRules.{number_in_type_out_of_range, typars_out_of_range}
-use Rattle.source_syntax.specs.Derived.{FitsBody, HasBodies}
-use Rattle.source_syntax.proofs.SoundLemmas.{nothing_in}
+use Rattle.source_nodes.specs.Derived.{FitsBody, HasBodies}
+use Rattle.source_nodes.proofs.Empties.{nothing_in}
 use Rattle.source_flags.specs.InRange.{AllInRange, IsInRange}
 
 module _ (s : Source) where

@@ -5,8 +5,8 @@ use Rattle.std.proofs.lemmas.List.{drop_all}
 use Rattle.ilasm_grammar.specs.declared.tree.TreeNode.{TreeNode}
 use Rattle.source_model.specs.Forest.{Part}
 use Rattle.source_model.specs.Items.{customs_outside}
-use Rattle.source_syntax.specs.Pieces.{ArePieces, piece_of, written}
-use Rattle.source_syntax.specs.declared.pieces.Piece.{Piece}
+use Rattle.source_nodes.specs.Pieces.{ArePieces, piece_of, written}
+use Rattle.source_nodes.specs.declared.pieces.Piece.{Piece}
 use Rattle.source_syntax.proofs.MethodLemmas.{drop_at}
 use Rattle.lower_manifest.specs.Runs.{begins_run, is_custom}
 

@@ -18,15 +18,15 @@ use Rattle.source_model.specs.Forest.{Forest, branch, each, leaf_at, preorder}
 use Rattle.source_model.specs.Laws.{ForestsJoin}
 use Rattle.source_model.specs.Source.{Source, spelling}
 use Rattle.source_model.specs.Values.{between_quotes, unescaped}
-use Rattle.source_syntax.specs.Derived.{FitsBody, HasBodies, OfEach}
-use Rattle.source_syntax.specs.Readers.{IsOf}
-use Rattle.source_syntax.specs.Walk.{Opens, is_of}
-use Rattle.source_syntax.specs.declared.walk.Opened.{Opened}
-use Rattle.source_syntax.proofs.Collecting.{SoFar, each_other, each_own, ends, goes_in, is_other, starts}
-use Rattle.source_syntax.proofs.NameLemmas.{string_text}
+use Rattle.source_nodes.specs.Derived.{FitsBody, HasBodies, OfEach}
+use Rattle.source_nodes.specs.Readers.{IsOf}
+use Rattle.source_nodes.specs.Walk.{Opens, is_of}
+use Rattle.source_nodes.specs.declared.walk.Opened.{Opened}
+use Rattle.source_nodes.proofs.Collecting.{SoFar, each_other, each_own, ends, goes_in, is_other, starts}
+use Rattle.source_nodes.proofs.NameLemmas.{string_text}
 use Rattle.source_syntax.proofs.NameTokens.{Each, IsBody, each_body, terminals_of_rule}
-use Rattle.source_syntax.proofs.ReaderLemmas.{token_spelled, token_utf8}
-use Rattle.source_syntax.proofs.Utf8Lemmas.{before_ascii, behind_ascii, string_in_ascii, text_utf8}
+use Rattle.source_nodes.proofs.ReaderLemmas.{token_spelled, token_utf8}
+use Rattle.source_nodes.proofs.Utf8Lemmas.{before_ascii, behind_ascii, string_in_ascii, text_utf8}
 use Rattle.lower_manifest.specs.Texts.{later_bytes, piece_bytes}
 use Rattle.lower_manifest.proofs.Tokens.{string_at}
 

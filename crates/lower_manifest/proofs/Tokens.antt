@@ -10,11 +10,11 @@ use Rattle.ilasm_grammar.specs.Terminals.{terminal_of}
 use Rattle.ilasm_grammar.specs.declared.terminals.TheConstants as t
 use Rattle.source_model.specs.Forest.{Forest, leaf_at}
 use Rattle.source_model.specs.Source.{Source}
-use Rattle.source_syntax.specs.Derived.{FitsBody, FitsRule, terminal_at}
-use Rattle.source_syntax.specs.Readers.{IsOf}
+use Rattle.source_nodes.specs.Derived.{FitsBody, FitsRule, terminal_at}
+use Rattle.source_nodes.specs.Readers.{IsOf}
 use Rattle.source_syntax.proofs.BodyLemmas.{fits_leaf}
 use Rattle.source_syntax.proofs.NameTokens.{terminals_of_rule}
-use Rattle.source_syntax.proofs.WrittenNames.{word_is_more}
+use Rattle.source_nodes.proofs.WrittenNames.{word_is_more}
 
 kind_equals : (k : TokenKind) → terminal_of k ≡ t.EQ_BYTES → k ≡ kind.EqBytes
 kind_equals kind.Name e = absurd cc

@@ -8,19 +8,19 @@ ghost use Rattle.source_model.specs.Forest.{Forest, Part, preorder};
 ghost use Rattle.source_model.specs.Manifests.{attribute, attributes};
 ghost use Rattle.source_model.specs.Nodes.{Around};
 ghost use Rattle.source_model.specs.Source.{Source};
-ghost use Rattle.source_syntax.specs.Pieces.{ArePieces, AreParts};
+ghost use Rattle.source_nodes.specs.Pieces.{ArePieces, AreParts};
 ghost use Rattle.source_syntax.specs.Places.{IsAt};
-ghost use Rattle.source_syntax.specs.Readers.{Reads};
-ghost use Rattle.source_syntax.specs.Walk.{IsForest};
+ghost use Rattle.source_nodes.specs.Readers.{Reads};
+ghost use Rattle.source_nodes.specs.Walk.{IsForest};
 
 use assembly_tree::{Attribute, Attributes};
 use il_base::{Bytes, Items, NoMemory};
 use ilasm_grammar::TreeNode;
 use ilasm_grammar::productions::{EQ_BYTES_OPT_SOME, METHOD_REF};
-use source_syntax::pieces::{Piece, nodes_of};
+use source_nodes::pieces::{Piece, nodes_of};
+use source_nodes::reader::Reader;
+use source_nodes::walk::{has, leaf_at, the};
 use source_syntax::place::Place;
-use source_syntax::reader::Reader;
-use source_syntax::walk::{has, leaf_at, the};
 use std::alloc::Global;
 
 /// The attributes that these declarations are, in order.

@@ -5,9 +5,9 @@ ghost use Rattle.source_model.specs.Bodies.{bound};
 ghost use Rattle.source_model.specs.BodyNumbers.{bounds_out_of_range};
 ghost use Rattle.source_model.specs.Forest.{Forest, preorder};
 ghost use Rattle.source_model.specs.Source.{Source};
-ghost use Rattle.source_syntax.specs.Derived.{HasBodies};
-ghost use Rattle.source_syntax.specs.Readers.{Reads};
-ghost use Rattle.source_syntax.specs.Walk.{IsForest};
+ghost use Rattle.source_nodes.specs.Derived.{HasBodies};
+ghost use Rattle.source_nodes.specs.Readers.{Reads};
+ghost use Rattle.source_nodes.specs.Walk.{IsForest};
 
 use il_base::NoMemory;
 use ilasm_grammar::TreeNode;
@@ -15,8 +15,8 @@ use ilasm_grammar::productions::ITEM_MAXSTACK;
 use source_flags::gathering::Kind;
 use source_flags::naturals::natural_16;
 use source_flags::outside::{Shut, last_outside};
-use source_syntax::reader::Reader;
-use source_syntax::walk::leaf_at;
+use source_nodes::reader::Reader;
+use source_nodes::walk::leaf_at;
 use std::alloc::Global;
 
 /// What the last `.maxstack` of a method says, or 8, from what stands below the method's production.

@@ -4,11 +4,11 @@ ghost use Rattle.std.specs.Prelude.{IfOk, List};
 ghost use Rattle.ilasm_grammar.specs.declared.tree.TreeNode.{TreeNode};
 ghost use Rattle.lower_manifest.specs.Chosen.{are_of};
 ghost use Rattle.source_model.specs.Forest.{Part};
-ghost use Rattle.source_syntax.specs.Pieces.{ArePieces};
+ghost use Rattle.source_nodes.specs.Pieces.{ArePieces};
 
 use il_base::{Items, NoMemory};
 use source_flags::gathering::{Kind, is_of_kind};
-use source_syntax::pieces::Piece;
+use source_nodes::pieces::Piece;
 use std::alloc::Global;
 
 /// Those parts that are of a kind, in order.

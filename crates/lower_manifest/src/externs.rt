@@ -8,9 +8,9 @@ ghost use Rattle.source_model.specs.Forest.{Forest, parts, preorder};
 ghost use Rattle.source_model.specs.Items.{declarations};
 ghost use Rattle.source_model.specs.Manifests.{culture, extern_assemblies, extern_assembly};
 ghost use Rattle.source_model.specs.Source.{Source};
-ghost use Rattle.source_syntax.specs.Pieces.{ArePieces, AreParts};
-ghost use Rattle.source_syntax.specs.Readers.{Reads};
-ghost use Rattle.source_syntax.specs.Walk.{IsForest};
+ghost use Rattle.source_nodes.specs.Pieces.{ArePieces, AreParts};
+ghost use Rattle.source_nodes.specs.Readers.{Reads};
+ghost use Rattle.source_nodes.specs.Walk.{IsForest};
 
 use crate::chosen::pieces_among;
 use crate::keys::{flags_with_key, hash, key, version};
@@ -21,10 +21,10 @@ use ilasm_grammar::TreeNode;
 use ilasm_grammar::productions::{ASSEMBLY_EXTERN, DECL_ASSEMBLY, TEXT};
 use source_flags::gathering::{Kind, parts_of};
 use source_flags::lines::last_line;
-use source_syntax::derived::derivations_have_bodies;
-use source_syntax::pieces::{Piece, nodes_of};
-use source_syntax::reader::Reader;
-use source_syntax::walk::{leaf_at, the};
+use source_nodes::derived::derivations_have_bodies;
+use source_nodes::pieces::{Piece, nodes_of};
+use source_nodes::reader::Reader;
+use source_nodes::walk::{leaf_at, the};
 use std::alloc::Global;
 
 /// The assemblies that a source names in order, from all declarations of the source.

@@ -6,14 +6,14 @@ ghost use Rattle.ilasm_grammar.specs.declared.productions.TheConstants.{FIELD};
 ghost use Rattle.source_model.specs.Forest.{Forest, preorder};
 ghost use Rattle.source_model.specs.Members.{field_offset};
 ghost use Rattle.source_model.specs.Source.{Source};
-ghost use Rattle.source_syntax.specs.Readers.{Reads};
-ghost use Rattle.source_syntax.specs.Walk.{IsForest};
+ghost use Rattle.source_nodes.specs.Readers.{Reads};
+ghost use Rattle.source_nodes.specs.Walk.{IsForest};
 
 use ilasm_grammar::TreeNode;
 use ilasm_grammar::productions::{BRACKETED_INT, BRACKETED_INT_OPT_SOME};
 use source_flags::naturals::natural_32;
-use source_syntax::reader::Reader;
-use source_syntax::walk::{child, has, leaf_at, the};
+use source_nodes::reader::Reader;
+use source_nodes::walk::{child, has, leaf_at, the};
 
 /// The place of a field, where it is written, from what stands below the field's production.
 pub fn field_offset(reader: &Reader, nodes: &[TreeNode]) -> Option<u32>

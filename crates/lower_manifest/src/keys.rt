@@ -7,8 +7,8 @@ ghost use Rattle.lower_manifest.specs.Settings.{hash_said};
 ghost use Rattle.source_model.specs.Forest.{Forest, Part, preorder};
 ghost use Rattle.source_model.specs.Manifests.{assembly_flags, key, version, version_in, with_key};
 ghost use Rattle.source_model.specs.Source.{Source};
-ghost use Rattle.source_syntax.specs.Readers.{Reads};
-ghost use Rattle.source_syntax.specs.Walk.{IsForest};
+ghost use Rattle.source_nodes.specs.Readers.{Reads};
+ghost use Rattle.source_nodes.specs.Walk.{IsForest};
 
 use il_base::{Bytes, NoMemory};
 use ilasm_grammar::TreeNode;
@@ -17,8 +17,8 @@ use source_flags::declared_flags::assembly_flags;
 use source_flags::gathering::Kind;
 use source_flags::lines::last_line;
 use source_flags::naturals::natural_16;
-use source_syntax::reader::Reader;
-use source_syntax::walk::leaf_at;
+use source_nodes::reader::Reader;
+use source_nodes::walk::leaf_at;
 use std::alloc::Global;
 
 /// The version of an assembly, from what stands below its production; 0:0:0:0 where none is said.

@@ -2,7 +2,7 @@
 
 ghost use Rattle.lower_manifest.specs.Laws.{AllAreInRange};
 
-use source_syntax::derived::derivations_have_bodies;
+use source_nodes::derived::derivations_have_bodies;
 
 /// In a source none of whose numbers is out of its range, below each production stands its body, with its numbers in their
 /// ranges (ECMA-335 II.22).

@@ -9,10 +9,10 @@ ghost use Rattle.source_model.specs.Items.{declarations};
 ghost use Rattle.source_model.specs.Manifests.{manifest};
 ghost use Rattle.source_model.specs.Nodes.{nothing_around};
 ghost use Rattle.source_model.specs.Source.{Source};
-ghost use Rattle.source_syntax.specs.Pieces.{ArePieces, AreParts};
+ghost use Rattle.source_nodes.specs.Pieces.{ArePieces, AreParts};
 ghost use Rattle.source_syntax.specs.Places.{IsAt};
-ghost use Rattle.source_syntax.specs.Readers.{Reads};
-ghost use Rattle.source_syntax.specs.Walk.{IsForest};
+ghost use Rattle.source_nodes.specs.Readers.{Reads};
+ghost use Rattle.source_nodes.specs.Walk.{IsForest};
 
 use crate::attributes::attributes;
 use crate::externs::culture;
@@ -26,10 +26,10 @@ use ilasm_grammar::TreeNode;
 use ilasm_grammar::productions::{ASSEMBLY_ASSEMBLY_ATTR_STAR, ASSEMBLY_ITEM_CUSTOM};
 use source_flags::gathering::{Kind, parts_of};
 use source_flags::naturals::short_of;
-use source_syntax::pieces::Piece;
+use source_nodes::pieces::Piece;
+use source_nodes::reader::Reader;
+use source_nodes::walk::the;
 use source_syntax::place::Place;
-use source_syntax::reader::Reader;
-use source_syntax::walk::the;
 use std::alloc::Global;
 
 // The names of the assembly and its module, and the assembly's version.

@@ -6,19 +6,19 @@ ghost use Rattle.source_model.specs.Forest.{has};
 ghost use Rattle.source_model.specs.Items.{declarations};
 ghost use Rattle.source_model.specs.Manifests.{assembly_name, module_name};
 ghost use Rattle.source_model.specs.Source.{Source};
-ghost use Rattle.source_syntax.specs.Pieces.{ArePieces, AreParts};
-ghost use Rattle.source_syntax.specs.Readers.{Reads};
-ghost use Rattle.source_syntax.specs.Walk.{IsForest};
+ghost use Rattle.source_nodes.specs.Pieces.{ArePieces, AreParts};
+ghost use Rattle.source_nodes.specs.Readers.{Reads};
+ghost use Rattle.source_nodes.specs.Walk.{IsForest};
 
 use crate::chosen::pieces_among;
 use il_base::{NoMemory, Text};
 use ilasm_grammar::productions::{ASSEMBLY_ASSEMBLY_ATTR_STAR, DECL_MODULE};
 use source_flags::gathering::Kind;
 use source_flags::lines::last_of;
-use source_syntax::derived::derivations_have_bodies;
-use source_syntax::pieces::Piece;
-use source_syntax::reader::Reader;
-use source_syntax::walk::{leaf_at, the};
+use source_nodes::derived::derivations_have_bodies;
+use source_nodes::pieces::Piece;
+use source_nodes::reader::Reader;
+use source_nodes::walk::{leaf_at, the};
 use std::alloc::Global;
 
 /// The name of the assembly, which is declared.

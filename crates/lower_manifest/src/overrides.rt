@@ -10,17 +10,17 @@ ghost use Rattle.source_model.specs.Members.{overridden};
 ghost use Rattle.source_model.specs.Nodes.{Around};
 ghost use Rattle.source_model.specs.Source.{Source};
 ghost use Rattle.source_syntax.specs.Places.{IsAt};
-ghost use Rattle.source_syntax.specs.Walk.{IsForest};
+ghost use Rattle.source_nodes.specs.Walk.{IsForest};
 
 use il_base::{Items, NoMemory};
 use ilasm_grammar::TreeNode;
 use ilasm_grammar::productions::{METHOD_REF, OVERRIDDEN_METHOD};
 use source_flags::gathering::Kind;
 use source_flags::outside::{Shut, parts_outside};
-use source_syntax::pieces::nodes_of;
+use source_nodes::pieces::nodes_of;
+use source_nodes::walk::the;
 use source_syntax::place::Place;
 use source_syntax::references::method_name;
-use source_syntax::walk::the;
 use std::alloc::Global;
 use type_terms::{MethodRef, MethodRefs};
 

@@ -6,13 +6,13 @@ ghost use Rattle.lower_manifest.specs.Runs.{begins_run, is_custom};
 ghost use Rattle.ilasm_grammar.specs.declared.tree.TreeNode.{TreeNode};
 ghost use Rattle.source_model.specs.Forest.{Part};
 ghost use Rattle.source_model.specs.Items.{own_customs};
-ghost use Rattle.source_syntax.specs.Pieces.{ArePieces};
+ghost use Rattle.source_nodes.specs.Pieces.{ArePieces};
 
 use il_base::{Items, NoMemory};
 use ilasm_grammar::productions::{
     DECL_CUSTOM, DECL_FIELD, ITEM_CUSTOM, ITEM_PARAM, MEMBER_CUSTOM, MEMBER_FIELD, MEMBER_PARAM,
 };
-use source_syntax::pieces::Piece;
+use source_nodes::pieces::Piece;
 use std::alloc::Global;
 
 // Whether a declaration is an attribute.

@@ -6,9 +6,9 @@ ghost use Rattle.lower_manifest.specs.Settings.{default_of, is_declared, place_o
 ghost use Rattle.source_model.specs.Forest.{Forest, preorder};
 ghost use Rattle.source_model.specs.Items.{declarations};
 ghost use Rattle.source_model.specs.Source.{Source};
-ghost use Rattle.source_syntax.specs.Pieces.{ArePieces, AreParts};
-ghost use Rattle.source_syntax.specs.Readers.{Reads};
-ghost use Rattle.source_syntax.specs.Walk.{IsForest};
+ghost use Rattle.source_nodes.specs.Pieces.{ArePieces, AreParts};
+ghost use Rattle.source_nodes.specs.Readers.{Reads};
+ghost use Rattle.source_nodes.specs.Walk.{IsForest};
 
 use crate::chosen::pieces_among;
 use il_base::NoMemory;
@@ -16,9 +16,9 @@ use ilasm_grammar::{TreeNode, productions};
 use source_flags::gathering::Kind;
 use source_flags::lines::last_of;
 use source_flags::outside::{Shut, last_outside};
-use source_syntax::pieces::Piece;
-use source_syntax::reader::Reader;
-use source_syntax::walk::leaf_at;
+use source_nodes::pieces::Piece;
+use source_nodes::reader::Reader;
+use source_nodes::walk::leaf_at;
 use std::alloc::Global;
 
 /// What a line with a number sets.

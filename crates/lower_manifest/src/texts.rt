@@ -7,18 +7,18 @@ ghost use Rattle.ilasm_grammar.specs.declared.productions.TheConstants.{TEXT};
 ghost use Rattle.source_model.specs.Constants.{text_in};
 ghost use Rattle.source_model.specs.Forest.{Forest, preorder};
 ghost use Rattle.source_model.specs.Source.{Source};
-ghost use Rattle.source_syntax.specs.Derived.{FitsBody, HasBodies};
-ghost use Rattle.source_syntax.specs.Readers.{IsOf, Reads};
-ghost use Rattle.source_syntax.specs.Walk.{IsForest};
+ghost use Rattle.source_nodes.specs.Derived.{FitsBody, HasBodies};
+ghost use Rattle.source_nodes.specs.Readers.{IsOf, Reads};
+ghost use Rattle.source_nodes.specs.Walk.{IsForest};
 
 use il_base::{Bytes, NoMemory, Text};
 use il_lexer::{the_longest_spelling_is_taken, tokens_are_spellings};
 use ilasm_grammar::TreeNode;
 use ilasm_grammar::productions::PLUS_STRING;
 use source_model::forests_join;
-use source_syntax::reader::Reader;
-use source_syntax::values::texts::push_string;
-use source_syntax::walk::{is_of, leaf_at, open};
+use source_nodes::reader::Reader;
+use source_nodes::values::texts::push_string;
+use source_nodes::walk::{is_of, leaf_at, open};
 use std::alloc::Global;
 use std::str;
 

@@ -16,11 +16,11 @@ use Rattle.source_model.specs.Source.{Source}
 use Rattle.source_model.specs.TypeRules.{unless}
 use Rattle.source_model.specs.Types.{int_type}
 use Rattle.source_model.specs.Values.{array_bytes, int_at}
-use Rattle.source_syntax.specs.Derived.{FitsBody}
-use Rattle.source_syntax.specs.Readers.{IsOf}
+use Rattle.source_nodes.specs.Derived.{FitsBody}
+use Rattle.source_nodes.specs.Readers.{IsOf}
 use Rattle.source_syntax.proofs.NameTokens.{terminals_of_rule}
-use Rattle.source_syntax.proofs.SoundLemmas.{nothing_in}
-use Rattle.source_syntax.proofs.WrittenNames.{both_true}
+use Rattle.source_nodes.proofs.Empties.{nothing_in}
+use Rattle.source_nodes.proofs.WrittenNames.{both_true}
 use Rattle.source_flags.specs.InRange.{IsInRange}
 use Rattle.source_flags.proofs.Bits.{passes_at}
 use Rattle.lower_manifest.proofs.KeyLemmas.{only}

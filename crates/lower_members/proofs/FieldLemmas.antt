@@ -27,19 +27,19 @@ use Rattle.source_model.specs.Nodes.{Around}
 use Rattle.source_model.specs.Source.{Source}
 use Rattle.source_model.specs.Types.{type_of}
 use Rattle.source_model.specs.Values.{name_text}
-use Rattle.source_syntax.specs.Derived.{FitsBody, head_of}
-use Rattle.source_syntax.specs.Pieces.{ArePieces, nodes_of, piece_of, written}
-use Rattle.source_syntax.specs.declared.pieces.Piece.{Piece}
+use Rattle.source_nodes.specs.Derived.{FitsBody, head_of}
+use Rattle.source_nodes.specs.Pieces.{ArePieces, nodes_of, piece_of, written}
+use Rattle.source_nodes.specs.declared.pieces.Piece.{Piece}
 use Rattle.source_syntax.proofs.BodyLemmas.{fits_has}
 use Rattle.source_syntax.proofs.NameTokens.{terminals_of_rule}
 use Rattle.source_syntax.proofs.ReferenceLemmas.{sound_part}
-use Rattle.source_syntax.proofs.WrittenNames.{fits_rule, one_in}
+use Rattle.source_nodes.proofs.WrittenNames.{fits_rule, one_in}
 use Rattle.source_flags.specs.InRange.{AllInRange, IsInRange}
 use Rattle.lower_manifest.specs.Customs.{IsCustom}
 use Rattle.lower_manifest.specs.Runs as runs
 use Rattle.lower_manifest.proofs.CustomParts.{outside_hold}
 use Rattle.lower_members.specs.FieldContexts.{is_field, run_at}
-use Rattle.lower_members.specs.Ranged.{IsRanged}
+use Rattle.param_lines.specs.Ranged.{IsRanged}
 
 -- ---- what a field's declaration holds
 

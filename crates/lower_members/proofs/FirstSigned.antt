@@ -6,7 +6,7 @@ use Rattle.std.proofs.lemmas.Grind.{reverse_onto}
 use Rattle.std.proofs.lemmas.List.{drop_more, length-map, length-reverse, get_or-reverse}
 use Rattle.std.proofs.lemmas.List.Quantifiers.{position-Some}
 use Rattle.std.proofs.lemmas.Option.{get_or_from_slice_get, same_Some, slice_get_within, slice_get-get_or}
-use Rattle.source_syntax.proofs.FirstLemmas.{position_is, position_none}
+use Rattle.source_nodes.proofs.FirstLemmas.{position_is, position_none}
 use Rattle.source_syntax.proofs.LabelLemmas.{position_first}
 
 module _ {X : Type 0} where

@@ -14,8 +14,8 @@ use Rattle.source_model.specs.Nodes.{Around}
 use Rattle.source_model.specs.Parameters as params
 use Rattle.source_model.specs.Parameters.{is_typar_line}
 use Rattle.source_model.specs.Source.{Source}
-use Rattle.source_syntax.specs.Pieces.{ArePieces, piece_of, written}
-use Rattle.source_syntax.specs.declared.pieces.Piece.{Piece}
+use Rattle.source_nodes.specs.Pieces.{ArePieces, piece_of, written}
+use Rattle.source_nodes.specs.declared.pieces.Piece.{Piece}
 use Rattle.lower_members.specs.FieldContexts.{run_at}
 use Rattle.lower_members.specs.GivenAttributes.{AreGiven, none_given, with_line}
 use Rattle.lower_members.specs.ParamLines.{appended, given}

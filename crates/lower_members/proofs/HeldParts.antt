@@ -13,10 +13,10 @@ use Rattle.source_flags.specs.InRange.{AllInRange}
 use Rattle.source_flags.specs.Lines.{productions_of}
 use Rattle.source_flags.specs.declared.gathering.Kind.TheVariants.{Accessors}
 use Rattle.source_flags.proofs.Gathered.{has_bodies}
-use Rattle.source_syntax.specs.Derived.{Fits, FitsBody, FitsRule, head_of}
+use Rattle.source_nodes.specs.Derived.{Fits, FitsBody, FitsRule, head_of}
 use Rattle.source_syntax.proofs.BodyLemmas.{fits_has, goes_on_with}
 use Rattle.source_syntax.proofs.NameTokens.{terminals_of_rule}
-use Rattle.source_syntax.proofs.WrittenNames.{both_true, fits_rule, one_in}
+use Rattle.source_nodes.proofs.WrittenNames.{both_true, fits_rule, one_in}
 use Rattle.lower_manifest.specs.Customs.{HoldsMethod}
 use Rattle.lower_manifest.proofs.CustomLemmas.{holds_method, one_body}
 use Rattle.lower_members.specs.ItemCustoms.{item_customs}

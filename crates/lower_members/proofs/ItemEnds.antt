@@ -14,7 +14,8 @@ use Rattle.source_flags.specs.InRange.{AllInRange}
 use Rattle.source_flags.proofs.Gathered.{all_append}
 use Rattle.lower_manifest.specs.Customs.{IsCustom}
 use Rattle.lower_manifest.proofs.CustomParts.{outside_hold}
-use Rattle.lower_members.specs.Ranged.{IsEnd, IsRanged, IsRangedItem}
+use Rattle.lower_members.specs.Ranged.{IsEnd, IsRangedItem}
+use Rattle.param_lines.specs.Ranged.{IsRanged}
 
 module _ (s : Source) where
   -- what passes a test that no begin and no end passes

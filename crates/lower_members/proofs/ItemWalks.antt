@@ -12,9 +12,9 @@ use Rattle.source_model.specs.Forest as tree
 use Rattle.source_model.specs.Forest.{Forest, Part, is_among, joined, part, preorder}
 use Rattle.source_model.specs.Items.{items_and_ends, plain_items}
 use Rattle.source_model.specs.Laws.{BeginsWithBranch, ForestOpens, ForestsJoin, OneForest}
-use Rattle.source_syntax.specs.Pieces.{ArePieces, piece_of, written}
-use Rattle.source_syntax.specs.Walk.{IsForest}
-use Rattle.source_syntax.specs.declared.pieces.Piece.{Piece}
+use Rattle.source_nodes.specs.Pieces.{ArePieces, piece_of, written}
+use Rattle.source_nodes.specs.Walk.{IsForest}
+use Rattle.source_nodes.specs.declared.pieces.Piece.{Piece}
 use Rattle.lower_members.specs.ItemSteps.{branch_step, node_step, step_of, unrolled}
 use Rattle.lower_members.specs.declared.item_walks.Open.{Open}
 use Rattle.lower_members.specs.declared.item_walks.Step.{Step}

@@ -14,7 +14,7 @@ use Rattle.source_model.specs.Forest.{Forest, Part, below_each, has}
 use Rattle.source_model.specs.Source.{Source}
 use Rattle.source_model.specs.Values.{name_text}
 use Rattle.ilasm_grammar.specs.declared.tree.TreeNode.{TreeNode}
-use Rattle.source_syntax.specs.Pieces.{ArePieces}
+use Rattle.source_nodes.specs.Pieces.{ArePieces}
 use Rattle.source_syntax.proofs.LabelLemmas.{position_first}
 use Rattle.lower_members.specs.Runs.{bytes_of_each, bytes_of_runs}
 use Rattle.lower_members.specs.declared.runs.Run.{Run}

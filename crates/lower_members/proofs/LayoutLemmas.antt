@@ -12,11 +12,11 @@ use Rattle.source_model.specs.OutOfRange.{is_32_bits, is_natural_with}
 use Rattle.source_model.specs.Shapes.{natural}
 use Rattle.source_model.specs.Source.{Source}
 use Rattle.source_model.specs.Values.{int_at}
-use Rattle.source_syntax.proofs.PieceLemmas.{take_next}
+use Rattle.source_nodes.proofs.PieceLemmas.{take_next}
 use Rattle.source_flags.specs.InRange.{IsInRange}
 use Rattle.source_flags.proofs.Bits.{pack_bounds, of_test, passes_at}
 use Rattle.lower_members.specs.Layouts.{last_member, layout_of, number_or}
-use Rattle.lower_members.specs.Ranged.{IsRanged}
+use Rattle.param_lines.specs.Ranged.{IsRanged}
 
 -- ---- a fold, one by one
 

@@ -1,6 +1,5 @@
 pub mod AccessorLemmas
 pub mod BareParams
-pub mod CappedLemmas
 pub mod ConstantChoices
 pub mod DataItemLemmas
 pub mod FieldLemmas
@@ -14,7 +13,6 @@ pub mod LabelledLemmas
 pub mod LayoutLemmas
 pub mod NumberedLemmas
 pub mod ParamFlags
-pub mod ParamLemmas
 pub mod ParamRows
 pub mod PropertyLemmas
 pub mod RunLemmas

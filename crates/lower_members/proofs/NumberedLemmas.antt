@@ -14,12 +14,12 @@ use Rattle.source_model.specs.Forest.{Forest, Part, has, is_any_part, parts}
 use Rattle.source_model.specs.Items.{Run, runs}
 use Rattle.source_model.specs.Parameters.{parameter_number, speaks_of_parameter}
 use Rattle.source_model.specs.Source.{Source}
-use Rattle.source_syntax.specs.Pieces.{ArePieces, piece_of, written}
-use Rattle.source_syntax.specs.declared.pieces.Piece.{Piece}
+use Rattle.source_nodes.specs.Pieces.{ArePieces, piece_of, written}
+use Rattle.source_nodes.specs.declared.pieces.Piece.{Piece}
 use Rattle.source_flags.specs.declared.outside.Shut.TheVariants.{Instructions}
 use Rattle.source_flags.proofs.Apart.{is_past, mask_of, same_outside}
 use Rattle.source_flags.proofs.Gathered.{all_append, has_bodies}
-use Rattle.source_syntax.specs.Derived.{FitsBody, HasBodies}
+use Rattle.source_nodes.specs.Derived.{FitsBody, HasBodies}
 use Rattle.lower_members.specs.FieldContexts.{run_at}
 use Rattle.lower_members.specs.NumberedLines.{AllLines, AreLines, AreNumbered, AreRuns, IsLine, IsRun, appended, no_lines, own_lines, with_line}
 use Rattle.lower_members.specs.Ranged.{IsBodyItem}

@@ -22,14 +22,14 @@ use Rattle.source_model.specs.Parameters.{parameters}
 use Rattle.source_model.specs.Source.{Source}
 use Rattle.source_model.specs.TypeRules.{arguments_out_of_range, array_out_of_range, first_of, generic_number_out_of_range, index_out_of_range, parameter_flags_out_of_range, second_ellipsis}
 use Rattle.source_model.specs.Values.{int_at}
-use Rattle.source_syntax.specs.Derived.{Fits, FitsBody, FitsRule, HasBodies, head_of}
+use Rattle.source_nodes.specs.Derived.{Fits, FitsBody, FitsRule, HasBodies, head_of}
 use Rattle.source_syntax.specs.Places.{node_of}
-use Rattle.source_syntax.specs.Readers.{IsOf}
+use Rattle.source_nodes.specs.Readers.{IsOf}
 use Rattle.source_syntax.proofs.BodyLemmas.{NowhereBelow, StaysChosen, all_in, closed_rule, enters, goes_on_with, has_child, nowhere_below}
 use Rattle.source_syntax.proofs.NameTokens.{name_at, terminals_of_rule}
-use Rattle.source_syntax.proofs.SoundLemmas.{nothing_in}
+use Rattle.source_nodes.proofs.Empties.{nothing_in}
 use Rattle.source_syntax.proofs.VariableLemmas.{within_in}
-use Rattle.source_syntax.proofs.WrittenNames.{fits_rule, one_in}
+use Rattle.source_nodes.proofs.WrittenNames.{fits_rule, one_in}
 use Rattle.source_flags.specs.InRange.{AllInRange, IsInRange}
 use Rattle.source_flags.proofs.Bits.{passes_at}
 use Rattle.source_flags.proofs.FlagBounds.{child_or_none}

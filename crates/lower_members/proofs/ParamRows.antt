@@ -19,7 +19,7 @@ use Rattle.ilasm_grammar.specs.declared.productions.TheConstants.{BLOCK, ITEM_TR
 use Rattle.std.proofs.lemmas.Bool.Decides.{Decides-eqb}
 use Rattle.source_flags.specs.InRange.{AllInRange}
 use Rattle.source_flags.proofs.Gathered.{all_append, all_follow}
-use Rattle.source_syntax.proofs.PieceLemmas.{take_next}
+use Rattle.source_nodes.proofs.PieceLemmas.{take_next}
 use Rattle.std.proofs.lemmas.Bool.{lt-ltb}
 use Rattle.lower_members.proofs.ParamFlags.{not_zero}
 use Rattle.lower_members.specs.NumberedLines.{AreLines, AreRuns, IsLine, IsRun}

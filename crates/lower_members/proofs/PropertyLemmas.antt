@@ -10,7 +10,7 @@ use Rattle.assembly_tree.specs.declared.members.Event.{Event}
 use Rattle.assembly_tree.specs.declared.members.Property.{Property}
 use Rattle.type_terms.specs.declared.reference.MethodSig.{MethodSig}
 use Rattle.type_terms.specs.declared.term.Owner.{Owner}
-use Rattle.source_syntax.proofs.PieceLemmas.{take_next}
+use Rattle.source_nodes.proofs.PieceLemmas.{take_next}
 
 -- ---- records of equal parts
 

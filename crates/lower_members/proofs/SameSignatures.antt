@@ -7,7 +7,7 @@ use Rattle.type_terms.specs.Order.{term_order}
 use Rattle.type_terms.specs.Same.{is_same_signature}
 use Rattle.type_terms.specs.declared.reference.MethodSig.{MethodSig}
 use Rattle.type_terms.proofs.SameLaws.{signature_itself, signature_same}
-use Rattle.source_syntax.proofs.WrittenNames.{both_true}
+use Rattle.source_nodes.proofs.WrittenNames.{both_true}
 use Rattle.lower_members.specs.SignedMethods.{Signed, is_signed}
 
 both : (a b : Bool) → a ≡ true → b ≡ true → (a && b) ≡ true

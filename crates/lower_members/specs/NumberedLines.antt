@@ -7,8 +7,8 @@ use Rattle.source_model.specs.Forest.{Part, has}
 use Rattle.source_model.specs.Items.{Run, is_custom, runs}
 use Rattle.source_model.specs.Parameters.{parameter_number, speaks_of_parameter}
 use Rattle.source_model.specs.Source.{Source}
-use Rattle.source_syntax.specs.Pieces.{ArePieces, AreParts, nodes_of, piece_of, written}
-use Rattle.source_syntax.specs.Walk.{IsForest}
+use Rattle.source_nodes.specs.Pieces.{ArePieces, AreParts, nodes_of, piece_of, written}
+use Rattle.source_nodes.specs.Walk.{IsForest}
 use Rattle.lower_members.specs.Ranged.{IsBodyItem}
 use Rattle.lower_members.specs.declared.numbered_lines.NumberedLine.{NumberedLine}
 

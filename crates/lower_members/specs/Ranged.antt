@@ -1,14 +1,10 @@
--- Parts that are in their ranges.
+-- Items of methods that are in their ranges.
 use Rattle.std.specs.Prelude.{◌≡◌, ◌⊎◌, true}
 use Rattle.ilasm_grammar.specs.declared.productions.TheConstants.{BLOCK, ITEM_TRY}
-use Rattle.source_flags.specs.InRange.{AllInRange, IsInRange}
+use Rattle.param_lines.specs.Ranged.{IsRanged}
 use Rattle.source_model.specs.Forest.{Part, is_among, none, part}
 use Rattle.source_model.specs.Items.{plain_items}
 use Rattle.source_model.specs.Source.{Source}
-
--- a part that is in its range, as are all below it
-abbrev pub IsRanged : Source → Part → Type 0
-IsRanged s p = IsInRange s p.production p.below × AllInRange s p.below
 
 -- the begin or the end of a `.try` or of a block of one, as it stands among the items of a method (ECMA-335 II.19)
 abbrev pub IsEnd : Part → Type 0

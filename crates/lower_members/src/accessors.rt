@@ -10,7 +10,7 @@ ghost use Rattle.source_model.specs.Members.{accessor, accessor_kind, accessors_
 ghost use Rattle.source_model.specs.Nodes.{Around};
 ghost use Rattle.source_model.specs.Source.{Source};
 ghost use Rattle.source_syntax.specs.Places.{IsAt};
-ghost use Rattle.source_syntax.specs.Walk.{IsForest};
+ghost use Rattle.source_nodes.specs.Walk.{IsForest};
 
 use crate::method_tables::MethodTable;
 use assembly_tree::{Accessor, Accessors};
@@ -21,10 +21,10 @@ use ilasm_grammar::productions::{
     PROPERTY_ITEM_SET,
 };
 use source_flags::gathering::{Kind, parts_of};
-use source_syntax::narrowing::word_of;
-use source_syntax::pieces::nodes_of;
+use source_nodes::narrowing::word_of;
+use source_nodes::pieces::nodes_of;
+use source_nodes::walk::the;
 use source_syntax::place::Place;
-use source_syntax::walk::the;
 use std::alloc::Global;
 
 /// The accessors of a property or an event, in order, from what stands below its production and with the methods of its class.

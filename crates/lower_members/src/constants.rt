@@ -10,8 +10,8 @@ ghost use Rattle.source_model.specs.Forest.{Forest, preorder};
 ghost use Rattle.source_model.specs.Source.{Source};
 ghost use Rattle.source_model.specs.Types.{int_type};
 ghost use Rattle.source_model.specs.Values.{array_bytes, int_at, units_of_bytes};
-ghost use Rattle.source_syntax.specs.Readers.{IsOf, Reads};
-ghost use Rattle.source_syntax.specs.Walk.{IsForest};
+ghost use Rattle.source_nodes.specs.Readers.{IsOf, Reads};
+ghost use Rattle.source_nodes.specs.Walk.{IsForest};
 
 use crate::units::{units_in, units_of_bytes};
 use assembly_tree::Constant;
@@ -23,9 +23,9 @@ use ilasm_grammar::productions::{
 };
 use lower_manifest::wrapping::{integer_of, low_32};
 use source_flags::naturals::natural_16;
+use source_nodes::reader::Reader;
+use source_nodes::walk::{has, last_token, leaf_at, the};
 use source_syntax::bases::int_type;
-use source_syntax::reader::Reader;
-use source_syntax::walk::{has, last_token, leaf_at, the};
 use std::alloc::Global;
 
 /// The constant behind `=`, where there is one.

@@ -6,8 +6,8 @@ ghost use Rattle.source_flags.specs.InRange.{AllInRange};
 ghost use Rattle.source_model.specs.Data.{content, data_size};
 ghost use Rattle.source_model.specs.Forest.{Forest, preorder};
 ghost use Rattle.source_model.specs.Source.{Source};
-ghost use Rattle.source_syntax.specs.Readers.{Reads};
-ghost use Rattle.source_syntax.specs.Walk.{IsForest};
+ghost use Rattle.source_nodes.specs.Readers.{Reads};
+ghost use Rattle.source_nodes.specs.Walk.{IsForest};
 ghost use Rattle.type_terms.specs.declared.term.SigType.{SigType};
 
 use crate::labelled_data::LabelledData;
@@ -15,8 +15,8 @@ use crate::runs::first_of;
 use il_base::{Bytes, NoMemory};
 use ilasm_grammar::TreeNode;
 use ilasm_grammar::productions::AT_NAME;
-use source_syntax::reader::Reader;
-use source_syntax::walk::{has, leaf_at, the};
+use source_nodes::reader::Reader;
+use source_nodes::walk::{has, leaf_at, the};
 use std::alloc::Global;
 
 /// The first bytes of the data that a field names, as many as a value of its type has, from what stands below its production.

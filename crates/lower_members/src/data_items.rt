@@ -9,8 +9,8 @@ ghost use Rattle.source_model.specs.Constants.{bits_of, wrapped};
 ghost use Rattle.source_model.specs.Data.{data_bytes, item_bits, item_bytes, item_count, item_value, little_bytes};
 ghost use Rattle.source_model.specs.Forest.{Forest, Part, preorder};
 ghost use Rattle.source_model.specs.Source.{Source};
-ghost use Rattle.source_syntax.specs.Readers.{Reads};
-ghost use Rattle.source_syntax.specs.Walk.{IsForest};
+ghost use Rattle.source_nodes.specs.Readers.{Reads};
+ghost use Rattle.source_nodes.specs.Walk.{IsForest};
 
 use crate::runs::{Run, Runs};
 use il_base::{Bytes, Items, NoMemory};
@@ -20,10 +20,10 @@ use ilasm_grammar::productions::{
 };
 use source_flags::gathering::{Kind, parts_of};
 use source_flags::naturals::natural_32;
+use source_nodes::pieces::nodes_of;
+use source_nodes::reader::Reader;
+use source_nodes::walk::{has, leaf_at, the};
 use source_syntax::bases::int_type;
-use source_syntax::pieces::nodes_of;
-use source_syntax::reader::Reader;
-use source_syntax::walk::{has, leaf_at, the};
 use std::alloc::Global;
 use type_terms::Prim;
 

@@ -3,16 +3,16 @@
 ghost use Rattle.std.specs.Prelude.{◌≡◌, ◌++◌, ◌<◌, ◌^◌, ◌∷◌, [], IfOk, List, length, map};
 ghost use Rattle.std.specs.List.{AllByRecursion};
 ghost use Rattle.ilasm_grammar.specs.declared.productions.TheConstants.{EVENT};
-ghost use Rattle.lower_members.specs.Ranged.{IsRanged};
+ghost use Rattle.param_lines.specs.Ranged.{IsRanged};
 ghost use Rattle.lower_members.specs.SignedMethods.{declared};
 ghost use Rattle.source_flags.specs.InRange.{AllInRange, IsInRange};
 ghost use Rattle.source_model.specs.Forest.{Forest, Part, preorder};
 ghost use Rattle.source_model.specs.Members.{event, events_in};
 ghost use Rattle.source_model.specs.Nodes.{Around};
 ghost use Rattle.source_model.specs.Source.{Source};
-ghost use Rattle.source_syntax.specs.Pieces.{ArePieces, AreParts};
+ghost use Rattle.source_nodes.specs.Pieces.{ArePieces, AreParts};
 ghost use Rattle.source_syntax.specs.Places.{IsAt};
-ghost use Rattle.source_syntax.specs.Walk.{IsForest};
+ghost use Rattle.source_nodes.specs.Walk.{IsForest};
 
 use crate::accessors::accessors;
 use crate::item_customs::attributes_in;
@@ -22,9 +22,9 @@ use il_base::{Items, NoMemory};
 use ilasm_grammar::TreeNode;
 use ilasm_grammar::productions::{EVENT, EVENT_ITEM_CUSTOM, MEMBER_EVENT};
 use source_flags::declared_flags::event_flags;
-use source_syntax::pieces::{Piece, nodes_of};
+use source_nodes::pieces::{Piece, nodes_of};
+use source_nodes::walk::{leaf_at, the};
 use source_syntax::place::Place;
-use source_syntax::walk::{leaf_at, the};
 use std::alloc::Global;
 
 /// The events among the members of a class, in order, with the methods of the class.

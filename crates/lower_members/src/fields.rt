@@ -4,15 +4,15 @@ ghost use Rattle.std.specs.Prelude.{◌≡◌, ◌<◌, ◌^◌, ◌∷◌, ◌+
 ghost use Rattle.std.specs.List.{AllByRecursion};
 ghost use Rattle.ilasm_grammar.specs.declared.productions.TheConstants.{FIELD};
 ghost use Rattle.lower_members.specs.FieldContexts.{IsContext, is_field, run_at};
-ghost use Rattle.lower_members.specs.Ranged.{IsRanged};
+ghost use Rattle.param_lines.specs.Ranged.{IsRanged};
 ghost use Rattle.source_flags.specs.InRange.{AllInRange, IsInRange};
 ghost use Rattle.source_model.specs.Forest.{Forest, Part, preorder};
 ghost use Rattle.source_model.specs.Manifests.{attributes};
 ghost use Rattle.source_model.specs.Members.{field, field_from, fields};
 ghost use Rattle.source_model.specs.Nodes.{Around};
 ghost use Rattle.source_model.specs.Source.{Source};
-ghost use Rattle.source_syntax.specs.Pieces.{ArePieces, AreParts, nodes_of, piece_of, written};
-ghost use Rattle.source_syntax.specs.Walk.{IsForest};
+ghost use Rattle.source_nodes.specs.Pieces.{ArePieces, AreParts, nodes_of, piece_of, written};
+ghost use Rattle.source_nodes.specs.Walk.{IsForest};
 
 use crate::class_sizes::ClassSizes;
 use crate::constants::constant_of;
@@ -28,9 +28,9 @@ use lower_manifest::attributes::attributes;
 use lower_manifest::field_places::field_offset;
 use lower_manifest::runs::run_of;
 use source_flags::declared_flags::field_flags;
-use source_syntax::pieces::{Piece, nodes_of};
+use source_nodes::pieces::{Piece, nodes_of};
+use source_nodes::walk::{leaf_at, the};
 use source_syntax::place::Place;
-use source_syntax::walk::{leaf_at, the};
 use std::alloc::Global;
 
 /// A place where fields stand, with the data and the class sizes of the source.

@@ -11,11 +11,11 @@ ghost use Rattle.source_model.specs.Items.{runs};
 ghost use Rattle.source_model.specs.Nodes.{Around, typar_names};
 ghost use Rattle.source_model.specs.Parameters.{generics};
 ghost use Rattle.source_model.specs.Source.{Source};
-ghost use Rattle.source_syntax.specs.Derived.{HasBodies};
-ghost use Rattle.source_syntax.specs.Pieces.{ArePieces, AreParts};
+ghost use Rattle.source_nodes.specs.Derived.{HasBodies};
+ghost use Rattle.source_nodes.specs.Pieces.{ArePieces, AreParts};
 ghost use Rattle.source_syntax.specs.Places.{IsAt};
-ghost use Rattle.source_syntax.specs.Readers.{Reads};
-ghost use Rattle.source_syntax.specs.Walk.{IsForest};
+ghost use Rattle.source_nodes.specs.Readers.{Reads};
+ghost use Rattle.source_nodes.specs.Walk.{IsForest};
 
 use crate::line_attributes::line_attributes;
 use assembly_tree::{Attributes, Generic, Generics};
@@ -24,12 +24,12 @@ use ilasm_grammar::TreeNode;
 use ilasm_grammar::productions::{TYPAR, TYPAR_BOUNDS, TYPARS_OPT_SOME};
 use source_flags::declared_flags::typar_flags;
 use source_flags::gathering::{Kind, parts_of};
+use source_nodes::pieces::{Piece, nodes_of};
+use source_nodes::reader::Reader;
+use source_nodes::walk::{child, leaf_at, the};
 use source_syntax::declared::Declared;
 use source_syntax::name_lists::typar_names;
-use source_syntax::pieces::{Piece, nodes_of};
 use source_syntax::place::Place;
-use source_syntax::reader::Reader;
-use source_syntax::walk::{child, leaf_at, the};
 use std::alloc::Global;
 
 /// The names of the generic parameters of a class or a method, from what stands below its production. Most have none.

@@ -8,7 +8,7 @@ ghost use Rattle.source_model.specs.Manifests.{attributes};
 ghost use Rattle.source_model.specs.Nodes.{Around};
 ghost use Rattle.source_model.specs.Source.{Source};
 ghost use Rattle.source_syntax.specs.Places.{IsAt};
-ghost use Rattle.source_syntax.specs.Walk.{IsForest};
+ghost use Rattle.source_nodes.specs.Walk.{IsForest};
 
 use assembly_tree::Attributes;
 use il_base::NoMemory;

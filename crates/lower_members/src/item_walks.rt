@@ -7,13 +7,13 @@ ghost use Rattle.lower_members.specs.ItemSteps.{branch_step, node_step, step_of,
 ghost use Rattle.lower_members.specs.declared.item_walks.Open.{Open};
 ghost use Rattle.source_model.specs.Forest.{Forest, is_among, preorder};
 ghost use Rattle.source_model.specs.Items.{items_and_ends, plain_items};
-ghost use Rattle.source_syntax.specs.Pieces.{ArePieces};
-ghost use Rattle.source_syntax.specs.Walk.{IsForest};
+ghost use Rattle.source_nodes.specs.Pieces.{ArePieces};
+ghost use Rattle.source_nodes.specs.Walk.{IsForest};
 
 use il_base::{Items, NoMemory};
 use ilasm_grammar::{TreeNode, productions};
 use source_model::{derivations_are_forests, forests_join, forests_open};
-use source_syntax::pieces::Piece;
+use source_nodes::pieces::Piece;
 use std::alloc::Global;
 
 /// A block that isn't closed yet: its production, and where the nodes behind it begin.

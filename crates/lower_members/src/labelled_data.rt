@@ -9,9 +9,9 @@ ghost use Rattle.source_flags.specs.InRange.{AllInRange};
 ghost use Rattle.source_model.specs.Data.{bytes_at, data_bytes, data_named};
 ghost use Rattle.source_model.specs.Forest.{Forest, Part, below_each, has, parts, preorder};
 ghost use Rattle.source_model.specs.Source.{Source};
-ghost use Rattle.source_syntax.specs.Pieces.{ArePieces, AreParts};
-ghost use Rattle.source_syntax.specs.Readers.{Reads};
-ghost use Rattle.source_syntax.specs.Walk.{IsForest};
+ghost use Rattle.source_nodes.specs.Pieces.{ArePieces, AreParts};
+ghost use Rattle.source_nodes.specs.Readers.{Reads};
+ghost use Rattle.source_nodes.specs.Walk.{IsForest};
 
 use crate::data_items::data_runs;
 use crate::runs::{Run, Runs};
@@ -20,11 +20,11 @@ use ilasm_grammar::TreeNode;
 use ilasm_grammar::productions::{DATA, DATA_LABEL};
 use source_flags::gathering::Kind;
 use source_flags::outside::{Shut, parts_outside};
+use source_nodes::pieces::{Piece, nodes_of};
+use source_nodes::reader::Reader;
+use source_nodes::walk::has;
 use source_syntax::declared::Declared;
 use source_syntax::name_lists::{Named, Naming, collect};
-use source_syntax::pieces::{Piece, nodes_of};
-use source_syntax::reader::Reader;
-use source_syntax::walk::has;
 use std::alloc::Global;
 
 /// The declarations of data that have labels.

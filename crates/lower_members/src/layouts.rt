@@ -4,23 +4,23 @@ ghost use Rattle.std.specs.Prelude.{◌≡◌, ◌<◌, ◌^◌, ◌⊎◌, IfSo
 ghost use Rattle.std.specs.List.{AllByRecursion};
 ghost use Rattle.ilasm_grammar.specs.declared.productions.TheConstants.{MEMBER_PACK, MEMBER_SIZE};
 ghost use Rattle.lower_members.specs.Layouts.{last_member, layout_of, number_or};
-ghost use Rattle.lower_members.specs.Ranged.{IsRanged};
+ghost use Rattle.param_lines.specs.Ranged.{IsRanged};
 ghost use Rattle.source_flags.specs.InRange.{AllInRange};
 ghost use Rattle.source_model.specs.Data.{layout};
 ghost use Rattle.source_model.specs.Forest.{Forest, Part, preorder};
 ghost use Rattle.source_model.specs.Items.{members};
 ghost use Rattle.source_model.specs.Source.{Source};
-ghost use Rattle.source_syntax.specs.Pieces.{ArePieces, AreParts};
-ghost use Rattle.source_syntax.specs.Readers.{Reads};
-ghost use Rattle.source_syntax.specs.Walk.{IsForest};
+ghost use Rattle.source_nodes.specs.Pieces.{ArePieces, AreParts};
+ghost use Rattle.source_nodes.specs.Readers.{Reads};
+ghost use Rattle.source_nodes.specs.Walk.{IsForest};
 
 use assembly_tree::Layout;
 use ilasm_grammar::TreeNode;
 use ilasm_grammar::productions::{MEMBER_PACK, MEMBER_SIZE};
 use source_flags::naturals::{natural_32, short_of};
-use source_syntax::pieces::{Piece, nodes_of};
-use source_syntax::reader::Reader;
-use source_syntax::walk::leaf_at;
+use source_nodes::pieces::{Piece, nodes_of};
+use source_nodes::reader::Reader;
+use source_nodes::walk::leaf_at;
 
 /// The layout of a class, where a line among its members gives it one, from what stands below its production.
 pub fn layout(reader: &Reader, nodes: &[TreeNode], found: &[Piece]) -> Option<Layout>

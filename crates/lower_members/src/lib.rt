@@ -3,26 +3,24 @@
 //! whose numbers is out of its range.
 #![tactic(auto)]
 
-pub mod accessors;
-pub mod capped;
+mod accessors;
 pub mod class_sizes;
-pub mod constants;
-pub mod contents;
-pub mod data_items;
+mod constants;
+mod contents;
+mod data_items;
 pub mod events;
 pub mod fields;
 pub mod generics;
-pub mod item_customs;
+mod item_customs;
 pub mod item_walks;
 pub mod labelled_data;
 pub mod layouts;
-pub mod line_attributes;
+mod line_attributes;
 pub mod method_tables;
-pub mod next_pieces;
-pub mod numbered_lines;
-pub mod param_lines;
+mod next_pieces;
+mod numbered_lines;
 pub mod params;
 pub mod properties;
-pub mod runs;
-pub mod type_sizes;
-pub mod units;
+mod runs;
+mod type_sizes;
+mod units;

@@ -8,19 +8,19 @@ ghost use Rattle.lower_members.specs.Ranged.{IsRangedItem};
 ghost use Rattle.source_model.specs.Forest.{Part};
 ghost use Rattle.source_model.specs.Nodes.{Around};
 ghost use Rattle.source_model.specs.Source.{Source};
-ghost use Rattle.source_syntax.specs.Pieces.{ArePieces, AreParts, nodes_of, piece_of, written};
+ghost use Rattle.source_nodes.specs.Pieces.{ArePieces, AreParts, nodes_of, piece_of, written};
 ghost use Rattle.source_syntax.specs.Places.{IsAt};
-ghost use Rattle.source_syntax.specs.Walk.{IsForest};
+ghost use Rattle.source_nodes.specs.Walk.{IsForest};
 
 use crate::next_pieces::next;
-use crate::param_lines::{is_typar_line, typar_number};
 use assembly_tree::Attributes;
 use il_base::{Items, NoMemory};
 use ilasm_grammar::TreeNode;
 use lower_manifest::attributes::attributes;
 use lower_manifest::runs::run_of;
+use param_lines::typar_lines::{is_typar_line, typar_number};
+use source_nodes::pieces::{Piece, nodes_of};
 use source_syntax::declared::Declared;
-use source_syntax::pieces::{Piece, nodes_of};
 use source_syntax::place::Place;
 use std::alloc::Global;
 

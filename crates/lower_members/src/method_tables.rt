@@ -31,7 +31,7 @@ impl<'a> Model for MethodTable<'a> {
     ghost use Rattle.std.specs.Prelude.{List, map, nat_eq, reverse};
     ghost use Rattle.indexmap.specs.IndexMap.{get};
     ghost use Rattle.type_terms.specs.contracts.term.SigType as sig_type;
-    ghost use Rattle.source_syntax.specs.Chains.{IsChained};
+    ghost use Rattle.source_nodes.specs.Chains.{IsChained};
     ghost use Rattle.lower_members.specs.MethodHashes.{signed_hash};
     ghost use Rattle.lower_members.specs.SignedMethods.{Signed, signed};
 

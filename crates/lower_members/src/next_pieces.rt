@@ -2,7 +2,7 @@
 
 ghost use Rattle.std.specs.Prelude.{◌≡◌, [], ◌∷◌, MatchOption};
 
-use source_syntax::pieces::Piece;
+use source_nodes::pieces::Piece;
 
 /// The first piece and those behind it, where there is one.
 pub fn next(found: &[Piece]) -> Option<(Piece, &[Piece])>

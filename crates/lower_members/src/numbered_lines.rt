@@ -8,17 +8,17 @@ ghost use Rattle.lower_members.specs.NumberedLines.{AllLines, AreNumbered, IsLin
 ghost use Rattle.lower_members.specs.Ranged.{IsBodyItem};
 ghost use Rattle.source_model.specs.Forest.{Part};
 ghost use Rattle.source_model.specs.Source.{Source};
-ghost use Rattle.source_syntax.specs.Pieces.{ArePieces, AreParts, piece_of, written};
-ghost use Rattle.source_syntax.specs.Readers.{Reads};
+ghost use Rattle.source_nodes.specs.Pieces.{ArePieces, AreParts, piece_of, written};
+ghost use Rattle.source_nodes.specs.Readers.{Reads};
 
-use crate::capped::natural;
 use crate::next_pieces::next;
 use il_base::{Items, NoMemory};
 use ilasm_grammar::TreeNode;
 use ilasm_grammar::productions::{ITEM_INSTRUCTION, PARAM_OF_BRACKET};
-use source_syntax::pieces::{Piece, nodes_of};
-use source_syntax::reader::Reader;
-use source_syntax::walk::{has, leaf_at, the};
+use param_lines::capped::natural;
+use source_nodes::pieces::{Piece, nodes_of};
+use source_nodes::reader::Reader;
+use source_nodes::walk::{has, leaf_at, the};
 use std::alloc::Global;
 
 /// A line of `.param [n]`, and the items behind it.

@@ -14,10 +14,10 @@ ghost use Rattle.source_model.specs.Manifests.{attributes};
 ghost use Rattle.source_model.specs.Nodes.{Around};
 ghost use Rattle.source_model.specs.Parameters.{attributes_of, has_row, line_constant, parameter_name, params, row, with_line_flags};
 ghost use Rattle.source_model.specs.Source.{Source};
-ghost use Rattle.source_syntax.specs.Pieces.{ArePieces, AreParts};
+ghost use Rattle.source_nodes.specs.Pieces.{ArePieces, AreParts};
 ghost use Rattle.source_syntax.specs.Places.{IsAt};
-ghost use Rattle.source_syntax.specs.Readers.{Reads};
-ghost use Rattle.source_syntax.specs.Walk.{IsForest};
+ghost use Rattle.source_nodes.specs.Readers.{Reads};
+ghost use Rattle.source_nodes.specs.Walk.{IsForest};
 
 use crate::constants::constant_of;
 use crate::numbered_lines::{NumberedLine, numbered_lines};
@@ -33,10 +33,10 @@ use source_flags::declared_flags::parameter_flags;
 use source_flags::gathering::{Kind, parts_of};
 use source_flags::naturals::natural_16;
 use source_model::{derivations_are_forests, forests_join, forests_open};
-use source_syntax::pieces::{Piece, nodes_of};
+use source_nodes::pieces::{Piece, nodes_of};
+use source_nodes::reader::Reader;
+use source_nodes::walk::{child, has, leaf_at, next, the};
 use source_syntax::place::Place;
-use source_syntax::reader::Reader;
-use source_syntax::walk::{child, has, leaf_at, next, the};
 use std::alloc::Global;
 
 /// The rows of a method's parameters, from what stands below its production and its items, with the ends of blocks among them.

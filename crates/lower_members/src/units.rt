@@ -6,14 +6,14 @@ ghost use Rattle.source_model.specs.Constants.{units_in};
 ghost use Rattle.source_model.specs.Forest.{Forest, preorder};
 ghost use Rattle.source_model.specs.Source.{Source};
 ghost use Rattle.source_model.specs.Values.{units, units_of_bytes};
-ghost use Rattle.source_syntax.specs.Derived.{FitsBody, HasBodies};
-ghost use Rattle.source_syntax.specs.Readers.{Reads};
-ghost use Rattle.source_syntax.specs.Walk.{IsForest};
+ghost use Rattle.source_nodes.specs.Derived.{FitsBody, HasBodies};
+ghost use Rattle.source_nodes.specs.Readers.{Reads};
+ghost use Rattle.source_nodes.specs.Walk.{IsForest};
 
 use il_base::{Items, NoMemory, Units};
 use ilasm_grammar::TreeNode;
 use lower_manifest::texts::text_in;
-use source_syntax::reader::Reader;
+use source_nodes::reader::Reader;
 use std::alloc::Global;
 
 /// A string in units of UTF-16, from what stands below its production.

@@ -21,9 +21,9 @@ use Rattle.source_model.specs.Nodes.{Around, typar_names, typars}
 use Rattle.source_model.specs.Source.{Source}
 use Rattle.source_model.specs.Values.{name_text}
 use Rattle.source_syntax.specs.Places.{IsAt}
-use Rattle.source_syntax.specs.Readers.{Reads}
+use Rattle.source_nodes.specs.Readers.{Reads}
 use Rattle.source_syntax.specs.declared.place.Place.{Place}
-use Rattle.source_syntax.proofs.PieceLemmas.{take_next}
+use Rattle.source_nodes.proofs.PieceLemmas.{take_next}
 use Rattle.source_syntax.proofs.SizeLemmas.{child_smaller, few_each}
 
 -- what says that a method is the entry point stands in no instruction

@@ -21,10 +21,10 @@ use Rattle.source_model.specs.Nodes.{Around, Node, entered, nodes, nodes_in, nod
 use Rattle.source_model.specs.OutOfRange.{data_too_short, data_unsized, nestings_too_deep, numbers_out_of_range, types_too_deep}
 use Rattle.source_model.specs.Source.{Source}
 use Rattle.source_model.specs.TokenOrder.{numbers_from, TokensStandInOrder}
-use Rattle.source_syntax.specs.Derived.{FitsBody, FitsRule, head_of}
+use Rattle.source_nodes.specs.Derived.{FitsBody, FitsRule, head_of}
 use Rattle.source_syntax.proofs.BodyLemmas.{fits_has, goes_on_with}
 use Rattle.source_syntax.proofs.ReferenceLemmas.{sound_part}
-use Rattle.source_syntax.proofs.WrittenNames.{one_in}
+use Rattle.source_nodes.proofs.WrittenNames.{one_in}
 use Rattle.source_flags.specs.InRange.{AllInRange}
 use Rattle.source_flags.proofs.Gathered.{has_bodies}
 use Rattle.lower_manifest.specs.Laws.{AllAreInRange}

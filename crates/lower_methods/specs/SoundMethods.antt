@@ -6,7 +6,7 @@ use Rattle.source_model.specs.Forest.{Forest, Part}
 use Rattle.source_model.specs.Nodes.{Node}
 use Rattle.source_model.specs.Source.{Source}
 use Rattle.source_flags.specs.InRange.{AllInRange, IsInRange}
-use Rattle.source_syntax.specs.Derived.{OfEach}
+use Rattle.source_nodes.specs.Derived.{OfEach}
 use Rattle.source_syntax.specs.Methods.{IsMethod}
 
 pub record IsSoundMethod (s : Source) (n : Node) : Type 0 where

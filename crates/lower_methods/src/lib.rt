@@ -5,5 +5,5 @@
 
 pub mod laws;
 pub mod method_lists;
-pub mod method_rows;
-pub mod whole_methods;
+mod method_rows;
+mod whole_methods;

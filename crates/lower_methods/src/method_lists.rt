@@ -7,18 +7,18 @@ ghost use Rattle.source_model.specs.Forest.{Forest, Part, preorder};
 ghost use Rattle.source_model.specs.Members.{is_method_part, methods};
 ghost use Rattle.source_model.specs.Nodes.{Around};
 ghost use Rattle.source_model.specs.Source.{Source};
-ghost use Rattle.source_syntax.specs.Pieces.{ArePieces, AreParts};
+ghost use Rattle.source_nodes.specs.Pieces.{ArePieces, AreParts};
 ghost use Rattle.source_syntax.specs.Places.{IsAt};
-ghost use Rattle.source_syntax.specs.Walk.{IsForest};
+ghost use Rattle.source_nodes.specs.Walk.{IsForest};
 
 use crate::whole_methods::push_method;
 use assembly_tree::Methods;
 use il_base::{Items, NoMemory};
 use ilasm_grammar::TreeNode;
 use ilasm_grammar::productions::{DECL_METHOD, MEMBER_METHOD, METHOD};
-use source_syntax::pieces::{Piece, nodes_of};
+use source_nodes::pieces::{Piece, nodes_of};
+use source_nodes::walk::the;
 use source_syntax::place::Place;
-use source_syntax::walk::the;
 use std::alloc::Global;
 
 /// The methods among these members or declarations, in order, from a place outside of all methods.

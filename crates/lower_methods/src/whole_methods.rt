@@ -7,7 +7,7 @@ ghost use Rattle.source_model.specs.Members.{method, method_from};
 ghost use Rattle.source_model.specs.Nodes.{Around, Node};
 ghost use Rattle.source_model.specs.Source.{Source};
 ghost use Rattle.source_syntax.specs.Places.{IsAt};
-ghost use Rattle.source_syntax.specs.Walk.{IsForest};
+ghost use Rattle.source_nodes.specs.Walk.{IsForest};
 
 use crate::method_rows::read_rows;
 use assembly_tree::{Method, Methods};

@@ -12,7 +12,7 @@ use Rattle.ilasm_grammar.proofs.TableFacts.{at_rule}
 use Rattle.ilasm_grammar.proofs.Tables.{all_below, implies}
 use Rattle.source_model.specs.Forest.{Forest, none, leaf, branch, part, parts, parts_outside, is_among}
 use Rattle.source_model.specs.Source.{Source}
-use Rattle.source_syntax.specs.Derived.{Fits, FitsRule, HasBodies}
+use Rattle.source_nodes.specs.Derived.{Fits, FitsRule, HasBodies}
 use Rattle.source_flags.specs.Outside.{shut_of}
 use Rattle.source_flags.specs.declared.outside.Shut.{Shut}
 use Rattle.source_flags.specs.declared.outside.Shut.TheVariants.{Types, Methods, Instructions}

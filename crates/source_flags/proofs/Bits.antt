@@ -7,7 +7,7 @@ use Rattle.source_model.specs.OutOfRange.{are_cor_flags, are_implementation_flag
 use Rattle.source_model.specs.Source.{Source}
 use Rattle.source_model.specs.TypeRules.{unless}
 use Rattle.source_model.specs.Values.{int_at}
-use Rattle.source_syntax.proofs.WrittenNames.{both_true}
+use Rattle.source_nodes.proofs.WrittenNames.{both_true}
 
 -- a number without a sign, below 2 to so many bits
 abbrev pub IsNatural : ℕ → ℤ → Type 0

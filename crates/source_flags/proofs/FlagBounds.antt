@@ -15,9 +15,9 @@ use Rattle.ilasm_grammar.specs.declared.symbol.Symbol.TheVariants.{Nonterminal}
 use Rattle.source_model.specs.Flags.{FlagWord, flag_word, flags_in, flags_number, nested_words, replaced, with_flag, without_bits}
 use Rattle.source_model.specs.Forest.{Forest, none, leaf, branch, Part, part, child, has, last_token}
 use Rattle.source_model.specs.Source.{Source, word_at, is_word_numbered}
-use Rattle.source_syntax.specs.Derived.{Fits, FitsBody, OfEach, head_of}
+use Rattle.source_nodes.specs.Derived.{Fits, FitsBody, OfEach, head_of}
 use Rattle.source_syntax.proofs.VariableLemmas.{within_in}
-use Rattle.source_syntax.proofs.WrittenNames.{both_true, fits_rule}
+use Rattle.source_nodes.proofs.WrittenNames.{both_true, fits_rule}
 use Rattle.source_flags.specs.FlagRows.{end_of, more_of, row_flags, words_of}
 use Rattle.source_flags.specs.InRange.{AllInRange, IsInRange}
 use Rattle.source_flags.specs.declared.flag_rows.Row.{Row}

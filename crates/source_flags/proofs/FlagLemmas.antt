@@ -11,9 +11,9 @@ use Rattle.source_model.specs.Forest.{Forest, Part, part, has, last_token, joine
 use Rattle.source_model.specs.Laws.{ForestOpens}
 use Rattle.source_model.specs.Source.{Source, word_at}
 use Rattle.source_flags.specs.FlagRows.{end_of, flags_after, more_of, words_of}
-use Rattle.source_syntax.specs.Readers.{Reads}
+use Rattle.source_nodes.specs.Readers.{Reads}
 use Rattle.source_flags.specs.declared.flag_rows.Row.{Row}
-use Rattle.source_syntax.specs.declared.reader.Reader.{Reader}
+use Rattle.source_nodes.specs.declared.reader.Reader.{Reader}
 
 -- ---- the lowest bits
 

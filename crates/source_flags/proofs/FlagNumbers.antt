@@ -29,10 +29,10 @@ use Rattle.source_model.specs.Shapes.{natural}
 use Rattle.source_model.specs.Source.{Source}
 use Rattle.source_model.specs.TypeRules.{arguments_out_of_range, array_out_of_range, generic_number_out_of_range, index_out_of_range, is_within, parameter_flags_out_of_range, second_ellipsis}
 use Rattle.source_model.specs.Values.{int_at}
-use Rattle.source_syntax.specs.Derived.{Fits, FitsBody, FitsRule, HasBodies, head_of}
+use Rattle.source_nodes.specs.Derived.{Fits, FitsBody, FitsRule, HasBodies, head_of}
 use Rattle.source_syntax.specs.Places.{node_of}
-use Rattle.source_syntax.proofs.SoundLemmas.{nothing_in}
-use Rattle.source_syntax.proofs.WrittenNames.{both_true, fits_rule, other_true}
+use Rattle.source_nodes.proofs.Empties.{nothing_in}
+use Rattle.source_nodes.proofs.WrittenNames.{both_true, fits_rule, other_true}
 use Rattle.source_flags.specs.InRange.{AllInRange, IsInRange}
 use Rattle.source_flags.specs.declared.flag_rows.Row.{Row}
 use Rattle.source_flags.specs.declared.flag_rows.Row.TheVariants.{Assembly, Class, Field, Method, Implementation, Parameter, Property, Typar}

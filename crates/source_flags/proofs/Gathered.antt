@@ -7,12 +7,12 @@ use Rattle.ilasm_grammar.specs.declared.tree.TreeNode.{TreeNode}
 use Rattle.source_model.specs.Forest.{Forest, none, leaf, branch, Part, part, parts, is_among, preorder}
 use Rattle.source_model.specs.Manifests.{last_said}
 use Rattle.source_model.specs.Source.{Source}
-use Rattle.source_syntax.specs.Derived.{HasBodies, OfEach}
-use Rattle.source_syntax.specs.Pieces.{ArePieces, nodes_of}
+use Rattle.source_nodes.specs.Derived.{HasBodies, OfEach}
+use Rattle.source_nodes.specs.Pieces.{ArePieces, nodes_of}
 use Rattle.source_syntax.specs.Places.{IsReadable}
-use Rattle.source_syntax.specs.declared.pieces.Piece.{Piece}
+use Rattle.source_nodes.specs.declared.pieces.Piece.{Piece}
 use Rattle.source_flags.specs.InRange.{AllInRange}
-use Rattle.source_syntax.proofs.PieceLemmas.{as_many, part_at}
+use Rattle.source_nodes.proofs.PieceLemmas.{as_many, part_at}
 use Rattle.source_syntax.proofs.SoundLemmas.{signature_fits}
 use Rattle.source_flags.specs.Lines.{IsLast, IsPart, last_part}
 use Rattle.source_flags.specs.declared.lines.Line.{Line}

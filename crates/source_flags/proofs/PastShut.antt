@@ -8,9 +8,9 @@ use Rattle.ilasm_grammar.specs.declared.tree.TreeNode.TheVariants.{Branch, Leaf}
 use Rattle.source_model.specs.Forest as tree
 use Rattle.source_model.specs.Forest.{Forest, Part, part, parts_outside, preorder, is_among, joined}
 use Rattle.source_model.specs.Laws.{ForestOpens, ForestsJoin, OneForest}
-use Rattle.source_syntax.specs.Pieces.{ArePieces, piece_of, written}
-use Rattle.source_syntax.specs.Walk.{IsForest}
-use Rattle.source_syntax.specs.declared.pieces.Piece.{Piece}
+use Rattle.source_nodes.specs.Pieces.{ArePieces, piece_of, written}
+use Rattle.source_nodes.specs.Walk.{IsForest}
+use Rattle.source_nodes.specs.declared.pieces.Piece.{Piece}
 
 -- up to `at` these were found; what is left is a forest, and what is in it completes what is in the whole
 pub record Gathered (nodes : List TreeNode) (shut sought : List ℕ) (at : ℕ) (found : List Piece) : Type 0 where

@@ -4,7 +4,7 @@ use Rattle.std.specs.Prelude.{◌≡◌, ℕ, []}
 use Rattle.source_model.specs.Forest.{Forest}
 use Rattle.source_model.specs.OutOfRange.{constant_out_of_range, data_number_out_of_range, flags_out_of_range, layout_number_out_of_range, manifest_number_out_of_range}
 use Rattle.source_model.specs.Source.{Source}
-use Rattle.source_syntax.specs.Derived.{FitsBody, OfEach}
+use Rattle.source_nodes.specs.Derived.{FitsBody, OfEach}
 use Rattle.source_syntax.specs.Places.{node_of, numbers_out_of_range}
 
 pub record IsInRange (s : Source) (p : ℕ) (f : Forest) : Type 0 where

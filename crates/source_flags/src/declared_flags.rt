@@ -6,12 +6,12 @@ ghost use Rattle.source_model.specs.Classes.{is_interface};
 ghost use Rattle.source_model.specs.Flags.{assembly_words, assembly_flags_in, event_flags, field_flags, flags_of, implementation_flags, method_flags, parameter_flags_in, parameter_words, property_flags, typar_flags, type_flags};
 ghost use Rattle.source_model.specs.Forest.{Forest, preorder};
 ghost use Rattle.source_model.specs.Source.{Source};
-ghost use Rattle.source_syntax.specs.Readers.{Reads};
-ghost use Rattle.source_syntax.specs.Walk.{IsForest};
+ghost use Rattle.source_nodes.specs.Readers.{Reads};
+ghost use Rattle.source_nodes.specs.Walk.{IsForest};
 
 use crate::flag_rows::{Row, row_flags};
 use ilasm_grammar::TreeNode;
-use source_syntax::reader::Reader;
+use source_nodes::reader::Reader;
 
 /// Those of a class: their lowest 32 bits, which are all of them where each number is in its range.
 pub fn type_flags(reader: &Reader, nodes: &[TreeNode]) -> u32

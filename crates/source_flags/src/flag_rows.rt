@@ -8,8 +8,8 @@ ghost use Rattle.source_model.specs.Forest.{Forest, has, last_token, part, preor
 ghost use Rattle.source_model.specs.Source.{Source, word_at};
 ghost use Rattle.source_flags.specs.FlagRows.{end_of, more_of, row_flags, words_at, words_of, Replaces};
 ghost use Rattle.source_flags.specs.FlagWords.{IsFlagOf};
-ghost use Rattle.source_syntax.specs.Readers.{Reads};
-ghost use Rattle.source_syntax.specs.Walk.{IsForest};
+ghost use Rattle.source_nodes.specs.Readers.{Reads};
+ghost use Rattle.source_nodes.specs.Walk.{IsForest};
 
 use crate::flags::{
     Bits, assembly_word, field_word, implementation_word, method_word, nested_word, parameter_word,
@@ -18,8 +18,8 @@ use crate::flags::{
 use crate::naturals::natural;
 use ilasm_grammar::{TreeNode, productions};
 use source_model::{derivations_are_forests, forests_join, forests_open};
-use source_syntax::reader::Reader;
-use source_syntax::walk::{child, has, last_token, leaf_at, next, the};
+use source_nodes::reader::Reader;
+use source_nodes::walk::{child, has, last_token, leaf_at, next, the};
 
 /// The rows of flags, each in the head of a declaration of its kind.
 #[derive(Debug, Clone, Copy, PartialEq, Eq, Drop)]

@@ -4,13 +4,13 @@ ghost use Rattle.std.specs.Prelude.{◌≡◌, IfOk};
 ghost use Rattle.source_flags.specs.Lines.{productions_of};
 ghost use Rattle.source_flags.specs.declared.gathering.Kind.TheVariants.{Accessors, Declarations, Members};
 ghost use Rattle.source_model.specs.Forest.{Forest, is_among, parts, preorder};
-ghost use Rattle.source_syntax.specs.Pieces.{ArePieces};
-ghost use Rattle.source_syntax.specs.Walk.{IsForest};
+ghost use Rattle.source_nodes.specs.Pieces.{ArePieces};
+ghost use Rattle.source_nodes.specs.Walk.{IsForest};
 
 use il_base::{Items, NoMemory};
 use ilasm_grammar::{TreeNode, productions};
 use source_model::{derivations_are_forests, forests_join, forests_open};
-use source_syntax::pieces::Piece;
+use source_nodes::pieces::Piece;
 use std::alloc::Global;
 
 /// The kinds of parts that are gathered.

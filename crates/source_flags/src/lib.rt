@@ -4,7 +4,7 @@
 
 pub mod declared_flags;
 pub mod flag_rows;
-pub mod flags;
+mod flags;
 pub mod gathering;
 pub mod lines;
 pub mod naturals;

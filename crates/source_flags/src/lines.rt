@@ -3,13 +3,13 @@
 ghost use Rattle.std.specs.Prelude.{◌≡◌, ◌-◌, IfOk, List, length, slice_get};
 ghost use Rattle.source_flags.specs.Lines.{IsLast, productions_of};
 ghost use Rattle.source_model.specs.Forest.{Forest, Part, parts, preorder};
-ghost use Rattle.source_syntax.specs.Pieces.{ArePieces};
-ghost use Rattle.source_syntax.specs.Walk.{IsForest};
+ghost use Rattle.source_nodes.specs.Pieces.{ArePieces};
+ghost use Rattle.source_nodes.specs.Walk.{IsForest};
 
 use crate::gathering::{Kind, parts_of};
 use il_base::NoMemory;
 use ilasm_grammar::TreeNode;
-use source_syntax::pieces::{Piece, nodes_of};
+use source_nodes::pieces::{Piece, nodes_of};
 use std::alloc::Global;
 
 /// A line: its production, and the nodes below it.

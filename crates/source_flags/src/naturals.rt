@@ -6,10 +6,10 @@ ghost use Rattle.source_model.specs.OutOfRange.{is_16_bits, is_32_bits};
 ghost use Rattle.source_model.specs.Shapes.{natural};
 ghost use Rattle.source_model.specs.Source.{Source};
 ghost use Rattle.source_model.specs.Values.{int_at, integer};
-ghost use Rattle.source_syntax.specs.Readers.{Reads};
+ghost use Rattle.source_nodes.specs.Readers.{Reads};
 
-use source_syntax::reader::Reader;
-use source_syntax::values::integers::wrapped_integer;
+use source_nodes::reader::Reader;
+use source_nodes::values::integers::wrapped_integer;
 
 /// The number that an INT spells, modulo 2^64; 0 for a negative one.
 pub fn natural(reader: &Reader, token: u32) -> u64

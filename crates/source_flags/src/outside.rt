@@ -5,15 +5,15 @@ ghost use Rattle.ilasm_grammar.specs.declared.productions.TheConstants.{CLASS, I
 ghost use Rattle.source_flags.specs.Lines.{IsLast, productions_of};
 ghost use Rattle.source_flags.specs.Outside.{shut_of};
 ghost use Rattle.source_model.specs.Forest.{Forest, is_among, is_any_part, parts_outside, preorder};
-ghost use Rattle.source_syntax.specs.Pieces.{ArePieces};
-ghost use Rattle.source_syntax.specs.Walk.{IsForest};
+ghost use Rattle.source_nodes.specs.Pieces.{ArePieces};
+ghost use Rattle.source_nodes.specs.Walk.{IsForest};
 
 use crate::gathering::{Kind, is_of_kind};
 use crate::lines::{Line, last_of};
 use il_base::{Items, NoMemory};
 use ilasm_grammar::{TreeNode, productions};
 use source_model::{derivations_are_forests, forests_join, forests_open};
-use source_syntax::pieces::Piece;
+use source_nodes::pieces::Piece;
 use std::alloc::Global;
 
 /// Productions that are gone past.

@@ -9,8 +9,8 @@ use Rattle.ilasm_grammar.specs.declared.symbol.Symbol.{Symbol}
 use Rattle.ilasm_grammar.specs.declared.symbol.Symbol.TheVariants.{Terminal, Nonterminal}
 use Rattle.source_model.specs.Forest.{Forest, Part, none, leaf, branch, leaf_at, child, has, parts, part, is_any_part}
 use Rattle.source_model.specs.Source.{Source}
-use Rattle.source_syntax.specs.Derived.{terminal_at, head_of, Fits, FitsRule, HasBodies, OfEach}
-use Rattle.source_syntax.proofs.WrittenNames.{both_true, other_true}
+use Rattle.source_nodes.specs.Derived.{terminal_at, head_of, Fits, FitsRule, HasBodies, OfEach}
+use Rattle.source_nodes.proofs.WrittenNames.{both_true, other_true}
 
 -- ---- the tokens at the top
 

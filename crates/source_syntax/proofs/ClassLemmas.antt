@@ -10,14 +10,14 @@ use Rattle.std.proofs.lemmas.Slice.Eq.{bytes_eq-Decides}
 use Rattle.type_terms.specs.declared.name.TypeId.{TypeId}
 use Rattle.assembly_tree.specs.DataSize.{is_id}
 use Rattle.source_model.specs.Names.{is_path}
-use Rattle.source_syntax.specs.Chains.{IsChained}
+use Rattle.source_nodes.specs.Chains.{IsChained}
 use Rattle.source_syntax.specs.ClassNumbers.{AreDistinct, AreFound, IsNumber, class_hash, class_in, class_of, id_of, is_class, outer_of}
 use Rattle.source_syntax.specs.Nested.{IsNested}
 use Rattle.source_syntax.specs.declared.class_paths.ClassName.{ClassName}
-use Rattle.source_syntax.proofs.ChainLemmas.{IsChained-none, chain_push, chain_undo, snoc_cases}
-use Rattle.source_syntax.proofs.FirstLemmas.{position_is, position_none}
+use Rattle.source_nodes.proofs.ChainLemmas.{IsChained-none, chain_push, chain_undo, snoc_cases}
+use Rattle.source_nodes.proofs.FirstLemmas.{position_is, position_none}
 use Rattle.source_syntax.proofs.NestedLemmas.{nested_more, none_nested}
-use Rattle.source_syntax.proofs.WrittenNames.{both_true}
+use Rattle.source_nodes.proofs.WrittenNames.{both_true}
 
 -- ---- equality
 

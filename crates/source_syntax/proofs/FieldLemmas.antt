@@ -22,14 +22,14 @@ use Rattle.source_model.specs.Nodes.{Around}
 use Rattle.source_model.specs.References.{owner_of}
 use Rattle.source_model.specs.Source.{Source}
 use Rattle.source_model.specs.Types.{the_type}
-use Rattle.source_syntax.specs.Derived.{Fits, FitsBody, HasBodies, head_of}
+use Rattle.source_nodes.specs.Derived.{Fits, FitsBody, HasBodies, head_of}
 use Rattle.source_syntax.specs.Places.{IsReadable, IsSound}
-use Rattle.source_syntax.specs.Readers.{IsOf}
+use Rattle.source_nodes.specs.Readers.{IsOf}
 use Rattle.source_syntax.specs.Sound.{HasPath, HasSoundType}
 use Rattle.source_syntax.proofs.BodyLemmas.{field_tail_stays, field_target_stays, fits_child, fits_leaf, has_child, in_reference, in_signature, nowhere_below}
 use Rattle.source_syntax.proofs.TypeWalks.{has_bodies, one_type_production}
 use Rattle.source_syntax.proofs.VariableLemmas.{within_in}
-use Rattle.source_syntax.proofs.WrittenNames.{fits_rule, is_name, is_scope, one_path}
+use Rattle.source_nodes.proofs.WrittenNames.{fits_rule, is_name, is_scope, one_path}
 
 -- ---- bodies
 

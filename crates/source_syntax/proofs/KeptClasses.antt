@@ -6,9 +6,9 @@ use Rattle.std.proofs.lemmas.Option.{slice_get-get_or, slice_get-map}
 use Rattle.std.proofs.Math.Seq.{drop-append_seam, take-append_seam, take-length}
 use Rattle.source_syntax.specs.ClassNumbers.{IsNumber, class_hash, class_in, class_of}
 use Rattle.source_syntax.specs.ClassTexts.{AreKept, AreWithin, class_at, classes_in, name_at, older_of, space_at}
-use Rattle.source_syntax.specs.NameTexts.{id_with}
+use Rattle.source_nodes.specs.NameTexts.{id_with}
 use Rattle.source_syntax.specs.declared.class_paths.KeptClass.{KeptClass}
-use Rattle.source_syntax.proofs.ChainLemmas.{snoc_cases}
+use Rattle.source_nodes.proofs.ChainLemmas.{snoc_cases}
 use Rattle.source_syntax.proofs.ClassLemmas.{found_none, found_push}
 
 pub kept_none : (newest : ℕ → Option ℕ) (texts : List ℕ) → ((h : ℕ) → newest h ≡ None) → AreKept newest texts []

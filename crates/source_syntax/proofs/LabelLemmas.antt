@@ -13,10 +13,10 @@ use Rattle.source_model.specs.Instructions.{is_label, label_named, labels, numbe
 use Rattle.source_model.specs.Source.{Source}
 use Rattle.source_model.specs.Values.{name_text}
 use Rattle.source_syntax.specs.Labels.{is_below, number_among, number_declared, number_found}
-use Rattle.source_syntax.specs.Least.{least, sooner}
+use Rattle.source_nodes.specs.Least.{least, sooner}
 use Rattle.source_syntax.proofs.LeastLemmas.{sooner_assoc}
 use Rattle.source_syntax.proofs.MethodLemmas.{drop_at}
-use Rattle.source_syntax.proofs.PieceLemmas.{take_next}
+use Rattle.source_nodes.proofs.PieceLemmas.{take_next}
 
 -- ---- the first place, by recursion
 

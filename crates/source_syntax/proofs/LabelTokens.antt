@@ -25,10 +25,10 @@ use Rattle.source_model.specs.BodyFaults.{label_names, label_names_in}
 use Rattle.source_model.specs.Forest.{Forest, none, leaf, branch, Part, part, parts, below_each, each, is_among, leaf_at}
 use Rattle.source_model.specs.Instructions.{labels, names_in, targets, instructions_of, instruction_forms}
 use Rattle.source_model.specs.Source.{Source}
-use Rattle.source_syntax.specs.Derived.{terminal_at, Fits, FitsBody, HasBodies}
+use Rattle.source_nodes.specs.Derived.{terminal_at, Fits, FitsBody, HasBodies}
 use Rattle.source_syntax.specs.Methods.{AreNames}
-use Rattle.source_syntax.specs.Readers.{IsOf}
-use Rattle.source_syntax.proofs.WrittenNames.{fits_rule, is_name}
+use Rattle.source_nodes.specs.Readers.{IsOf}
+use Rattle.source_nodes.proofs.WrittenNames.{fits_rule, is_name}
 
 -- ---- the tokens at the top of a body
 

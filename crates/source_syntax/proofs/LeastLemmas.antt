@@ -3,7 +3,7 @@ use Rattle.std.proofs.Common.{◌≡◌, ℕ, List, [], ◌∷◌, ◌++◌, ap,
 use Rattle.std.specs.Prelude.{Option, None, Some, nat_lt, if◌then◌else◌, option_map}
 use Rattle.std.specs.List.{flat_map}
 use Rattle.source_model.specs.Faults.{Broken, earlier, earliest, rule_at}
-use Rattle.source_syntax.specs.Least.{least, sooner}
+use Rattle.source_nodes.specs.Least.{least, sooner}
 
 three : (x y z : ℕ) → sooner (sooner (Some x) (Some y)) (Some z) ≡ sooner (Some x) (sooner (Some y) (Some z))
 three x y z = grind arith

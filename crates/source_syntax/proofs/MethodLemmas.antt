@@ -14,14 +14,14 @@ use Rattle.source_model.specs.Laws.{ForestOpens, ForestsJoin, OneForest}
 use Rattle.source_model.specs.Nodes.{Around, Node, entered, nodes, nodes_in, nodes_of, nothing_around}
 use Rattle.source_model.specs.Source.{Source}
 use Rattle.source_model.specs.TokenOrder.{numbers_from, TokensStandInOrder}
-use Rattle.source_syntax.specs.Derived.{HasBodies, DerivationsHaveBodies}
-use Rattle.source_syntax.specs.Least.{least, sooner}
+use Rattle.source_nodes.specs.Derived.{HasBodies, DerivationsHaveBodies}
+use Rattle.source_nodes.specs.Least.{least, sooner}
 use Rattle.source_syntax.specs.Methods.{all_below, AreBelow, IsDerived, IsMethod}
-use Rattle.source_syntax.specs.Pieces as piece
-use Rattle.source_syntax.specs.Readers.{Reads}
-use Rattle.source_syntax.specs.Walk.{IsForest}
-use Rattle.source_syntax.specs.declared.pieces.Piece.{Piece}
-use Rattle.source_syntax.specs.declared.reader.Reader.{Reader}
+use Rattle.source_nodes.specs.Pieces as piece
+use Rattle.source_nodes.specs.Readers.{Reads}
+use Rattle.source_nodes.specs.Walk.{IsForest}
+use Rattle.source_nodes.specs.declared.pieces.Piece.{Piece}
+use Rattle.source_nodes.specs.declared.reader.Reader.{Reader}
 use Rattle.source_syntax.proofs.LeastLemmas.{least_append, sooner_assoc}
 use Rattle.source_syntax.proofs.LabelTokens.{all_append, one_of}
 

@@ -24,13 +24,13 @@ use Rattle.source_model.specs.Laws.{ForestsJoin}
 use Rattle.source_model.specs.References.{method_name, method_name_parts, text_of_method_name}
 use Rattle.source_model.specs.Source.{Source, spelling}
 use Rattle.source_model.specs.Values.{name_text}
-use Rattle.source_syntax.specs.Derived.{FitsBody, HasBodies, terminal_at}
-use Rattle.source_syntax.specs.Readers.{IsOf}
-use Rattle.source_syntax.specs.Walk.{Opens, is_of}
-use Rattle.source_syntax.specs.declared.walk.Opened.{Opened}
-use Rattle.source_syntax.proofs.Collecting.{SoFar, ends, goes_in, is_other, starts}
-use Rattle.source_syntax.proofs.ReaderLemmas.{token_spelled}
-use Rattle.source_syntax.proofs.WrittenNames.{first_terminal, fits_rule, is_name}
+use Rattle.source_nodes.specs.Derived.{FitsBody, HasBodies, terminal_at}
+use Rattle.source_nodes.specs.Readers.{IsOf}
+use Rattle.source_nodes.specs.Walk.{Opens, is_of}
+use Rattle.source_nodes.specs.declared.walk.Opened.{Opened}
+use Rattle.source_nodes.proofs.Collecting.{SoFar, ends, goes_in, is_other, starts}
+use Rattle.source_nodes.proofs.ReaderLemmas.{token_spelled}
+use Rattle.source_nodes.proofs.WrittenNames.{first_terminal, fits_rule, is_name}
 
 -- ---- words
 

@@ -8,10 +8,10 @@ use Rattle.source_model.specs.Forest.{Forest, child, has, leaf_at}
 use Rattle.source_model.specs.Names.{Written, name_and_tail, or_module, path_tokens, type_named}
 use Rattle.source_model.specs.Nodes.{type_id}
 use Rattle.source_model.specs.Source.{Source}
-use Rattle.source_syntax.specs.Derived.{FitsBody}
-use Rattle.source_syntax.specs.Readers.{IsOf}
+use Rattle.source_nodes.specs.Derived.{FitsBody}
+use Rattle.source_nodes.specs.Readers.{IsOf}
 use Rattle.source_syntax.proofs.ScopeLemmas.{later_ids}
-use Rattle.source_syntax.proofs.WrittenNames.{path_begins}
+use Rattle.source_nodes.proofs.WrittenNames.{path_begins}
 
 pub longer_path : (s : Source) (f : Forest) (outer inner : TypeId) (path pushed longer : List TypeId) (first token : ℕ) → FitsBody s PATH f → path ≡ outer ∷ []
     → pushed ≡ path ++ inner ∷ [] → longer ≡ pushed ++ later_ids s f → outer ≡ type_id s first → (IsOf s kind.Name token → inner ≡ type_id s token)

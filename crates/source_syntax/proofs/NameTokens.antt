@@ -13,9 +13,9 @@ use Rattle.source_model.specs.Forest.{Forest, none, leaf, branch, Part, part, pa
 use Rattle.source_model.specs.Data.{label_token}
 use Rattle.source_model.specs.Names.{key_token}
 use Rattle.source_model.specs.Source.{Source}
-use Rattle.source_syntax.specs.Derived.{terminal_at, Fits, FitsRule, FitsBody, HasBodies}
-use Rattle.source_syntax.specs.Readers.{IsOf}
-use Rattle.source_syntax.proofs.WrittenNames.{is_name, is_scope}
+use Rattle.source_nodes.specs.Derived.{terminal_at, Fits, FitsRule, FitsBody, HasBodies}
+use Rattle.source_nodes.specs.Readers.{IsOf}
+use Rattle.source_nodes.proofs.WrittenNames.{is_name, is_scope}
 
 -- the terminals of a body, in order
 abbrev pub terminals : List Symbol → List ℕ

@@ -16,18 +16,18 @@ use Rattle.source_model.specs.Names.{externs, key_token}
 use Rattle.source_model.specs.Nodes.{typar_names, typars}
 use Rattle.source_model.specs.Source.{Source}
 use Rattle.source_model.specs.Values.{name_text}
-use Rattle.source_syntax.specs.Derived.{HasBodies, OfEach}
-use Rattle.source_syntax.specs.Least.{least, sooner}
+use Rattle.source_nodes.specs.Derived.{HasBodies, OfEach}
+use Rattle.source_nodes.specs.Least.{least, sooner}
 use Rattle.source_syntax.specs.Namings.{AreNames, names_in, production_of, tokens_named}
-use Rattle.source_syntax.specs.Readers.{IsOf}
+use Rattle.source_nodes.specs.Readers.{IsOf}
 use Rattle.source_syntax.specs.Repeats.{is_repeat}
-use Rattle.source_syntax.specs.Walk.{Opens, is_of}
+use Rattle.source_nodes.specs.Walk.{Opens, is_of}
 use Rattle.source_syntax.specs.declared.name_lists.Naming.{Naming}
 use Rattle.source_syntax.specs.declared.name_lists.Naming.TheVariants.{Assembly, Label, Own, Slash, Typar}
-use Rattle.source_syntax.specs.declared.walk.Opened.{Opened}
-use Rattle.source_syntax.proofs.Collecting.{SoFar, each_other, each_own, ends, goes_in, is_other, starts}
+use Rattle.source_nodes.specs.declared.walk.Opened.{Opened}
+use Rattle.source_nodes.proofs.Collecting.{SoFar, each_other, each_own, ends, goes_in, is_other, starts}
 use Rattle.source_syntax.proofs.LeastLemmas.{least_append, sooner_assoc}
-use Rattle.source_syntax.proofs.WrittenNames.{slash_names}
+use Rattle.source_nodes.proofs.WrittenNames.{slash_names}
 use Rattle.source_syntax.proofs.NameTokens.{Each, IsBody, all_of_each, each_append, each_body, child_bodies, assembly_is_name, key_is_name, label_is_name, typar_is_name}
 
 -- ---- the first place of a text, and whether it stands before another

@@ -11,10 +11,10 @@ use Rattle.ilasm_grammar.specs.declared.symbol.Symbol.TheVariants.{Terminal, Non
 use Rattle.source_model.specs.Forest.{Forest, none, leaf, branch, Part, is_among, tokens_of}
 use Rattle.source_model.specs.Instructions.{instruction_forms, instructions_of}
 use Rattle.source_model.specs.Source.{Source}
-use Rattle.source_syntax.specs.Derived.{head_of, Fits, FitsRule, FitsBody, HasBodies}
+use Rattle.source_nodes.specs.Derived.{head_of, Fits, FitsRule, FitsBody, HasBodies}
 use Rattle.source_syntax.proofs.LabelTokens.{IsFit, parts_fit}
 use Rattle.source_syntax.proofs.OrderLemmas.{HasTokens}
-use Rattle.source_syntax.proofs.WrittenNames.{both_true, other_true}
+use Rattle.source_nodes.proofs.WrittenNames.{both_true, other_true}
 
 -- ---- bodies that begin with a token, and the nonterminals that have only such
 

@@ -12,11 +12,11 @@ use Rattle.source_model.specs.Names.{type_name}
 use Rattle.source_model.specs.Nodes.{Around}
 use Rattle.source_model.specs.Source.{Source}
 use Rattle.source_model.specs.Types.{owners_in, the_type}
-use Rattle.source_syntax.specs.Derived.{HasBodies}
+use Rattle.source_nodes.specs.Derived.{HasBodies}
 use Rattle.source_syntax.specs.Places.{IsReadable, IsSound}
-use Rattle.source_syntax.specs.Walk.{Opens, is_of}
-use Rattle.source_syntax.specs.declared.walk.Opened.{Opened}
-use Rattle.source_syntax.proofs.Collecting.{SoFar, ends, goes_in, goes_past, is_other, starts}
+use Rattle.source_nodes.specs.Walk.{Opens, is_of}
+use Rattle.source_nodes.specs.declared.walk.Opened.{Opened}
+use Rattle.source_nodes.proofs.Collecting.{SoFar, ends, goes_in, goes_past, is_other, starts}
 use Rattle.source_syntax.proofs.TypeLemmas as type
 use Rattle.source_syntax.proofs.TypeWalks.{flipped, has_bodies, one_type}
 

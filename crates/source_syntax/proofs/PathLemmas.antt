@@ -11,13 +11,13 @@ use Rattle.source_model.specs.Laws.{ForestsJoin}
 use Rattle.source_model.specs.Names.{path_tokens}
 use Rattle.source_model.specs.Nodes.{type_id}
 use Rattle.source_model.specs.Source.{Source}
-use Rattle.source_syntax.specs.Derived.{FitsBody, HasBodies}
-use Rattle.source_syntax.specs.Readers.{IsOf}
-use Rattle.source_syntax.specs.Walk.{Opens, is_of}
-use Rattle.source_syntax.specs.declared.walk.Opened.{Opened}
-use Rattle.source_syntax.proofs.Collecting.{SoFar, starts, goes_in, goes_past, ends, each_own, each_other, is_other}
+use Rattle.source_nodes.specs.Derived.{FitsBody, HasBodies}
+use Rattle.source_nodes.specs.Readers.{IsOf}
+use Rattle.source_nodes.specs.Walk.{Opens, is_of}
+use Rattle.source_nodes.specs.declared.walk.Opened.{Opened}
+use Rattle.source_nodes.proofs.Collecting.{SoFar, starts, goes_in, goes_past, ends, each_own, each_other, is_other}
 use Rattle.source_syntax.proofs.ScopeLemmas.{later_ids}
-use Rattle.source_syntax.proofs.WrittenNames.{path_begins, slash_names}
+use Rattle.source_nodes.proofs.WrittenNames.{path_begins, slash_names}
 
 -- the first name of a path, and those behind it
 pub whole_path : (s : Source) (f : Forest) (path : List TypeId) (first : TypeId) (token : ℕ) → FitsBody s PATH f → path ≡ first ∷ []

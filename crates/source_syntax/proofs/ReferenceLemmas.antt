@@ -26,15 +26,15 @@ use Rattle.source_model.specs.Source.{Source}
 use Rattle.source_model.specs.TypeRules.{is_within}
 use Rattle.source_model.specs.Types.{the_type, types_in}
 use Rattle.source_model.specs.Values.{int_at}
-use Rattle.source_syntax.specs.Derived.{Fits, FitsBody, OfEach, head_of}
+use Rattle.source_nodes.specs.Derived.{Fits, FitsBody, OfEach, head_of}
 use Rattle.source_syntax.specs.Places.{IsReadable, IsSound}
-use Rattle.source_syntax.specs.Readers.{IsOf}
+use Rattle.source_nodes.specs.Readers.{IsOf}
 use Rattle.source_syntax.specs.Sound.{HasPath, HasSoundReference}
 use Rattle.source_syntax.proofs.BodyLemmas.{any_front, fits_child, fits_has, fits_leaf, has_child, has_later, in_reference, in_signature, nowhere_below, tail_stays, target_stays}
 use Rattle.source_syntax.proofs.SoundLemmas.{generic_number_fits}
 use Rattle.source_syntax.proofs.TypeWalks.{has_bodies, one_type_production}
 use Rattle.source_syntax.proofs.VariableLemmas.{within_in}
-use Rattle.source_syntax.proofs.WrittenNames.{both_true, fits_rule, is_name, is_scope, one_in, one_path}
+use Rattle.source_nodes.proofs.WrittenNames.{both_true, fits_rule, is_name, is_scope, one_in, one_path}
 
 -- ---- what stands below a part
 

@@ -13,9 +13,9 @@ use Rattle.source_model.specs.References.{arguments, before_ellipsis}
 use Rattle.source_model.specs.Source.{Source}
 use Rattle.source_model.specs.Types.{the_type}
 use Rattle.source_syntax.specs.Places.{IsSound, IsReadable}
-use Rattle.source_syntax.specs.Walk.{Opens, is_of}
-use Rattle.source_syntax.specs.declared.walk.Opened.{Opened}
-use Rattle.source_syntax.proofs.Collecting.{SoFar, starts, goes_in, goes_past, ends, each_own, each_other, is_other, no_forest}
+use Rattle.source_nodes.specs.Walk.{Opens, is_of}
+use Rattle.source_nodes.specs.declared.walk.Opened.{Opened}
+use Rattle.source_nodes.proofs.Collecting.{SoFar, starts, goes_in, goes_past, ends, each_own, each_other, is_other, no_forest}
 
 -- ---- types
 

@@ -6,8 +6,8 @@ use Rattle.source_model.specs.Forest.{Forest, Part, none, leaf, branch, part, pa
 use Rattle.source_model.specs.Nodes.{Around}
 use Rattle.source_model.specs.Source.{Source}
 use Rattle.source_model.specs.Types.{type_of, types_in}
-use Rattle.source_syntax.proofs.NestingLemmas.{below_length}
-use Rattle.source_syntax.proofs.ShapeLemmas.{few_parts}
+use Rattle.source_nodes.proofs.NestingLemmas.{below_length}
+use Rattle.source_nodes.proofs.ShapeLemmas.{few_parts}
 use Rattle.source_syntax.proofs.TypeLemmas as type
 
 pub few_each : (p : ℕ) (f : Forest) → length (each p f) ≤ length (preorder f)

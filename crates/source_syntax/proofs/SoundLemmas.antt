@@ -1,13 +1,10 @@
 -- The numbers of a production that are in their ranges, one rule after the other.
-use Rattle.std.proofs.Common.{◌≡◌, ℕ, List, [], ◌∷◌, ◌++◌, refl}
+use Rattle.std.proofs.Common.{◌≡◌, ℕ, List, [], ◌++◌}
 use Rattle.source_model.specs.Forest.{Forest}
 use Rattle.source_model.specs.Source.{Source}
 use Rattle.source_model.specs.TypeRules.{arguments_out_of_range, array_out_of_range, generic_number_out_of_range, index_out_of_range, parameter_flags_out_of_range, second_ellipsis}
+use Rattle.source_nodes.proofs.Empties.{nothing_in}
 use Rattle.source_syntax.specs.Places.{node_of, numbers_out_of_range, signature_numbers_out_of_range}
-
-pub nothing_in : (xs ys : List ℕ) → xs ++ ys ≡ [] → (xs ≡ []) × (ys ≡ [])
-nothing_in [] ys e = (refl, e)
-nothing_in (x ∷ xs) ys e = absurd cc
 
 module _ (s : Source) (p : ℕ) (f : Forest) where
   abbrev in_types : List ℕ

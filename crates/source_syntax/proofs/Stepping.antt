@@ -6,7 +6,7 @@ use Rattle.ilasm_grammar.specs.declared.tree.TreeNode.TheVariants.{Branch, Leaf}
 use Rattle.source_model.specs.Forest as tree
 use Rattle.source_model.specs.Forest.{Forest, preorder, joined}
 use Rattle.source_model.specs.Laws.{ForestOpens, ForestsJoin, OneForest}
-use Rattle.source_syntax.specs.Walk.{IsForest}
+use Rattle.source_nodes.specs.Walk.{IsForest}
 
 -- what is left is a forest, and for each index what is asked of it now is what is asked of the whole
 pub record Steps {I Y : Type 0} (now whole : I → Forest → Y) (nodes left : List TreeNode) : Type 0 where

@@ -13,14 +13,15 @@ use Rattle.source_model.specs.Shapes.{commas, dimensions, sizes, lower_bounds}
 use Rattle.source_model.specs.Source.{Source}
 use Rattle.source_model.specs.TypeRules.{bound_out_of_range, comma_past_rank, size_after_gap}
 use Rattle.source_model.specs.Types.{array}
-use Rattle.source_syntax.specs.Dimensions.{AreInRange, bound_of}
+use Rattle.source_nodes.specs.Dimensions.{AreInRange, bound_of}
 use Rattle.source_syntax.specs.Places.{IsSound}
 use Rattle.source_syntax.specs.Suffixes.{is_suffix, suffix_at}
-use Rattle.source_syntax.specs.Walk.{is_of}
-use Rattle.source_syntax.specs.declared.shapes.Dimension.{Dimension}
-use Rattle.source_syntax.proofs.Collecting.{is_branch}
-use Rattle.source_syntax.proofs.ShapeLemmas.{mapped_length}
-use Rattle.source_syntax.proofs.SoundLemmas.{array_fits, nothing_in}
+use Rattle.source_nodes.specs.Walk.{is_of}
+use Rattle.source_nodes.specs.declared.shapes.Dimension.{Dimension}
+use Rattle.source_nodes.proofs.Collecting.{is_branch}
+use Rattle.source_nodes.proofs.ShapeLemmas.{mapped_length}
+use Rattle.source_nodes.proofs.Empties.{nothing_in}
+use Rattle.source_syntax.proofs.SoundLemmas.{array_fits}
 
 module _ (s : Source) (a : Around) where
   pub reference_is : (node : TreeNode) (f : Forest) (of : SigType) → is_of TYPE_SUFFIX_AMPERSAND node ≡ true → ByRef of ≡ suffix_at s a node f of

@@ -13,10 +13,10 @@ use Rattle.source_model.specs.Laws.{ForestsJoin}
 use Rattle.source_model.specs.Names.{module_name, name_of_parts, or_module, or_scope, path_tokens, type_name, type_named, with_scope, without_scope, written_name, written_scope}
 use Rattle.source_model.specs.Nodes.{type_id}
 use Rattle.source_model.specs.Source.{Source}
-use Rattle.source_syntax.specs.Derived.{FitsBody, HasBodies}
-use Rattle.source_syntax.specs.Walk.{Opens, is_of}
-use Rattle.source_syntax.specs.declared.walk.Opened.{Opened}
-use Rattle.source_syntax.proofs.Collecting.{SoFar, starts, goes_in, ends, is_other}
+use Rattle.source_nodes.specs.Derived.{FitsBody, HasBodies}
+use Rattle.source_nodes.specs.Walk.{Opens, is_of}
+use Rattle.source_nodes.specs.declared.walk.Opened.{Opened}
+use Rattle.source_nodes.proofs.Collecting.{SoFar, starts, goes_in, ends, is_other}
 
 pub alone : (s : Source) (f : Forest) (path : List TypeId) → path ≡ map (type_id s) (path_tokens (child (PATH ∷ []) f))
     → record { scope = Here; path = path } ≡ type_named s (without_scope f)

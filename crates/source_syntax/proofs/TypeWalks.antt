@@ -19,15 +19,15 @@ use Rattle.source_model.specs.Names.{type_name, module_name}
 use Rattle.source_model.specs.Nodes.{Around}
 use Rattle.source_model.specs.Source.{Source}
 use Rattle.source_model.specs.Types.{types_in, type_of, suffixed, owners_in, base_type, suffixes, first_owner, first_type, the_type, the_owner}
-use Rattle.source_syntax.specs.Derived.{Fits, FitsBody, HasBodies, head_of}
+use Rattle.source_nodes.specs.Derived.{Fits, FitsBody, HasBodies, head_of}
 use Rattle.source_syntax.specs.Places.{IsSound, IsReadable}
 use Rattle.source_syntax.specs.Sound.{IsTypeOrNothing}
 use Rattle.source_syntax.specs.Suffixes.{IsSoundAt, is_suffix, suffix_at}
-use Rattle.source_syntax.specs.Walk.{Opens, is_of}
-use Rattle.source_syntax.specs.declared.walk.Opened.{Opened}
-use Rattle.source_syntax.proofs.Collecting.{SoFar, no_forest, of_joined, starts, goes_in, goes_past, ends, is_other, is_branch}
+use Rattle.source_nodes.specs.Walk.{Opens, is_of}
+use Rattle.source_nodes.specs.declared.walk.Opened.{Opened}
+use Rattle.source_nodes.proofs.Collecting.{SoFar, no_forest, of_joined, starts, goes_in, goes_past, ends, is_other, is_branch}
 use Rattle.source_syntax.proofs.TypeLemmas as type
-use Rattle.source_syntax.proofs.WrittenNames.{fits_rule, one_in}
+use Rattle.source_nodes.proofs.WrittenNames.{fits_rule, one_in}
 
 pub flipped : (x y : ℕ) → (x == y) ≡ false → (y == x) ≡ false
 flipped x y e = elim (cases_Bool (y == x)) [

@@ -11,12 +11,12 @@ use Rattle.source_model.specs.Nodes.{Around, Node, entered, nodes_in, typars}
 use Rattle.source_model.specs.Signatures.{generic_arguments_token, is_field_unbroken, is_method_unbroken, is_property_unbroken, is_reference_unbroken, not_in_property}
 use Rattle.source_model.specs.Source.{Source}
 use Rattle.source_model.specs.TypeRules.{are_unbroken, breaks_signature, is_nothing, number_in_signature_out_of_range, past_count, path_too_long, scope_undeclared, typar_undeclared, type_too_deep, type_undeclared}
-use Rattle.source_syntax.specs.Derived.{FitsBody, HasBodies, OfEach}
+use Rattle.source_nodes.specs.Derived.{FitsBody, HasBodies, OfEach}
 use Rattle.source_syntax.specs.Places.{IsReadable, IsSound}
 use Rattle.source_syntax.specs.Sound.{HasSoundMethod, HasSoundProperty, HasSoundReference, HasSoundType, UnbrokenIsSound}
 use Rattle.source_syntax.proofs.ReferenceLemmas.{of_the}
-use Rattle.source_syntax.proofs.SoundLemmas.{nothing_in}
-use Rattle.source_syntax.proofs.WrittenNames.{both_true}
+use Rattle.source_nodes.proofs.Empties.{nothing_in}
+use Rattle.source_nodes.proofs.WrittenNames.{both_true}
 
 -- ---- nothing
 

@@ -19,13 +19,13 @@ use Rattle.source_model.specs.Source.{Source}
 use Rattle.source_model.specs.TypeRules.{is_within, out_of}
 use Rattle.source_model.specs.Types.{number_of, or_length, variable_number}
 use Rattle.source_model.specs.Values.{int_at, name_text}
-use Rattle.source_syntax.specs.Derived.{head_of, Fits, FitsBody, HasBodies}
+use Rattle.source_nodes.specs.Derived.{head_of, Fits, FitsBody, HasBodies}
 use Rattle.source_syntax.specs.Indexes.{HasIndex}
 use Rattle.source_syntax.specs.Places.{IsSound, IsReadable, signature_numbers_out_of_range}
-use Rattle.source_syntax.specs.Readers.{IsOf}
+use Rattle.source_nodes.specs.Readers.{IsOf}
 use Rattle.source_syntax.proofs.SoundLemmas.{index_fits}
 use Rattle.source_syntax.proofs.TypeWalks.{has_bodies}
-use Rattle.source_syntax.proofs.WrittenNames.{fits_rule, is_name, first_terminal, both_true, other_true}
+use Rattle.source_nodes.proofs.WrittenNames.{fits_rule, is_name, first_terminal, both_true, other_true}
 
 -- ---- a nonterminal whose productions follow one another
 

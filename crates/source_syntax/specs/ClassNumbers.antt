@@ -4,9 +4,9 @@ use Rattle.std.specs.List.{list_any}
 use Rattle.type_terms.specs.declared.name.TypeId.{TypeId}
 use Rattle.assembly_tree.specs.DataSize.{is_id}
 use Rattle.source_model.specs.Names.{is_path}
-use Rattle.source_syntax.specs.Chains.{IsChained}
+use Rattle.source_nodes.specs.Chains.{IsChained}
 use Rattle.source_syntax.specs.Nested.{IsNested, child, is_child, reached}
-use Rattle.source_syntax.specs.TextHash.{mix, mix_text_near, text_hash}
+use Rattle.source_nodes.specs.TextHash.{mix, mix_text_near, text_hash}
 use Rattle.source_syntax.specs.declared.class_paths.ClassName.{ClassName}
 
 abbrev pub outer_of : ClassName → ℕ

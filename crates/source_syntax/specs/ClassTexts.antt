@@ -1,7 +1,7 @@
 -- Classes whose texts stand one after the other in one list of bytes, each space right in front of its name.
 use Rattle.std.specs.Prelude.{◌≡◌, ℕ, ◌+◌, ◌≤◌, List, Option, Some, length, map, take, drop, slice_get}
 use Rattle.source_syntax.specs.ClassNumbers.{AreFound, class_of}
-use Rattle.source_syntax.specs.NameTexts.{id_with}
+use Rattle.source_nodes.specs.NameTexts.{id_with}
 use Rattle.source_syntax.specs.declared.class_paths.ClassName.{ClassName}
 use Rattle.source_syntax.specs.declared.class_paths.KeptClass.{KeptClass}
 

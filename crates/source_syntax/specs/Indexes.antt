@@ -5,7 +5,7 @@ use Rattle.ilasm_grammar.specs.declared.productions.TheConstants.{INDEX_INT, IND
 use Rattle.source_model.specs.Forest.{Forest, has, the, leaf_at}
 use Rattle.source_model.specs.Source.{Source}
 use Rattle.source_model.specs.Values.{int_at}
-use Rattle.source_syntax.specs.Readers.{IsOf}
+use Rattle.source_nodes.specs.Readers.{IsOf}
 
 -- in a forest a generic parameter is written as a number of 32 bits, or as a name
 pub record HasIndex (s : Source) (f : Forest) : Type 0 where

@@ -8,10 +8,10 @@ use Rattle.source_model.specs.Forest.{Forest, none, leaf, branch, preorder, toke
 use Rattle.source_model.specs.Nodes.{Node}
 use Rattle.source_model.specs.Source.{Source}
 use Rattle.source_model.specs.TokenOrder.{numbers_from}
-use Rattle.source_syntax.specs.Derived.{FitsBody, HasBodies}
-use Rattle.source_syntax.specs.Pieces.{nodes_of}
-use Rattle.source_syntax.specs.Readers.{IsOf}
-use Rattle.source_syntax.specs.declared.pieces.Piece.{Piece}
+use Rattle.source_nodes.specs.Derived.{FitsBody, HasBodies}
+use Rattle.source_nodes.specs.Pieces.{nodes_of}
+use Rattle.source_nodes.specs.Readers.{IsOf}
+use Rattle.source_nodes.specs.declared.pieces.Piece.{Piece}
 
 -- what stands below each branch of a forest that has this production, also below another one, in preorder
 abbrev pub all_below : ℕ → Forest → List Forest

@@ -5,8 +5,8 @@ use Rattle.source_model.specs.Names.{externs, extern_key}
 use Rattle.source_model.specs.Nodes.{Around, Node, nothing_around, typar_names}
 use Rattle.source_model.specs.Source.{Source}
 use Rattle.source_model.specs.TypeRules.{number_in_signature_out_of_range, number_in_type_out_of_range}
-use Rattle.source_syntax.specs.Derived.{OfEach, FitsBody}
-use Rattle.source_syntax.specs.Readers.{Reads}
+use Rattle.source_nodes.specs.Derived.{OfEach, FitsBody}
+use Rattle.source_nodes.specs.Readers.{Reads}
 use Rattle.source_syntax.specs.declared.place.Place.{Place}
 
 -- a production alone

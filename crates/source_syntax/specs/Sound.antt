@@ -5,7 +5,7 @@ use Rattle.source_model.specs.Forest.{Forest, none, child, the}
 use Rattle.source_model.specs.Nodes.{Around}
 use Rattle.source_model.specs.Signatures.{is_field_unbroken, is_method_unbroken, is_property_unbroken, is_reference_unbroken}
 use Rattle.source_model.specs.Source.{Source}
-use Rattle.source_syntax.specs.Derived.{FitsBody, HasBodies}
+use Rattle.source_nodes.specs.Derived.{FitsBody, HasBodies}
 use Rattle.source_syntax.specs.Places.{IsReadable}
 
 -- what stands below a type's production, or nothing

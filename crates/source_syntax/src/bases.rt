@@ -11,16 +11,14 @@ ghost use Rattle.source_model.specs.Nodes.{Around};
 ghost use Rattle.source_model.specs.Source.{Source};
 ghost use Rattle.source_model.specs.Types.{base_type, int_type, named_type, number_of, variable_number};
 ghost use Rattle.source_syntax.specs.BaseTypes.{made_type};
-ghost use Rattle.source_syntax.specs.Derived.{head_of};
+ghost use Rattle.source_nodes.specs.Derived.{head_of};
 ghost use Rattle.source_syntax.specs.Indexes.{HasIndex};
 ghost use Rattle.source_syntax.specs.Places.{IsAt, IsReadable, IsSound};
-ghost use Rattle.source_syntax.specs.Readers.{Reads};
-ghost use Rattle.source_syntax.specs.Walk.{IsForest};
+ghost use Rattle.source_nodes.specs.Readers.{Reads};
+ghost use Rattle.source_nodes.specs.Walk.{IsForest};
 
 use crate::declared::Declared;
-use crate::narrowing::word_of;
 use crate::place::Place;
-use crate::walk::{has, leaf_at, the};
 use il_base::{Boxed, NoMemory};
 use ilasm_grammar::TreeNode;
 use ilasm_grammar::productions::{
@@ -30,6 +28,8 @@ use ilasm_grammar::productions::{
     TYPE_BASE_INT_TYPE, TYPE_BASE_NATIVE, TYPE_BASE_OBJECT, TYPE_BASE_STRING, TYPE_BASE_TYPEDREF,
     TYPE_BASE_VALUETYPE, TYPE_BASE_VOID, UNSIGNED_INT_INT8, UNSIGNED_INT_INT16, UNSIGNED_INT_INT32,
 };
+use source_nodes::narrowing::word_of;
+use source_nodes::walk::{has, leaf_at, the};
 use std::alloc::Global;
 use type_terms::{Prim, SigType, TypeName, Types};
 

@@ -5,13 +5,13 @@ ghost use Rattle.std.specs.Prelude.{◌≡◌, ◌+◌, ◌≤◌, ◌++◌, ◌
 ghost use Rattle.assembly_tree.specs.DataSize.{is_id};
 ghost use Rattle.source_syntax.specs.ClassNumbers.{IsNumber, class_hash, class_in, class_of, id_of, is_class, outer_of};
 ghost use Rattle.source_syntax.specs.ClassTexts.{class_at};
-ghost use Rattle.source_syntax.specs.NameTexts.{id_with};
+ghost use Rattle.source_nodes.specs.NameTexts.{id_with};
 ghost use Rattle.source_syntax.specs.Nested.{IsNested};
 
-use crate::equality::are_equal;
-use crate::hashes::{mix, mix_text_near, text_hash};
 use hash_places::HashPlaces;
 use il_base::{Bytes, Items, NoMemory};
+use source_nodes::equality::are_equal;
+use source_nodes::hashes::{mix, mix_text_near, text_hash};
 use std::alloc::Global;
 use std::marker::Model;
 use type_terms::TypeId;

@@ -2,12 +2,12 @@
 //! be the only one is kept apart.
 
 ghost use Rattle.std.specs.Prelude.{◌≡◌, ◌<◌, ◌∷◌, [], length, position, bytes_eq, slice_index_or, IfOk, OnOk, OnErr};
-ghost use Rattle.source_syntax.specs.ChainedTexts.{one_of};
+ghost use Rattle.source_nodes.specs.ChainedTexts.{one_of};
 ghost use Rattle.source_syntax.specs.Repeats.{is_repeat};
 
-use crate::chained_names::ChainedNames;
-use crate::equality::are_equal;
 use il_base::{Bytes, NoMemory, Text};
+use source_nodes::chained_names::ChainedNames;
+use source_nodes::equality::are_equal;
 use std::alloc::Global;
 use std::marker::Model;
 
@@ -25,7 +25,7 @@ pub struct Declared {
 
 impl Model for Declared {
     ghost use Rattle.std.specs.Prelude.{ℕ, List, ◌++◌};
-    ghost use Rattle.source_syntax.specs.ChainedTexts.{one_of};
+    ghost use Rattle.source_nodes.specs.ChainedTexts.{one_of};
 
     ghost Value = { List (List ℕ) };
 

@@ -7,16 +7,16 @@ ghost use Rattle.source_model.specs.Nodes.{Around};
 ghost use Rattle.source_model.specs.References.{field_ref, owner_of};
 ghost use Rattle.source_model.specs.Source.{Source};
 ghost use Rattle.source_syntax.specs.Places.{IsAt, IsReadable, IsSound};
-ghost use Rattle.source_syntax.specs.Walk.{IsForest};
+ghost use Rattle.source_nodes.specs.Walk.{IsForest};
 
 use crate::place::Place;
-use crate::walk::{child, has, last_token};
 use il_base::NoMemory;
 use ilasm_grammar::TreeNode;
 use ilasm_grammar::productions::{
     FIELD_TAIL_DOUBLE_COLON, FIELD_TAIL_SLASH, FIELD_TARGET_NAME, FIELD_TARGET_SCOPE,
     FIELD_TARGET_TYPE,
 };
+use source_nodes::walk::{child, has, last_token};
 use std::alloc::Global;
 use type_terms::{FieldRef, Owner};
 

@@ -9,16 +9,16 @@ ghost use Rattle.source_model.specs.Nodes.{Node};
 ghost use Rattle.source_model.specs.Source.{Source};
 ghost use Rattle.source_syntax.specs.Labels.{count_below, number_declared, number_found, AreLabels};
 ghost use Rattle.source_syntax.specs.Methods.{IsMethod};
-ghost use Rattle.source_syntax.specs.Pieces.{ArePieces, AreParts};
-ghost use Rattle.source_syntax.specs.Readers.{IsOf, Reads};
-ghost use Rattle.source_syntax.specs.Walk.{IsForest};
+ghost use Rattle.source_nodes.specs.Pieces.{ArePieces, AreParts};
+ghost use Rattle.source_nodes.specs.Readers.{IsOf, Reads};
+ghost use Rattle.source_nodes.specs.Walk.{IsForest};
 
 use crate::declared::Declared;
 use crate::labels::{label_tokens, names_at};
-use crate::pieces::{Piece, first_tokens};
-use crate::reader::Reader;
 use il_base::{Items, NoMemory};
 use ilasm_grammar::TreeNode;
+use source_nodes::pieces::{Piece, first_tokens};
+use source_nodes::reader::Reader;
 use std::alloc::Global;
 
 /// The labels of a method: their names, and for each the number of the instruction that follows it, or of all instructions

@@ -9,15 +9,15 @@ ghost use Rattle.source_model.specs.Source.{Source};
 ghost use Rattle.source_model.specs.Values.{name_text};
 ghost use Rattle.source_syntax.specs.Labels.{switch_names};
 ghost use Rattle.source_syntax.specs.Methods.{AreNames};
-ghost use Rattle.source_syntax.specs.Readers.{IsOf, Reads};
-ghost use Rattle.source_syntax.specs.Walk.{IsForest};
+ghost use Rattle.source_nodes.specs.Readers.{IsOf, Reads};
+ghost use Rattle.source_nodes.specs.Walk.{IsForest};
 
 use crate::declared::Declared;
-use crate::pieces::{Sought, leaves_at, nodes_of, pieces_of};
-use crate::reader::Reader;
-use crate::walk::leaf_at;
 use il_base::{Items, NoMemory};
 use ilasm_grammar::{TreeNode, productions};
+use source_nodes::pieces::{Sought, leaves_at, nodes_of, pieces_of};
+use source_nodes::reader::Reader;
+use source_nodes::walk::leaf_at;
 use std::alloc::Global;
 
 /// The labels of a method in order, each by the token of its name.

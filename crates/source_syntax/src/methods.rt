@@ -5,18 +5,18 @@ ghost use Rattle.std.specs.List.{flat_map};
 ghost use Rattle.source_model.specs.BodyFaults.{all_methods};
 ghost use Rattle.source_model.specs.Forest.{Forest, preorder};
 ghost use Rattle.source_model.specs.Source.{Source};
-ghost use Rattle.source_syntax.specs.Least.{least};
+ghost use Rattle.source_nodes.specs.Least.{least};
 ghost use Rattle.source_syntax.specs.Methods.{all_below, AreBelow};
-ghost use Rattle.source_syntax.specs.Readers.{Reads};
-ghost use Rattle.source_syntax.specs.Walk.{IsForest};
+ghost use Rattle.source_nodes.specs.Readers.{Reads};
+ghost use Rattle.source_nodes.specs.Walk.{IsForest};
 
-use crate::derived::derivations_have_bodies;
-use crate::least::sooner;
-use crate::pieces::{Piece, nodes_of};
-use crate::reader::Reader;
 use il_base::{Items, NoMemory};
 use ilasm_grammar::{TreeNode, productions};
 use source_model::{derivations_are_forests, forests_join, forests_open, tokens_stand_in_order};
+use source_nodes::derived::derivations_have_bodies;
+use source_nodes::least::sooner;
+use source_nodes::pieces::{Piece, nodes_of};
+use source_nodes::reader::Reader;
 use std::alloc::Global;
 
 /// A rule that each method of a source meets or breaks by itself.
@@ -25,10 +25,10 @@ pub trait MethodRule {
     ghost use Rattle.source_model.specs.Forest.{preorder};
     ghost use Rattle.source_model.specs.Nodes.{Node};
     ghost use Rattle.source_model.specs.Source.{Source};
-    ghost use Rattle.source_syntax.specs.Least.{least};
+    ghost use Rattle.source_nodes.specs.Least.{least};
     ghost use Rattle.source_syntax.specs.Methods.{IsMethod};
-    ghost use Rattle.source_syntax.specs.Readers.{Reads};
-    ghost use Rattle.source_syntax.specs.Walk.{IsForest};
+    ghost use Rattle.source_nodes.specs.Readers.{Reads};
+    ghost use Rattle.source_nodes.specs.Walk.{IsForest};
 
     /// The tokens at which a method breaks it.
     ghost broken: { Self → Source → Node → List ℕ };

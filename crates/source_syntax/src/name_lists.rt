@@ -8,19 +8,15 @@ ghost use Rattle.source_model.specs.Names.{key_token};
 ghost use Rattle.source_model.specs.Nodes.{typar_names};
 ghost use Rattle.source_model.specs.Source.{Source};
 ghost use Rattle.source_model.specs.Values.{name_text};
-ghost use Rattle.source_syntax.specs.Derived.{HasBodies};
-ghost use Rattle.source_syntax.specs.Least.{least};
+ghost use Rattle.source_nodes.specs.Derived.{HasBodies};
+ghost use Rattle.source_nodes.specs.Least.{least};
 ghost use Rattle.source_syntax.specs.Namings.{AreNames, names_in, production_of, tokens_named};
-ghost use Rattle.source_syntax.specs.Readers.{IsOf, Reads};
+ghost use Rattle.source_nodes.specs.Readers.{IsOf, Reads};
 ghost use Rattle.source_syntax.specs.declared.name_lists.Naming.TheVariants as naming;
-ghost use Rattle.source_syntax.specs.Walk.{IsForest};
+ghost use Rattle.source_nodes.specs.Walk.{IsForest};
 
 use crate::declared::Declared;
-use crate::derived::derivations_have_bodies;
 use crate::labels::put_name;
-use crate::least::sooner;
-use crate::reader::Reader;
-use crate::walk::{child, count_below, cut, has, is_of, leaf_at, next, the};
 use il_base::{Items, NoMemory};
 use ilasm_grammar::TreeNode;
 use ilasm_grammar::productions::{
@@ -28,6 +24,10 @@ use ilasm_grammar::productions::{
     TYPARS_OPT_SOME,
 };
 use source_model::{forests_join, forests_open};
+use source_nodes::derived::derivations_have_bodies;
+use source_nodes::least::sooner;
+use source_nodes::reader::Reader;
+use source_nodes::walk::{child, count_below, cut, has, is_of, leaf_at, next, the};
 use std::alloc::Global;
 
 /// Declarations that have names.

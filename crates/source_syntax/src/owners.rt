@@ -6,14 +6,14 @@ ghost use Rattle.source_model.specs.Nodes.{Around};
 ghost use Rattle.source_model.specs.Source.{Source};
 ghost use Rattle.source_model.specs.Types.{owners_in};
 ghost use Rattle.source_syntax.specs.Places.{IsAt, IsReadable};
-ghost use Rattle.source_syntax.specs.Walk.{IsForest};
+ghost use Rattle.source_nodes.specs.Walk.{IsForest};
 
 use crate::place::Place;
-use crate::walk::{is_of, open};
 use il_base::{Items, NoMemory};
 use ilasm_grammar::TreeNode;
 use ilasm_grammar::productions::{SPEC_TYPE, SPEC_TYPE_NAME};
 use source_model::forests_join;
+use source_nodes::walk::{is_of, open};
 use std::alloc::Global;
 use type_terms::{Owner, Owners};
 

@@ -7,20 +7,20 @@ ghost use Rattle.source_model.specs.Forest.{Forest, each, leaf_at, preorder};
 ghost use Rattle.source_model.specs.Names.{module_name, or_scope, path_tokens, scope_named, type_name, type_named, with_scope, without_scope, written_scope};
 ghost use Rattle.source_model.specs.Nodes.{Around, type_id};
 ghost use Rattle.source_model.specs.Source.{Source};
-ghost use Rattle.source_syntax.specs.Derived.{FitsBody, HasBodies};
+ghost use Rattle.source_nodes.specs.Derived.{FitsBody, HasBodies};
 ghost use Rattle.source_syntax.specs.Places.{IsAt};
-ghost use Rattle.source_syntax.specs.Readers.{IsOf};
+ghost use Rattle.source_nodes.specs.Readers.{IsOf};
 ghost use Rattle.source_syntax.specs.Sound.{HasPath};
-ghost use Rattle.source_syntax.specs.Walk.{IsForest};
+ghost use Rattle.source_nodes.specs.Walk.{IsForest};
 
 use crate::declared::Declared;
-use crate::narrowing::word_of;
-use crate::reader::Reader;
-use crate::walk::{child, has, is_of, leaf_at, open};
 use il_base::{NoMemory, Text};
 use ilasm_grammar::TreeNode;
 use ilasm_grammar::productions::{PATH, SLASH_NAME, TYPE_NAME_PATH, TYPE_NAME_SCOPE};
 use source_model::forests_join;
+use source_nodes::narrowing::word_of;
+use source_nodes::reader::Reader;
+use source_nodes::walk::{child, has, is_of, leaf_at, open};
 use std::alloc::Global;
 use type_terms::{Path, Scope, TypeId, TypeName};
 

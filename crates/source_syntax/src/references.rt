@@ -8,16 +8,13 @@ ghost use Rattle.source_model.specs.Names.{name_and_tail, or_module, path_tokens
 ghost use Rattle.source_model.specs.Nodes.{Around};
 ghost use Rattle.source_model.specs.References.{generic_arguments, generic_number, method_name, method_ref, owner_of, reference_name};
 ghost use Rattle.source_model.specs.Source.{Source};
-ghost use Rattle.source_syntax.specs.Derived.{FitsBody, HasBodies};
+ghost use Rattle.source_nodes.specs.Derived.{FitsBody, HasBodies};
 ghost use Rattle.source_syntax.specs.Places.{IsAt, IsReadable, IsSound};
-ghost use Rattle.source_syntax.specs.Readers.{IsOf, Reads};
+ghost use Rattle.source_nodes.specs.Readers.{IsOf, Reads};
 ghost use Rattle.source_syntax.specs.Sound.{HasPath};
-ghost use Rattle.source_syntax.specs.Walk.{IsForest, is_of};
+ghost use Rattle.source_nodes.specs.Walk.{IsForest, is_of};
 
-use crate::narrowing::word_of;
 use crate::place::{Place, module_name};
-use crate::reader::Reader;
-use crate::walk::{child, has, is_of, leaf_at, open, the};
 use il_base::{NoMemory, Text};
 use il_lexer::{the_longest_spelling_is_taken, tokens_are_spellings};
 use ilasm_grammar::TreeNode;
@@ -27,6 +24,9 @@ use ilasm_grammar::productions::{
     TARGET_TYPE,
 };
 use source_model::forests_join;
+use source_nodes::narrowing::word_of;
+use source_nodes::reader::Reader;
+use source_nodes::walk::{child, has, is_of, leaf_at, open, the};
 use std::alloc::Global;
 use type_terms::{MethodRef, Owner, Path, Scope, TypeName, Types};
 

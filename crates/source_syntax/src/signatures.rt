@@ -10,11 +10,9 @@ ghost use Rattle.source_model.specs.Types.{the_type, type_of};
 ghost use Rattle.source_model.specs.Variables.{local_types};
 ghost use Rattle.source_syntax.specs.Places.{IsAt, IsReadable};
 ghost use Rattle.source_syntax.specs.Sound.{HasSoundMethod, HasSoundProperty, HasSoundReference, HasSoundType};
-ghost use Rattle.source_syntax.specs.Walk.{IsForest};
+ghost use Rattle.source_nodes.specs.Walk.{IsForest};
 
-use crate::narrowing::word_of;
 use crate::place::Place;
-use crate::walk::{child, each, has, is_of, open, the};
 use il_base::{Items, NoMemory};
 use ilasm_grammar::TreeNode;
 use ilasm_grammar::productions::{
@@ -22,6 +20,8 @@ use ilasm_grammar::productions::{
     SIG_ARG_ELLIPSIS, SIGNATURE, TYPAR, TYPARS_OPT_SOME, TYPE,
 };
 use source_model::forests_join;
+use source_nodes::narrowing::word_of;
+use source_nodes::walk::{child, each, has, is_of, open, the};
 use std::alloc::Global;
 use type_terms::{MethodSig, SigType, Types};
 

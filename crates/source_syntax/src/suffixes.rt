@@ -8,22 +8,22 @@ ghost use Rattle.source_model.specs.Nodes.{Around};
 ghost use Rattle.source_model.specs.Shapes.{lower_bounds, sizes};
 ghost use Rattle.source_model.specs.Source.{Source};
 ghost use Rattle.source_model.specs.Types.{array};
-ghost use Rattle.source_syntax.specs.Dimensions.{AreInRange, bound_of};
+ghost use Rattle.source_nodes.specs.Dimensions.{AreInRange, bound_of};
 ghost use Rattle.source_syntax.specs.Places.{IsAt, IsReadable, IsSound};
-ghost use Rattle.source_syntax.specs.Readers.{Reads};
+ghost use Rattle.source_nodes.specs.Readers.{Reads};
 ghost use Rattle.source_syntax.specs.Suffixes.{IsSoundAt, is_suffix, suffix_at};
-ghost use Rattle.source_syntax.specs.Walk.{IsForest, is_of};
+ghost use Rattle.source_nodes.specs.Walk.{IsForest, is_of};
 
-use crate::narrowing::word_of;
 use crate::place::Place;
-use crate::reader::Reader;
-use crate::shapes::{Dimension, dimensions};
-use crate::walk::{has, is_of};
 use il_base::{Boxed, NoMemory};
 use ilasm_grammar::TreeNode;
 use ilasm_grammar::productions::{
     SHAPE_CLOSE, TYPE_SUFFIX_AMPERSAND, TYPE_SUFFIX_PINNED, TYPE_SUFFIX_STAR,
 };
+use source_nodes::narrowing::word_of;
+use source_nodes::reader::Reader;
+use source_nodes::shapes::{Dimension, dimensions};
+use source_nodes::walk::{has, is_of};
 use std::alloc::Global;
 use type_terms::SigType;
 

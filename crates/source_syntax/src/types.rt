@@ -9,11 +9,10 @@ ghost use Rattle.source_model.specs.Types.{suffixed, the_owner, the_type, type_o
 ghost use Rattle.source_syntax.specs.Places.{IsAt, IsReadable};
 ghost use Rattle.source_syntax.specs.Sound.{IsTypeOrNothing};
 ghost use Rattle.source_syntax.specs.Suffixes.{IsSoundAt, is_suffix, suffix_at};
-ghost use Rattle.source_syntax.specs.Walk.{IsForest};
+ghost use Rattle.source_nodes.specs.Walk.{IsForest};
 
 use crate::bases::word_type;
 use crate::place::{Place, module_name};
-use crate::walk::{is_of, open};
 use il_base::{Boxed, Items, NoMemory};
 use ilasm_grammar::TreeNode;
 use ilasm_grammar::productions::{
@@ -21,6 +20,7 @@ use ilasm_grammar::productions::{
     TYPE_SUFFIX_MODOPT, TYPE_SUFFIX_MODREQ, TYPE_SUFFIX_PINNED, TYPE_SUFFIX_STAR,
 };
 use source_model::forests_join;
+use source_nodes::walk::{is_of, open};
 use std::alloc::Global;
 use type_terms::{Owner, Prim, SigType, Types};
 

@@ -18,7 +18,7 @@ use Rattle.source_model.specs.Constants.{wrapped}
 use Rattle.source_model.specs.Operands.{number_in}
 use Rattle.source_model.specs.Shapes.{natural}
 use Rattle.source_model.specs.TypeRules.{is_within}
-use Rattle.source_syntax.proofs.WrittenNames.{other_true}
+use Rattle.source_nodes.proofs.WrittenNames.{other_true}
 use Rattle.laws_formed_sources.proofs.bodies.Words.{class_of}
 
 -- where the kind is of this class, this holds

@@ -28,7 +28,7 @@ use Rattle.source_model.specs.Source.{Source}
 use Rattle.source_model.specs.TypeRules.{past_count}
 use Rattle.source_model.specs.Types.{the_type}
 use Rattle.source_model.specs.Variables.{local_types, locals}
-use Rattle.source_syntax.specs.Derived.{DerivationsHaveBodies, HasBodies}
+use Rattle.source_nodes.specs.Derived.{DerivationsHaveBodies, HasBodies}
 use Rattle.source_flags.proofs.Gathered.{IsSought, of_parts}
 use Rattle.laws_formed_sources.specs.sources.Laws.{IsRight}
 use Rattle.laws_formed_sources.specs.sources.Remaining.{Among}

@@ -12,7 +12,7 @@ use Rattle.source_model.specs.Forest.{Forest, none, leaf, branch, is_among}
 use Rattle.source_model.specs.Instructions.{instructions_of, is_label}
 use Rattle.source_model.specs.Nodes.{Around, Node, class_token, entered, nodes, nodes_in, nothing_around, type_id}
 use Rattle.source_model.specs.Source.{Source}
-use Rattle.source_syntax.specs.Derived.{DerivationsHaveBodies}
+use Rattle.source_nodes.specs.Derived.{DerivationsHaveBodies}
 use Rattle.laws_formed_sources.specs.sources.Laws.{IsRight}
 use Rattle.laws_formed_sources.specs.sources.Productions.{AllFaultless, HasFewTypars, IsFaultlessAt}
 use Rattle.laws_formed_sources.specs.bodies.Laws.{IsGoodNode}

@@ -29,8 +29,8 @@ use Rattle.source_model.specs.TypeRules.{is_within}
 use Rattle.source_model.specs.Types.{the_owner}
 use Rattle.source_model.specs.Values.{int_at}
 use Rattle.source_model.specs.Variables.{variable_number, variable_token}
-use Rattle.source_syntax.specs.Derived.{FitsBody, HasBodies}
-use Rattle.source_syntax.proofs.WrittenNames.{fits_rule}
+use Rattle.source_nodes.specs.Derived.{FitsBody, HasBodies}
+use Rattle.source_nodes.proofs.WrittenNames.{fits_rule}
 use Rattle.check_bodies.proofs.RealParts.{has_real, real_forms}
 use Rattle.laws_formed_sources.proofs.sources.Rules.{for_each}
 use Rattle.laws_formed_sources.proofs.bodies.Fitting.{field_fits, method_fits, nothing_fits, number_fits, owner_fits, real_fits, target_fits, variable_fits}

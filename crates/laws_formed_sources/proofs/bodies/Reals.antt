@@ -16,9 +16,9 @@ use Rattle.source_model.specs.Forest.{Forest, has, leaf_at, part, parts, the}
 use Rattle.source_model.specs.Operands.{real_bits}
 use Rattle.source_model.specs.Source.{Source, spelling}
 use Rattle.source_model.specs.Values.{digit_value, int_at, little_number, real_bytes}
-use Rattle.source_syntax.specs.Readers.{IsOf}
-use Rattle.source_syntax.proofs.ByteLemmas.{HasPairs, pair_value, parenthesized, real_has_bytes}
-use Rattle.source_syntax.proofs.ReaderLemmas.{token_spelled}
+use Rattle.source_nodes.specs.Readers.{IsOf}
+use Rattle.source_nodes.proofs.ByteLemmas.{HasPairs, pair_value, parenthesized, real_has_bytes}
+use Rattle.source_nodes.proofs.ReaderLemmas.{token_spelled}
 use Rattle.check_bodies.proofs.RealParts.{HasReal, real_forms}
 use Rattle.laws_formed_sources.proofs.sources.Unbroken.{empty_in}
 use Rattle.laws_formed_sources.proofs.bodies.Fitting.{wrapped_small}

@@ -18,7 +18,7 @@ use Rattle.source_model.specs.Operands.{operand_of, token_operand}
 use Rattle.source_model.specs.References.{field_ref, method_ref}
 use Rattle.source_model.specs.Source.{Source}
 use Rattle.source_model.specs.Types.{the_owner}
-use Rattle.source_syntax.specs.Derived.{Fits, FitsBody, HasBodies}
+use Rattle.source_nodes.specs.Derived.{Fits, FitsBody, HasBodies}
 use Rattle.source_syntax.proofs.BodyLemmas.{all_in}
 use Rattle.check_bodies.proofs.ShortBranchLemmas.{number_within}
 use Rattle.laws_formed_sources.proofs.sources.Members.{In, in_back, in_either, in_front}

@@ -28,10 +28,10 @@ use Rattle.ilasm_grammar.specs.declared.terminals.TheConstants as t
 use Rattle.source_model.specs.Forest.{Forest, none, leaf, branch, first_token, is_among}
 use Rattle.source_model.specs.Instructions.{op_or_nop}
 use Rattle.source_model.specs.Source.{Source, spelling}
-use Rattle.source_syntax.specs.Derived.{Fits, FitsBody, FitsRule, HasBodies, head_of, terminal_at}
-use Rattle.source_syntax.specs.Readers.{IsOf}
-use Rattle.source_syntax.proofs.ReaderLemmas.{token_spelled}
-use Rattle.source_syntax.proofs.WrittenNames.{both_true, other_true}
+use Rattle.source_nodes.specs.Derived.{Fits, FitsBody, FitsRule, HasBodies, head_of, terminal_at}
+use Rattle.source_nodes.specs.Readers.{IsOf}
+use Rattle.source_nodes.proofs.ReaderLemmas.{token_spelled}
+use Rattle.source_nodes.proofs.WrittenNames.{both_true, other_true}
 use Rattle.laws_formed_sources.proofs.sources.Rules.{rule_passes}
 
 -- ---- words

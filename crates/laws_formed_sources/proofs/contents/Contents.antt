@@ -32,8 +32,8 @@ use Rattle.source_model.specs.Source.{Source}
 use Rattle.source_model.specs.Types.{type_of}
 use Rattle.source_model.specs.Undeclared.{label_undeclared_of}
 use Rattle.source_model.specs.Values.{int_at, name_text}
-use Rattle.source_syntax.specs.Derived.{DerivationsHaveBodies, Fits, OfEach}
-use Rattle.source_syntax.proofs.WrittenNames.{fits_rule}
+use Rattle.source_nodes.specs.Derived.{DerivationsHaveBodies, Fits, OfEach}
+use Rattle.source_nodes.proofs.WrittenNames.{fits_rule}
 use Rattle.source_flags.proofs.Gathered.{IsSought, of_parts}
 use Rattle.laws_formed_sources.specs.sources.Laws.{IsRight}
 use Rattle.laws_formed_sources.specs.sources.Productions.{AllFaultless, IsFaultlessAt}

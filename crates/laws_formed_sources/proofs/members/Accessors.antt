@@ -20,9 +20,9 @@ use Rattle.source_model.specs.OutOfRange.{without_arguments}
 use Rattle.source_model.specs.Signatures.{generic_arguments_token, is_method_unbroken, is_reference_unbroken}
 use Rattle.source_model.specs.Source.{Source}
 use Rattle.source_model.specs.Undeclared.{accessor_undeclared_of, accessors_undeclared_of, is_one_of, is_this_class}
-use Rattle.source_syntax.specs.Derived.{Fits, head_of}
+use Rattle.source_nodes.specs.Derived.{Fits, head_of}
 use Rattle.source_syntax.proofs.BodyLemmas.{all_in}
-use Rattle.source_syntax.proofs.WrittenNames.{one_in}
+use Rattle.source_nodes.proofs.WrittenNames.{one_in}
 use Rattle.source_flags.proofs.Gathered.{IsSought, of_parts}
 use Rattle.laws_formed_sources.specs.sources.Laws.{IsRight}
 use Rattle.laws_formed_sources.specs.sources.Productions.{AllFaultless, IsFaultlessAt}

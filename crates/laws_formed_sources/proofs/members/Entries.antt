@@ -23,9 +23,9 @@ use Rattle.source_model.specs.Items.{declarations, members}
 use Rattle.source_model.specs.Members.{is_method_part, method, method_forests, methods}
 use Rattle.source_model.specs.Nodes.{Around, entered, nothing_around}
 use Rattle.source_model.specs.Source.{Source}
-use Rattle.source_syntax.specs.Derived.{Fits, FitsBody, HasBodies, head_of}
+use Rattle.source_nodes.specs.Derived.{Fits, FitsBody, HasBodies, head_of}
 use Rattle.source_syntax.proofs.BodyLemmas.{all_in}
-use Rattle.source_syntax.proofs.WrittenNames.{both_true, other_true}
+use Rattle.source_nodes.proofs.WrittenNames.{both_true, other_true}
 use Rattle.laws_formed_sources.proofs.sources.ClassPlaces.{classes_leaf, classes_none, classes_other, classes_own}
 use Rattle.laws_formed_sources.proofs.sources.Occurring.{declared_productions, member_productions, seeks}
 use Rattle.laws_formed_sources.proofs.sources.Repeats.{no_map}

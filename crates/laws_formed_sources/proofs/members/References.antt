@@ -14,7 +14,7 @@ use Rattle.source_model.specs.Nodes.{Around, Node, entered, nodes, nodes_in}
 use Rattle.source_model.specs.Signatures.{generic_arguments_token, is_reference_unbroken}
 use Rattle.source_model.specs.Source.{Source}
 use Rattle.source_model.specs.TypeRules.{are_unbroken, is_nothing}
-use Rattle.source_syntax.specs.Derived.{Fits}
+use Rattle.source_nodes.specs.Derived.{Fits}
 use Rattle.source_syntax.proofs.BodyLemmas.{all_in}
 use Rattle.source_flags.proofs.Gathered.{IsSought, of_parts}
 use Rattle.laws_formed_sources.specs.sources.Productions.{AllFaultless, IsFaultlessAt}

@@ -24,10 +24,10 @@ use Rattle.source_model.specs.Parameters.{attributes_of}
 use Rattle.source_model.specs.References.{method_ref}
 use Rattle.source_model.specs.Signatures.{generic_arguments_token}
 use Rattle.source_model.specs.Source.{Source}
-use Rattle.source_syntax.specs.Derived.{Fits, FitsBody, head_of}
+use Rattle.source_nodes.specs.Derived.{Fits, FitsBody, head_of}
 use Rattle.source_syntax.proofs.BodyLemmas.{fits_has}
 use Rattle.source_syntax.proofs.ReferenceLemmas.{sound_part}
-use Rattle.source_syntax.proofs.WrittenNames.{fits_rule, one_in}
+use Rattle.source_nodes.proofs.WrittenNames.{fits_rule, one_in}
 use Rattle.source_flags.proofs.Gathered.{IsSought, all_append, all_follow, of_parts}
 use Rattle.laws_formed_sources.specs.sources.Productions.{AllFaultless, IsFaultlessAt}
 use Rattle.laws_formed_sources.proofs.sources.Rules.{for_each}

@@ -30,10 +30,10 @@ use Rattle.source_model.specs.References.{field_ref, method_ref}
 use Rattle.source_model.specs.Source.{Source}
 use Rattle.source_model.specs.Types.{owners_in, the_owner, the_type}
 use Rattle.source_model.specs.Variables.{local_types, locals}
-use Rattle.source_syntax.specs.Derived.{head_of}
+use Rattle.source_nodes.specs.Derived.{head_of}
 use Rattle.source_syntax.proofs.BodyLemmas.{any_front, fits_has, goes_on_with, has_later}
 use Rattle.source_syntax.proofs.ReferenceLemmas.{sound_part}
-use Rattle.source_syntax.proofs.WrittenNames.{one_in}
+use Rattle.source_nodes.proofs.WrittenNames.{one_in}
 use Rattle.source_flags.proofs.Gathered.{IsSought, all_append, of_parts}
 use Rattle.laws_formed_sources.specs.sources.Laws.{IsRight}
 use Rattle.laws_formed_sources.specs.sources.Productions.{AllFaultless, HasFewTypars, IsFaultlessAt}

@@ -41,11 +41,11 @@ use Rattle.source_model.specs.Shapes.{natural}
 use Rattle.source_model.specs.Source.{Source}
 use Rattle.source_model.specs.Types.{owners_in, the_owner}
 use Rattle.source_model.specs.Values.{int_at}
-use Rattle.source_syntax.specs.Derived.{head_of}
+use Rattle.source_nodes.specs.Derived.{head_of}
 use Rattle.source_syntax.proofs.BodyLemmas.{fits_has, goes_on_with}
 use Rattle.source_syntax.proofs.NameTokens.{class_is_name}
 use Rattle.source_syntax.proofs.ReferenceLemmas.{of_child, sound_part}
-use Rattle.source_syntax.proofs.WrittenNames.{one_in}
+use Rattle.source_nodes.proofs.WrittenNames.{one_in}
 use Rattle.laws_formed_sources.specs.sources.Laws.{IsRight}
 use Rattle.laws_formed_sources.specs.sources.Productions.{AllFaultless, HasFewTypars, IsFaultlessAt}
 use Rattle.laws_formed_sources.specs.sources.Remaining.{class_record, has_body, has_content}

@@ -20,9 +20,9 @@ use Rattle.source_model.specs.OutOfRange.{are_implementation_flags, is_natural_w
 use Rattle.source_model.specs.Shapes.{natural}
 use Rattle.source_model.specs.Source.{Source, is_word_numbered, word_at}
 use Rattle.source_model.specs.Values.{int_at}
-use Rattle.source_syntax.specs.Derived.{Fits, FitsBody, head_of}
+use Rattle.source_nodes.specs.Derived.{Fits, FitsBody, head_of}
 use Rattle.source_syntax.proofs.BodyLemmas.{all_in}
-use Rattle.source_syntax.proofs.WrittenNames.{both_true, other_true}
+use Rattle.source_nodes.proofs.WrittenNames.{both_true, other_true}
 use Rattle.source_flags.proofs.FlagBounds.{child_or_none}
 use Rattle.source_flags.proofs.Gathered.{all_append}
 use Rattle.laws_formed_sources.specs.sources.Productions.{AllFaultless, IsFaultlessAt}

@@ -37,11 +37,11 @@ use Rattle.source_model.specs.Signatures.{generic_arguments_token}
 use Rattle.source_model.specs.Source.{Source, spelling}
 use Rattle.source_model.specs.Undeclared.{end_unless_some}
 use Rattle.source_model.specs.Values.{between_quotes, int_at, name_text, string_bytes, unescaped}
-use Rattle.source_syntax.specs.Derived.{FitsBody, head_of}
+use Rattle.source_nodes.specs.Derived.{FitsBody, head_of}
 use Rattle.source_syntax.proofs.BodyLemmas.{fits_has, fits_leaf, goes_on_with, terminals}
 use Rattle.source_syntax.proofs.NameTokens.{assembly_is_name, name_at, terminals_of_rule}
 use Rattle.source_syntax.proofs.ReferenceLemmas.{sound_part}
-use Rattle.source_syntax.proofs.WrittenNames.{one_in, word_is_more}
+use Rattle.source_nodes.proofs.WrittenNames.{one_in, word_is_more}
 use Rattle.source_flags.proofs.Gathered.{IsSought, of_parts}
 use Rattle.laws_formed_sources.specs.sources.Laws.{IsRight}
 use Rattle.laws_formed_sources.specs.sources.Productions.{AllFaultless, HasFewTypars, IsFaultlessAt}

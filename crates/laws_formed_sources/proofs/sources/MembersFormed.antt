@@ -39,8 +39,8 @@ use Rattle.source_model.specs.Signatures.{generic_arguments_token}
 use Rattle.source_model.specs.Source.{Source}
 use Rattle.source_model.specs.Types.{owners_in, the_owner, the_type, type_of}
 use Rattle.source_model.specs.Values.{name_text}
-use Rattle.source_syntax.specs.Derived.{FitsBody, head_of}
-use Rattle.source_syntax.specs.Readers.{IsOf as IsKind}
+use Rattle.source_nodes.specs.Derived.{FitsBody, head_of}
+use Rattle.source_nodes.specs.Readers.{IsOf as IsKind}
 use Rattle.source_syntax.proofs.BodyLemmas.{all_in, fits_has, goes_on_with, has_child, nowhere_below, StaysChosen, closed_rule}
 use Rattle.source_syntax.proofs.NameTokens.{name_at, terminals_of_rule, typar_is_name}
 use Rattle.source_syntax.proofs.ReferenceLemmas.{of_child, of_the, sound_part}

@@ -16,9 +16,9 @@ use Rattle.source_model.specs.Forest.{Forest, Part, none, leaf, branch, below_ea
 use Rattle.source_model.specs.Items.{declarations, members}
 use Rattle.source_model.specs.Nodes.{Around, Node, class_token, entered, nodes, nodes_in, type_id}
 use Rattle.source_model.specs.Source.{Source}
-use Rattle.source_syntax.specs.Derived.{Fits, FitsBody, HasBodies, head_of}
+use Rattle.source_nodes.specs.Derived.{Fits, FitsBody, HasBodies, head_of}
 use Rattle.source_syntax.proofs.BodyLemmas.{all_in}
-use Rattle.source_syntax.proofs.WrittenNames.{both_true, other_true}
+use Rattle.source_nodes.proofs.WrittenNames.{both_true, other_true}
 use Rattle.source_flags.proofs.Gathered.{all_append}
 use Rattle.laws_formed_sources.specs.sources.Remaining.{Among}
 use Rattle.laws_formed_sources.proofs.sources.Rules.{body_of, fits_of, rule_below, rule_passes}

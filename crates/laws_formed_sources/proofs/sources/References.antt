@@ -35,9 +35,9 @@ use Rattle.source_model.specs.Source.{Source, spelling}
 use Rattle.source_model.specs.TypeRules.{is_within}
 use Rattle.source_model.specs.Types.{the_type, type_of, types_in}
 use Rattle.source_model.specs.Values.{int_at, name_text}
-use Rattle.source_syntax.specs.Derived.{Fits, FitsBody, head_of}
+use Rattle.source_nodes.specs.Derived.{Fits, FitsBody, head_of}
 use Rattle.source_syntax.specs.Places.{IsReadable}
-use Rattle.source_syntax.specs.Readers.{IsOf}
+use Rattle.source_nodes.specs.Readers.{IsOf}
 use Rattle.source_syntax.specs.Sound.{HasPath}
 use Rattle.source_syntax.proofs.BodyLemmas.{field_target_stays, fits_child, goes_on_with, has_child, in_reference, nowhere_below, target_stays}
 use Rattle.source_syntax.proofs.FieldLemmas as field
@@ -47,7 +47,7 @@ use Rattle.source_syntax.proofs.ReferenceLemmas.{of_child, of_the, sound_part}
 use Rattle.source_syntax.proofs.SoundLemmas.{generic_number_fits, signature_fits}
 use Rattle.source_syntax.proofs.TypeLemmas.{types_at, types_leaf, types_none, types_own}
 use Rattle.source_syntax.proofs.TypeWalks.{one_type_production}
-use Rattle.source_syntax.proofs.WrittenNames.{both_true, fits_rule}
+use Rattle.source_nodes.proofs.WrittenNames.{both_true, fits_rule}
 use Rattle.source_flags.proofs.Gathered.{IsSought, of_parts}
 use Rattle.laws_formed_sources.specs.sources.Productions.{AllFaultless, IsFaultlessAt}
 use Rattle.laws_formed_sources.proofs.sources.Rules.{among_these, fits_some, for_each}

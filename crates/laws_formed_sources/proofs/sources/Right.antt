@@ -21,7 +21,7 @@ use Rattle.source_model.specs.Signatures.{generic_arguments_token}
 use Rattle.source_model.specs.Source.{Source, spelling}
 use Rattle.source_model.specs.Types.{first_owner, owners_in, the_type, type_of, types_in}
 use Rattle.source_model.specs.Values.{between_quotes, name_text, unescaped}
-use Rattle.source_syntax.specs.Readers.{IsOf}
+use Rattle.source_nodes.specs.Readers.{IsOf}
 use Rattle.laws_formed_sources.specs.sources.Laws.{IsRight}
 use Rattle.laws_formed_sources.specs.sources.Productions.{AllFaultless, HasFewTypars, IsFaultlessAt}
 use Rattle.laws_formed_sources.proofs.sources.Declared.{declared_path}

@@ -10,9 +10,9 @@ use Rattle.ilasm_grammar.specs.declared.symbol.Symbol.{Symbol}
 use Rattle.ilasm_grammar.specs.declared.symbol.Symbol.TheVariants.{Terminal, Nonterminal}
 use Rattle.source_model.specs.Forest.{Forest, Part, none, leaf, branch, is_among, is_any_part, part, parts}
 use Rattle.source_model.specs.Source.{Source}
-use Rattle.source_syntax.specs.Derived.{Fits, FitsBody, FitsRule, HasBodies, OfEach, head_of}
+use Rattle.source_nodes.specs.Derived.{Fits, FitsBody, FitsRule, HasBodies, OfEach, head_of}
 use Rattle.source_syntax.proofs.BodyLemmas.{all_in, goes_on_with}
-use Rattle.source_syntax.proofs.WrittenNames.{both_true, other_true}
+use Rattle.source_nodes.proofs.WrittenNames.{both_true, other_true}
 
 -- the productions from this place on pass
 abbrev pub all_rules : (ℕ → ℕ → List Symbol → Bool) → List ℕ → List ℕ → List Symbol → ℕ → Bool

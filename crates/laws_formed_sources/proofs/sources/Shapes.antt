@@ -25,11 +25,11 @@ use Rattle.source_model.specs.Shapes.{Bound, bound, commas, dimensions, is_vecto
 use Rattle.source_model.specs.Source.{Source, is_word, is_word_numbered, word_number, word_of_token}
 use Rattle.source_model.specs.TypeRules.{bound_out_of_range, comma_past_rank, is_within, lower_out_of_range, size_after_gap, size_out_of_range}
 use Rattle.source_model.specs.Values.{int_at}
-use Rattle.source_syntax.specs.Derived.{Fits, FitsBody, HasBodies, head_of, terminal_at}
+use Rattle.source_nodes.specs.Derived.{Fits, FitsBody, HasBodies, head_of, terminal_at}
 use Rattle.source_syntax.specs.Places.{IsSound}
 use Rattle.source_syntax.proofs.BodyLemmas.{StaysChosen, closed_rule, nowhere_below}
 use Rattle.source_syntax.proofs.SoundLemmas.{array_fits}
-use Rattle.source_syntax.proofs.WrittenNames.{both_true, fits_rule, other_true}
+use Rattle.source_nodes.proofs.WrittenNames.{both_true, fits_rule, other_true}
 use Rattle.laws_formed_sources.proofs.sources.Rules.{among_these, for_each, rule_below, rule_passes}
 use Rattle.laws_formed_sources.proofs.sources.Unbroken.{empty_in}
 

@@ -22,11 +22,11 @@ use Rattle.source_model.specs.References.{argument_types, method_signature, prop
 use Rattle.source_model.specs.Source.{Source}
 use Rattle.source_model.specs.TypeRules.{arguments_out_of_range, array_out_of_range, first_of, generic_number_out_of_range, index_out_of_range, parameter_flags_out_of_range, past_count, second_ellipsis}
 use Rattle.source_model.specs.Types.{first_type, the_type, type_of, types_in}
-use Rattle.source_syntax.specs.Derived.{Fits, FitsBody, HasBodies, head_of}
+use Rattle.source_nodes.specs.Derived.{Fits, FitsBody, HasBodies, head_of}
 use Rattle.source_syntax.specs.Places.{node_of}
 use Rattle.source_syntax.proofs.ReferenceLemmas.{of_child}
 use Rattle.source_syntax.proofs.TypeLemmas.{type_none}
-use Rattle.source_syntax.proofs.WrittenNames.{fits_rule, one_in}
+use Rattle.source_nodes.proofs.WrittenNames.{fits_rule, one_in}
 use Rattle.source_flags.proofs.FlagBounds.{child_or_none}
 use Rattle.laws_formed_sources.specs.sources.Productions.{AllFaultless, IsFaultlessAt}
 use Rattle.laws_formed_sources.proofs.sources.Layers.{depth-Prim, made-Prim}

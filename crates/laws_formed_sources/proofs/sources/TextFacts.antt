@@ -14,11 +14,11 @@ use Rattle.assembly_tree.specs.WellFormedNames.{has_no_zero, is_name, is_type_id
 use Rattle.source_model.specs.Nodes.{id_of_texts, type_id}
 use Rattle.source_model.specs.Source.{Source, spelling}
 use Rattle.source_model.specs.Values.{all_but_last, between_quotes, dotted, escape_bytes, last_text, letter_value, name_text, octal_value, part_text, part_texts, unescaped}
-use Rattle.source_syntax.specs.Readers.{IsOf}
-use Rattle.source_syntax.proofs.Lexed.{escape-exact}
-use Rattle.source_syntax.proofs.NameLemmas.{id_text, no_texts, part_texts-at, quoted_text, string_text}
-use Rattle.source_syntax.proofs.ReaderLemmas.{token_spelled}
-use Rattle.source_syntax.proofs.Texts.{plain, unescaped-escape, unescaped-nil, unescaped-plain}
+use Rattle.source_nodes.specs.Readers.{IsOf}
+use Rattle.source_nodes.proofs.Lexed.{escape-exact}
+use Rattle.source_nodes.proofs.NameLemmas.{id_text, no_texts, part_texts-at, quoted_text, string_text}
+use Rattle.source_nodes.proofs.ReaderLemmas.{token_spelled}
+use Rattle.source_nodes.proofs.Texts.{plain, unescaped-escape, unescaped-nil, unescaped-plain}
 
 pub no_zero-append : (xs ys : List ℕ) → has_no_zero xs ≡ true → has_no_zero ys ≡ true → has_no_zero (xs ++ ys) ≡ true
 no_zero-append [] ys h i = i

@@ -30,11 +30,11 @@ use Rattle.source_model.specs.Source.{Source}
 use Rattle.source_model.specs.TypeRules.{index_out_of_range, is_within, out_of, type_too_deep}
 use Rattle.source_model.specs.Types.{array, base_type, first_owner, int_type, named_type, number_of, or_length, owners_in, suffix, suffixed, suffixes, type_of, types_in, variable_number}
 use Rattle.source_model.specs.Values.{int_at, name_text}
-use Rattle.source_syntax.specs.Derived.{FitsBody, HasBodies, head_of}
+use Rattle.source_nodes.specs.Derived.{FitsBody, HasBodies, head_of}
 use Rattle.source_syntax.specs.Places.{IsSound, node_of}
 use Rattle.source_syntax.proofs.SoundLemmas.{index_fits, signature_fits}
 use Rattle.source_syntax.proofs.TypeLemmas.{owners_leaf, owners_none, suffixed_leaf, suffixed_none, type_branch, type_leaf, type_none, types_at, types_leaf, types_none}
-use Rattle.source_syntax.proofs.WrittenNames.{both_true, fits_rule}
+use Rattle.source_nodes.proofs.WrittenNames.{both_true, fits_rule}
 use Rattle.laws_formed_sources.specs.sources.Productions.{AllFaultless, HasFewTypars, IsFaultlessAt}
 use Rattle.laws_formed_sources.proofs.sources.Depths.{own_owners, owners_at, suffixed_at, type_deep}
 use Rattle.laws_formed_sources.proofs.sources.Layers.{depth-Name, depth-Spec, made-Array, made-ByRef, made-Class, made-MVar, made-Mod, made-Name, made-Pinned, made-Pointer, made-Prim, made-Spec, made-SzArray, made-Value, made-Var}

@@ -31,7 +31,7 @@ use Rattle.source_model.specs.OutOfRange.{
 use Rattle.source_model.specs.Source.{Source}
 use Rattle.source_model.specs.TypeRules.{number_in_type_out_of_range, path_too_long, scope_undeclared, type_too_deep, type_undeclared, typars_out_of_range}
 use Rattle.source_model.specs.Undeclared.{accessors_undeclared, assembly_undeclared, data_undeclared, objects_undeclared, scopes_undeclared, types_undeclared, typars_undeclared}
-use Rattle.source_syntax.specs.Derived.{FitsBody, HasBodies}
+use Rattle.source_nodes.specs.Derived.{FitsBody, HasBodies}
 use Rattle.source_syntax.specs.Places.{node_of}
 use Rattle.laws_formed_sources.specs.sources.Productions.{AllFaultless, IsFaultlessAt}
 use Rattle.laws_formed_sources.proofs.sources.Depths.{type_deep}

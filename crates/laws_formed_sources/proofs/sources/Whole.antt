@@ -24,10 +24,10 @@ use Rattle.ilasm_grammar.specs.declared.productions.TheConstants.{CLASS, DECL_FI
 use Rattle.ilasm_grammar.specs.Ilasm.{ilasm, rule_by}
 use Rattle.ilasm_grammar.specs.declared.nonterminals.TheConstants as n
 use Rattle.ilasm_grammar.specs.declared.symbol.Symbol.TheVariants.{Nonterminal}
-use Rattle.source_syntax.specs.Derived.{Fits, FitsBody, head_of}
+use Rattle.source_nodes.specs.Derived.{Fits, FitsBody, head_of}
 use Rattle.source_syntax.proofs.BodyLemmas.{fits_has}
 use Rattle.source_syntax.proofs.ReferenceLemmas.{sound_part}
-use Rattle.source_syntax.proofs.WrittenNames.{one_in}
+use Rattle.source_nodes.proofs.WrittenNames.{one_in}
 use Rattle.source_model.specs.Bodies.{body}
 use Rattle.source_model.specs.Classes.{assembly, base, class_from, classes_in, core_scope, is_interface, is_root, named_object, wants_object}
 use Rattle.source_model.specs.DeclaredTwice.{events_twice, fields_twice, is_module_class, is_same_class, members_twice_in, methods_twice, properties_twice, repeats}

@@ -20,10 +20,10 @@ use Rattle.source_model.specs.Nodes.{type_id}
 use Rattle.source_model.specs.Source.{Source}
 use Rattle.source_model.specs.TypeRules.{past_100_names, path_too_long_in, path_undeclared, scope_token_unless, scope_undeclared_in, type_undeclared_in}
 use Rattle.source_model.specs.Values.{scope_text}
-use Rattle.source_syntax.specs.Derived.{FitsBody, HasBodies}
-use Rattle.source_syntax.specs.Readers.{IsOf}
+use Rattle.source_nodes.specs.Derived.{FitsBody, HasBodies}
+use Rattle.source_nodes.specs.Readers.{IsOf}
 use Rattle.source_syntax.proofs.NameTokens.{Each, IsBody, each_body}
-use Rattle.source_syntax.proofs.WrittenNames.{path_alone, path_begins, path_child, slash_names}
+use Rattle.source_nodes.proofs.WrittenNames.{path_alone, path_begins, path_child, slash_names}
 use Rattle.source_flags.proofs.Gathered.{of_parts, IsSought}
 use Rattle.laws_formed_sources.specs.sources.Productions.{AllFaultless, IsFaultlessAt}
 use Rattle.laws_formed_sources.proofs.sources.Rules.{for_each}

@@ -7,7 +7,7 @@ use Rattle.source_model.specs.OutOfRange.{barred_arguments, barred_in_property, 
 use Rattle.source_model.specs.Source.{Source}
 use Rattle.source_model.specs.TypeRules.{path_too_long, scope_undeclared, type_too_deep, type_undeclared, typars_out_of_range}
 use Rattle.source_flags.specs.InRange.{IsInRange}
-use Rattle.source_syntax.specs.Derived.{OfEach}
+use Rattle.source_nodes.specs.Derived.{OfEach}
 use Rattle.source_syntax.specs.Places.{node_of}
 
 -- Below the production stands its body; its numbers and counts are in their ranges; the type that it names is declared, by a

@@ -4,7 +4,7 @@ use Rattle.std.specs.List.{flat_map, list_all, list_any}
 use Rattle.source_model.specs.BodyFaults.{is_same_name}
 use Rattle.source_model.specs.DeclaredTwice.{repeats}
 use Rattle.source_model.specs.Instructions.{instructions_of, is_label, labels, targets}
-use Rattle.source_syntax.specs.Least.{least}
+use Rattle.source_nodes.specs.Least.{least}
 use Rattle.source_syntax.specs.Methods.{AreNames}
 use Rattle.source_syntax.proofs.LabelTokens.{all_targets_are_names, labels_are_names}
 use Rattle.check_visitor.proofs.LeastOfRules.{then_rule}

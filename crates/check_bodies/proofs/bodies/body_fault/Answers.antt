@@ -1,7 +1,7 @@
 use Rattle.std.proofs.Common.{◌∷◌, [], ap, ◌∙◌}
 use Rattle.ilasm_grammar.specs.declared.productions.TheConstants.{METHOD}
 use Rattle.source_model.specs.Nodes.{nodes_in, nodes_of, nothing_around}
-use Rattle.source_syntax.specs.Least.{least}
+use Rattle.source_nodes.specs.Least.{least}
 use Rattle.check_bodies.proofs.MethodWalks.{chosen_broken, methods_of}
 use Rattle.check_bodies.proofs.bodies.body_fault.Goals as goal
 

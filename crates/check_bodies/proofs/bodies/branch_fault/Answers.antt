@@ -1,6 +1,6 @@
 use Rattle.std.proofs.Common.{ap, sym, subst, ◌∙◌}
 use Rattle.source_model.specs.Bodies.{code}
-use Rattle.source_syntax.specs.Least.{least}
+use Rattle.source_nodes.specs.Least.{least}
 use Rattle.check_bodies.specs.Sizes.{AreOffsets}
 use Rattle.check_bodies.proofs.ShortCodeLemmas.{near_enough}
 use Rattle.check_bodies.proofs.bodies.branch_fault.Goals as goal

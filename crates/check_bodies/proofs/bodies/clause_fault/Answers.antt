@@ -3,7 +3,7 @@ use Rattle.std.specs.Prelude.{true}
 use Rattle.std.specs.List.{flat_map}
 use Rattle.source_model.specs.BodyFaults.{clause_backwards}
 use Rattle.source_model.specs.Forest.{none, preorder}
-use Rattle.source_syntax.specs.Least.{least}
+use Rattle.source_nodes.specs.Least.{least}
 use Rattle.check_bodies.specs.PlainBodies.{is_plain}
 use Rattle.check_bodies.proofs.BodyLemmas.{none_guarded}
 use Rattle.check_bodies.proofs.bodies.clause_fault.Goals as goal

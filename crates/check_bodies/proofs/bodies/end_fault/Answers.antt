@@ -3,7 +3,7 @@ use Rattle.std.specs.Prelude.{filter, false, ◌==◌, IfOk}
 use Rattle.std.specs.List.{flat_map, list_any}
 use Rattle.source_model.specs.Instructions.{instructions_of, targets}
 use Rattle.source_syntax.specs.Labels.{ends_at, number_declared}
-use Rattle.source_syntax.specs.Least.{least}
+use Rattle.source_nodes.specs.Least.{least}
 use Rattle.source_syntax.specs.Methods.{AreNames}
 use Rattle.source_syntax.proofs.LabelTokens.{all_targets_are_names}
 use Rattle.check_bodies.proofs.BranchLemmas.{to_the_end}

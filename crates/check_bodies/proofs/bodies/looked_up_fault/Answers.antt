@@ -1,6 +1,6 @@
 use Rattle.std.proofs.Common.{◌++◌, ◌∙◌}
 use Rattle.source_model.specs.Instructions.{instructions_of}
-use Rattle.source_syntax.proofs.PieceLemmas.{as_many}
+use Rattle.source_nodes.proofs.PieceLemmas.{as_many}
 use Rattle.check_bodies.specs.AllOfBodies.{ends_in, far_in, twice_in, undeclared_in}
 use Rattle.check_visitor.proofs.LeastOfRules.{then_rule}
 use Rattle.check_bodies.proofs.bodies.looked_up_fault.Goals as goal

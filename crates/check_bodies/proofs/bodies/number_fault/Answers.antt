@@ -8,7 +8,7 @@ use Rattle.source_model.specs.Instructions.{instructions_with}
 use Rattle.source_model.specs.OutOfRange.{is_16_bits}
 use Rattle.source_model.specs.TypeRules.{past_count, unless}
 use Rattle.source_model.specs.Variables.{locals}
-use Rattle.source_syntax.specs.Least.{least, sooner}
+use Rattle.source_nodes.specs.Least.{least, sooner}
 use Rattle.source_syntax.proofs.MethodLemmas.{nothing_more}
 use Rattle.check_bodies.specs.PlainBodies.{is_plain}
 use Rattle.check_bodies.proofs.BodyLemmas.{no_bounds, no_clauses, no_locals}

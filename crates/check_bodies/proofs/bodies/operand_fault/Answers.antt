@@ -1,6 +1,6 @@
 use Rattle.std.proofs.Common.{ap, sym, ◌∙◌}
 use Rattle.source_model.specs.Instructions.{instructions_of}
-use Rattle.source_syntax.specs.Least.{least}
+use Rattle.source_nodes.specs.Least.{least}
 use Rattle.check_bodies.specs.OperandRanges.{operand_at_fault}
 use Rattle.check_bodies.proofs.CodeLemmas.{without_numbers}
 use Rattle.check_bodies.proofs.WantedLemmas.{none_ranged}

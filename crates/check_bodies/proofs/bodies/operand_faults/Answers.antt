@@ -2,7 +2,7 @@ use Rattle.std.proofs.Common.{ap, sym, ◌∙◌}
 use Rattle.ilasm_grammar.specs.declared.productions.TheConstants.{INSTRUCTION_OP_VAR}
 use Rattle.source_model.specs.BodyFaults.{variable_undeclared}
 use Rattle.source_model.specs.Instructions.{instructions_of}
-use Rattle.source_syntax.specs.Least.{least}
+use Rattle.source_nodes.specs.Least.{least}
 use Rattle.check_bodies.proofs.WantedLemmas.{none_asked, none_of_variables, none_ranged}
 use Rattle.check_bodies.proofs.bodies.operand_faults.Goals as goal
 

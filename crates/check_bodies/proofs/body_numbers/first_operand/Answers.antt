@@ -1,7 +1,7 @@
 use Rattle.std.proofs.Common.{ap, sym, subst, ◌∙◌}
 use Rattle.source_model.specs.Instructions.{instructions_of}
-use Rattle.source_syntax.specs.Least.{least}
-use Rattle.source_syntax.specs.Pieces.{ArePieces}
+use Rattle.source_nodes.specs.Least.{least}
+use Rattle.source_nodes.specs.Pieces.{ArePieces}
 use Rattle.check_bodies.specs.OperandRanges.{operand_at_fault}
 use Rattle.check_bodies.proofs.CodeLemmas.{without_numbers}
 use Rattle.check_bodies.proofs.body_numbers.first_operand.Goals as goal

@@ -3,9 +3,9 @@ use Rattle.std.specs.List.{enumerate_from, flat_map}
 use Rattle.ilasm_grammar.specs.declared.productions.TheConstants.{BRACKETED_INT_OPT_SOME}
 use Rattle.source_model.specs.BodyNumbers.{local_misnumbered}
 use Rattle.source_model.specs.Forest.{below_each, child}
-use Rattle.source_syntax.specs.Least.{least, sooner}
-use Rattle.source_syntax.proofs.NestingLemmas.{below_length}
-use Rattle.source_syntax.proofs.PieceLemmas.{as_many, part_read}
+use Rattle.source_nodes.specs.Least.{least, sooner}
+use Rattle.source_nodes.proofs.NestingLemmas.{below_length}
+use Rattle.source_nodes.proofs.PieceLemmas.{as_many, part_read}
 use Rattle.check_bodies.proofs.BodyNumberLemmas.{below_at}
 use Rattle.check_bodies.proofs.CodeLemmas.{none_left, one_further}
 use Rattle.check_bodies.proofs.body_numbers.misnumbered.Goals as goal

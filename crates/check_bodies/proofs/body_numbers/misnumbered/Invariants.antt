@@ -3,9 +3,9 @@ use Rattle.std.specs.List.{enumerate_from, flat_map}
 use Rattle.source_model.specs.BodyNumbers.{local_misnumbered}
 use Rattle.source_model.specs.Forest.{Part, below_each}
 use Rattle.source_model.specs.Source.{Source}
-use Rattle.source_syntax.specs.Least.{least, sooner}
-use Rattle.source_syntax.specs.Pieces.{ArePieces}
-use Rattle.source_syntax.specs.Readers.{Reads}
+use Rattle.source_nodes.specs.Least.{least, sooner}
+use Rattle.source_nodes.specs.Pieces.{ArePieces}
+use Rattle.source_nodes.specs.Readers.{Reads}
 use Rattle.check_bodies.proofs.body_numbers.misnumbered.Given as goal
 
 abbrev pub invariant-loop-k : goal.invariant-loop-k

@@ -1,7 +1,7 @@
 use Rattle.std.proofs.Common.{◌∷◌, [], sym, subst}
 use Rattle.ilasm_grammar.specs.declared.productions.TheConstants.{LOCAL}
 use Rattle.source_model.specs.Forest.{parts}
-use Rattle.source_syntax.specs.Pieces.{ArePieces}
+use Rattle.source_nodes.specs.Pieces.{ArePieces}
 use Rattle.check_bodies.proofs.body_numbers.misnumbered_local.Goals as goal
 
 pub returns : goal.returns

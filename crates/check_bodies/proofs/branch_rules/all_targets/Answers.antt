@@ -1,6 +1,6 @@
 use Rattle.std.proofs.Common.{[], sym, ◌∙◌}
 use Rattle.source_model.specs.Instructions.{targets}
-use Rattle.source_syntax.proofs.PieceLemmas.{flat_next, part_read}
+use Rattle.source_nodes.proofs.PieceLemmas.{flat_next, part_read}
 use Rattle.check_bodies.proofs.branch_rules.all_targets.Goals as goal
 
 pub push_targets-requires : goal.push_targets-requires

@@ -2,7 +2,7 @@ use Rattle.std.proofs.Common.{◌≡◌, ◌-◌, ◌<◌, ◌∷◌, length, ap
 use Rattle.std.specs.Prelude.{true, false, Err, Ok}
 use Rattle.source_model.specs.Clauses.{clause_forms}
 use Rattle.source_model.specs.Forest.{is_among}
-use Rattle.source_syntax.specs.Walk.{IsForest}
+use Rattle.source_nodes.specs.Walk.{IsForest}
 use Rattle.source_syntax.proofs.Stepping.{Steps, below_fits, below_is_forest, first_step, step_at_branch, step_at_end, step_into_branch, step_past_branch, step_past_leaf}
 use Rattle.check_visitor.proofs.AskingLemmas.{below_shorter, next_shorter, rest_shorter}
 use Rattle.check_bodies.proofs.ClauseCountLemmas.{left_itself, left_of, left_other, left_past, left_within}

@@ -5,7 +5,7 @@ use Rattle.ilasm_grammar.specs.declared.productions.TheConstants.{FILTER_START_B
 use Rattle.source_model.specs.Clauses.{Range, block_in, stands}
 use Rattle.source_model.specs.Forest.{child, leaf_at}
 use Rattle.source_model.specs.Instructions.{label_number, number_at}
-use Rattle.source_syntax.specs.Readers.{IsOf}
+use Rattle.source_nodes.specs.Readers.{IsOf}
 use Rattle.check_bodies.proofs.RangeNames.{filter_name}
 use Rattle.check_bodies.proofs.clause_ranges.filter_start.Goals as goal
 

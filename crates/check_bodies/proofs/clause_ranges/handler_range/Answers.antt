@@ -4,7 +4,7 @@ use Rattle.il_lexer.specs.declared.types.TokenKind.TheVariants.{Name}
 use Rattle.ilasm_grammar.specs.declared.productions.TheConstants.{HANDLER_BLOCK, HANDLER_HANDLER}
 use Rattle.source_model.specs.Clauses.{block_in, label_range, scope_range, stands}
 use Rattle.source_model.specs.Forest.{child, leaf_at}
-use Rattle.source_syntax.specs.Readers.{IsOf}
+use Rattle.source_nodes.specs.Readers.{IsOf}
 use Rattle.check_bodies.specs.Ranges.{range_of}
 use Rattle.check_bodies.proofs.RangeNames.{handler_names}
 use Rattle.check_bodies.proofs.clause_ranges.handler_range.Goals as goal

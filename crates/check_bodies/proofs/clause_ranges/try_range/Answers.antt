@@ -4,7 +4,7 @@ use Rattle.il_lexer.specs.declared.types.TokenKind.TheVariants.{Name}
 use Rattle.ilasm_grammar.specs.declared.productions.TheConstants.{TRY_RANGE_BLOCK, TRY_RANGE_NAME}
 use Rattle.source_model.specs.Clauses.{block_in, label_range, scope_range, stands}
 use Rattle.source_model.specs.Forest.{child, leaf_at}
-use Rattle.source_syntax.specs.Readers.{IsOf}
+use Rattle.source_nodes.specs.Readers.{IsOf}
 use Rattle.check_bodies.specs.Ranges.{range_of}
 use Rattle.check_bodies.proofs.RangeNames.{try_names}
 use Rattle.check_bodies.proofs.clause_ranges.try_range.Goals as goal

@@ -2,8 +2,8 @@ use Rattle.std.proofs.Common.{◌≡◌, ◌<◌, ◌∷◌, length, ap, sym, �
 use Rattle.std.specs.Prelude.{◌==◌, false, None}
 use Rattle.ilasm_grammar.specs.declared.productions.TheConstants.{ITEM_TRY}
 use Rattle.source_model.specs.Forest.{joined}
-use Rattle.source_syntax.specs.Least.{least, sooner}
-use Rattle.source_syntax.specs.Walk.{IsForest}
+use Rattle.source_nodes.specs.Least.{least, sooner}
+use Rattle.source_nodes.specs.Walk.{IsForest}
 use Rattle.source_syntax.proofs.Stepping.{Steps, below_fits, below_is_forest, first_step, step_at_end, step_into_branch, step_past_branch, step_past_leaf}
 use Rattle.check_visitor.proofs.AskingLemmas.{Bodied, bodied_after, bodied_behind, bodied_below, bodied_by, bodied_past_leaf, next_shorter, nothing_more, rest_shorter, below_shorter}
 use Rattle.check_bodies.proofs.ClauseLemmas.{found_among, into_other, past_try, sought}

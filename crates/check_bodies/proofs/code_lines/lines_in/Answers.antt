@@ -5,8 +5,8 @@ use Rattle.std.proofs.lemmas.Option.{slice_get_read}
 use Rattle.ilasm_grammar.specs.declared.productions.TheConstants.{ITEM_NAME}
 use Rattle.source_model.specs.Forest.{leaf_at, parts, parts_outside}
 use Rattle.source_model.specs.Instructions.{instruction_forms}
-use Rattle.source_syntax.specs.Pieces.{ArePieces}
-use Rattle.source_syntax.proofs.PieceLemmas.{mapped_below}
+use Rattle.source_nodes.specs.Pieces.{ArePieces}
+use Rattle.source_nodes.proofs.PieceLemmas.{mapped_below}
 use Rattle.source_flags.proofs.PastShut as pieces
 use Rattle.check_bodies.specs.CodeLines.{others}
 use Rattle.check_bodies.proofs.CodeLineLemmas.{plain_lines}

@@ -1,10 +1,10 @@
 use Rattle.std.proofs.Common.{◌+◌, ◌≤◌, drop, length, sym, ◌∙◌, ap, arith}
 use Rattle.std.specs.List.{enumerate_from, flat_map}
 use Rattle.source_model.specs.Instructions.{instruction_forms, instructions_of}
-use Rattle.source_syntax.specs.Least.{least, sooner}
+use Rattle.source_nodes.specs.Least.{least, sooner}
 use Rattle.source_syntax.proofs.LabelTokens.{IsFit, parts_fit}
 use Rattle.source_syntax.proofs.MethodLemmas.{all_at}
-use Rattle.source_syntax.proofs.PieceLemmas.{as_many, part_read}
+use Rattle.source_nodes.proofs.PieceLemmas.{as_many, part_read}
 use Rattle.check_bodies.proofs.CodeLemmas.{none_left, one_further}
 use Rattle.check_bodies.proofs.instruction_rules.first_in_code.Goals as goal
 

@@ -3,10 +3,10 @@ use Rattle.std.specs.List.{enumerate_from, flat_map}
 use Rattle.source_model.specs.Instructions.{instructions_of}
 use Rattle.source_model.specs.Nodes.{Node}
 use Rattle.source_model.specs.Source.{Source}
-use Rattle.source_syntax.specs.Derived.{HasBodies}
-use Rattle.source_syntax.specs.Least.{least, sooner}
-use Rattle.source_syntax.specs.Pieces.{ArePieces}
-use Rattle.source_syntax.specs.Readers.{Reads}
+use Rattle.source_nodes.specs.Derived.{HasBodies}
+use Rattle.source_nodes.specs.Least.{least, sooner}
+use Rattle.source_nodes.specs.Pieces.{ArePieces}
+use Rattle.source_nodes.specs.Readers.{Reads}
 use Rattle.check_bodies.proofs.instruction_rules.first_in_code.Given as goal
 
 abbrev pub invariant-loop-k : goal.invariant-loop-k

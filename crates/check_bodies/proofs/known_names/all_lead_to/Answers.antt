@@ -2,8 +2,8 @@ use Rattle.std.proofs.Common.{◌≤◌, ap, sym, ◌∙◌, arith, length}
 use Rattle.std.specs.List.{flat_map, list_all}
 use Rattle.il_lexer.specs.declared.types.TokenKind.TheVariants.{Name}
 use Rattle.source_model.specs.Instructions.{targets}
-use Rattle.source_syntax.specs.Readers.{IsOf}
-use Rattle.source_syntax.proofs.PieceLemmas.{all_taken, part_read}
+use Rattle.source_nodes.specs.Readers.{IsOf}
+use Rattle.source_nodes.proofs.PieceLemmas.{all_taken, part_read}
 use Rattle.check_bodies.specs.KnownNames.{is_label_of}
 use Rattle.check_bodies.proofs.KnownLemmas.{all_next, part_all}
 use Rattle.check_bodies.proofs.known_names.all_lead_to.Goals as goal

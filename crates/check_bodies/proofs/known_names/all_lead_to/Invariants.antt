@@ -5,8 +5,8 @@ use Rattle.source_model.specs.Forest.{Part}
 use Rattle.source_model.specs.Instructions.{targets}
 use Rattle.source_model.specs.Source.{Source}
 use Rattle.source_syntax.specs.Methods.{AreNames}
-use Rattle.source_syntax.specs.Pieces.{ArePieces}
-use Rattle.source_syntax.specs.Readers.{Reads}
+use Rattle.source_nodes.specs.Pieces.{ArePieces}
+use Rattle.source_nodes.specs.Readers.{Reads}
 use Rattle.check_bodies.specs.KnownNames.{is_label_of}
 use Rattle.check_bodies.proofs.known_names.all_lead_to.Given as goal
 

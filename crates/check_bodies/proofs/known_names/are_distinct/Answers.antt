@@ -3,7 +3,7 @@ use Rattle.std.specs.Prelude.{None}
 use Rattle.std.proofs.lemmas.Option.{slice_get-get_or}
 use Rattle.il_lexer.specs.declared.types.TokenKind.TheVariants.{Name}
 use Rattle.source_model.specs.Values.{name_text}
-use Rattle.source_syntax.specs.Readers.{IsOf}
+use Rattle.source_nodes.specs.Readers.{IsOf}
 use Rattle.source_syntax.proofs.MethodLemmas.{all_at}
 use Rattle.source_syntax.proofs.NamingLemmas.{found_all, found_other}
 use Rattle.check_bodies.proofs.KnownLemmas.{no_repeat, none_same, slots_next}

@@ -3,7 +3,7 @@ use Rattle.std.specs.Prelude.{None}
 use Rattle.source_model.specs.Source.{Source}
 use Rattle.source_model.specs.Values.{name_text}
 use Rattle.source_syntax.specs.Methods.{AreNames}
-use Rattle.source_syntax.specs.Readers.{Reads}
+use Rattle.source_nodes.specs.Readers.{Reads}
 use Rattle.source_syntax.proofs.NamingLemmas.{Found}
 use Rattle.check_bodies.proofs.KnownLemmas.{HaveSlots}
 use Rattle.check_bodies.proofs.known_names.are_distinct.Given as goal

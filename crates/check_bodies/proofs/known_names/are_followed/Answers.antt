@@ -1,5 +1,5 @@
 use Rattle.std.proofs.Common.{◌-◌, sym, ◌∙◌, length}
-use Rattle.source_syntax.proofs.PieceLemmas.{part_read}
+use Rattle.source_nodes.proofs.PieceLemmas.{part_read}
 use Rattle.check_bodies.proofs.KnownLemmas.{last_is, none_past}
 use Rattle.check_bodies.proofs.known_names.are_followed.Goals as goal
 

@@ -2,7 +2,7 @@ use Rattle.std.proofs.Common.{◌<◌, ◌≤◌, length, ap, sym, ◌∙◌, ar
 use Rattle.std.specs.Prelude.{None, take}
 use Rattle.std.proofs.lemmas.List.{drop_all, length-map}
 use Rattle.source_model.specs.DeclaredTwice.{repeats_after}
-use Rattle.source_syntax.specs.Least.{least}
+use Rattle.source_nodes.specs.Least.{least}
 use Rattle.source_syntax.proofs.NamingLemmas.{found_other, same_text}
 use Rattle.check_bodies.proofs.label_faults.has_repeat.Goals as goal
 

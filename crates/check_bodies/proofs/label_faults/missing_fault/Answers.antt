@@ -5,7 +5,7 @@ use Rattle.source_model.specs.Forest.{Forest}
 use Rattle.source_model.specs.Instructions.{is_label, labels}
 use Rattle.source_model.specs.Source.{Source}
 use Rattle.source_model.specs.Values.{name_text}
-use Rattle.source_syntax.specs.Least.{least}
+use Rattle.source_nodes.specs.Least.{least}
 use Rattle.source_syntax.specs.Methods.{AreNames}
 use Rattle.source_syntax.proofs.LabelLemmas.{filter_same, is_label_named}
 use Rattle.source_syntax.proofs.LabelTokens.{label_names_are_names}

@@ -3,7 +3,7 @@ use Rattle.source_model.specs.BodyFaults.{is_same_name}
 use Rattle.source_model.specs.DeclaredTwice.{repeats}
 use Rattle.source_model.specs.Instructions.{labels}
 use Rattle.source_model.specs.Values.{name_text}
-use Rattle.source_syntax.specs.Least.{least}
+use Rattle.source_nodes.specs.Least.{least}
 use Rattle.check_bodies.proofs.label_faults.twice_fault.Goals as goal
 
 pub returns-then-not-has_repeat : goal.returns-then-not-has_repeat

@@ -2,9 +2,9 @@ use Rattle.std.proofs.Common.{◌≡◌, drop}
 use Rattle.std.specs.Prelude.{not, filter, bytes_eq, is_some, position}
 use Rattle.source_model.specs.Source.{Source}
 use Rattle.source_model.specs.Values.{name_text}
-use Rattle.source_syntax.specs.Least.{least, sooner}
+use Rattle.source_nodes.specs.Least.{least, sooner}
 use Rattle.source_syntax.specs.Methods.{AreNames}
-use Rattle.source_syntax.specs.Readers.{Reads}
+use Rattle.source_nodes.specs.Readers.{Reads}
 use Rattle.check_bodies.proofs.label_rules.first_missing.Given as goal
 
 abbrev pub invariant-loop-token : goal.invariant-loop-token

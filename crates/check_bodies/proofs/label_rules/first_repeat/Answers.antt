@@ -4,8 +4,8 @@ use Rattle.std.proofs.lemmas.Option.{slice_get-get_or}
 use Rattle.il_lexer.specs.declared.types.TokenKind.TheVariants.{Name}
 use Rattle.source_model.specs.Values.{name_text}
 use Rattle.source_syntax.specs.Labels.{is_below}
-use Rattle.source_syntax.specs.Least.{least, sooner}
-use Rattle.source_syntax.specs.Readers.{IsOf}
+use Rattle.source_nodes.specs.Least.{least, sooner}
+use Rattle.source_nodes.specs.Readers.{IsOf}
 use Rattle.source_syntax.proofs.LabelLemmas.{past_first, past_repeat, repeats_from}
 use Rattle.source_syntax.proofs.MethodLemmas.{all_at}
 use Rattle.check_bodies.proofs.label_rules.first_repeat.Goals as goal

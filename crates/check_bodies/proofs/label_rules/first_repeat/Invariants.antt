@@ -3,9 +3,9 @@ use Rattle.source_model.specs.BodyFaults.{is_same_name}
 use Rattle.source_model.specs.DeclaredTwice.{repeats}
 use Rattle.source_model.specs.Source.{Source}
 use Rattle.source_model.specs.Values.{name_text}
-use Rattle.source_syntax.specs.Least.{least, sooner}
+use Rattle.source_nodes.specs.Least.{least, sooner}
 use Rattle.source_syntax.specs.Methods.{AreNames}
-use Rattle.source_syntax.specs.Readers.{Reads}
+use Rattle.source_nodes.specs.Readers.{Reads}
 use Rattle.source_syntax.proofs.LabelLemmas.{repeats_from}
 use Rattle.check_bodies.proofs.label_rules.first_repeat.Given as goal
 

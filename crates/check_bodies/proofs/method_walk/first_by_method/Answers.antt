@@ -1,7 +1,7 @@
 use Rattle.std.proofs.Common.{◌≡◌, ◌∷◌, ap, sym, ◌∙◌, subst, arith}
 use Rattle.std.specs.Prelude.{◌==◌, false}
 use Rattle.ilasm_grammar.specs.declared.productions.TheConstants.{METHOD}
-use Rattle.source_syntax.specs.Least.{sooner}
+use Rattle.source_nodes.specs.Least.{sooner}
 use Rattle.check_bodies.proofs.MethodWalks.{Walked, begin, below_branch, below_fits, ended, into_branch, past_leaf, past_method}
 use Rattle.check_bodies.proofs.method_walk.first_by_method.Goals as goal
 

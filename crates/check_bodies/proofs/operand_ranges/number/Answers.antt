@@ -3,7 +3,7 @@ use Rattle.assembly_tree.specs.WellFormedBodies.{operand_kind}
 use Rattle.source_model.specs.BodyNumbers.{fits_kind}
 use Rattle.source_model.specs.Instructions.{op_of}
 use Rattle.source_model.specs.TypeRules.{unless}
-use Rattle.source_syntax.specs.Least.{least}
+use Rattle.source_nodes.specs.Least.{least}
 use Rattle.check_bodies.proofs.OffsetLemmas.{kind_is}
 use Rattle.check_bodies.proofs.operand_ranges.number.Goals as goal
 

@@ -1,6 +1,6 @@
 use Rattle.std.proofs.Common.{ap, sym, ◌∙◌}
 use Rattle.source_model.specs.TypeRules.{unless}
-use Rattle.source_syntax.specs.Least.{least}
+use Rattle.source_nodes.specs.Least.{least}
 use Rattle.check_bodies.proofs.OperandLemmas.{fits_otherwise}
 use Rattle.check_bodies.proofs.operand_ranges.number_of_kind.Goals as goal
 

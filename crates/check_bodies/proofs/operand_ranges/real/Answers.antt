@@ -10,8 +10,8 @@ use Rattle.source_model.specs.Instructions.{op_of}
 use Rattle.source_model.specs.OutOfRange.{fits_width}
 use Rattle.source_model.specs.TypeRules.{unless}
 use Rattle.source_model.specs.Values.{real_bytes}
-use Rattle.source_syntax.specs.Least.{least}
-use Rattle.source_syntax.specs.Readers.{IsOf}
+use Rattle.source_nodes.specs.Least.{least}
+use Rattle.source_nodes.specs.Readers.{IsOf}
 use Rattle.check_bodies.specs.OperandRanges.{real_size}
 use Rattle.check_bodies.proofs.OffsetLemmas.{kind_is}
 use Rattle.check_bodies.proofs.RealParts.{has_real}

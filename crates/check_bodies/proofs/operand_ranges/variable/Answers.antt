@@ -9,8 +9,8 @@ use Rattle.source_model.specs.Instructions.{op_of}
 use Rattle.source_model.specs.TypeRules.{is_within, unless}
 use Rattle.source_model.specs.Values.{int_at, or_zero}
 use Rattle.source_model.specs.Variables.{variable_named, variable_token}
-use Rattle.source_syntax.specs.Least.{least}
-use Rattle.source_syntax.specs.Readers.{IsOf}
+use Rattle.source_nodes.specs.Least.{least}
+use Rattle.source_nodes.specs.Readers.{IsOf}
 use Rattle.check_bodies.proofs.OffsetLemmas.{kind_is}
 use Rattle.check_bodies.proofs.VariableParts.{has_variable}
 use Rattle.check_bodies.proofs.operand_ranges.variable.Goals as goal

@@ -2,7 +2,7 @@ use Rattle.std.proofs.Common.{length, ap, sym, ◌∙◌}
 use Rattle.std.proofs.lemmas.Bool.{le-leb, lt-leb}
 use Rattle.std.specs.Prelude.{◌&&◌}
 use Rattle.std.specs.List.{list_all}
-use Rattle.source_syntax.specs.declared.pieces.Piece.{Piece}
+use Rattle.source_nodes.specs.declared.pieces.Piece.{Piece}
 use Rattle.check_bodies.specs.ShortCode.{is_bounded}
 use Rattle.check_bodies.proofs.short_code.is_short_code.Goals as goal
 

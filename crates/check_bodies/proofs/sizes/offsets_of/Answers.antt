@@ -4,7 +4,7 @@ use Rattle.std.specs.Prelude.{min}
 use Rattle.source_model.specs.Forest.{Part}
 use Rattle.source_model.specs.Instructions.{instructions_of}
 use Rattle.source_model.specs.Operands.{instruction}
-use Rattle.source_syntax.proofs.PieceLemmas.{as_many, part_read}
+use Rattle.source_nodes.proofs.PieceLemmas.{as_many, part_read}
 use Rattle.check_bodies.specs.Sizes.{offsets_from}
 use Rattle.check_bodies.proofs.OffsetLemmas.{after, after_next, code_sizes, last_offset, next_at, next_sum, one_offset}
 use Rattle.check_bodies.proofs.SizeLemmas.{code_small}

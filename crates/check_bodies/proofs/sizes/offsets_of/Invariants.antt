@@ -5,8 +5,8 @@ use Rattle.source_model.specs.Instructions.{instructions_of}
 use Rattle.source_model.specs.Nodes.{Around}
 use Rattle.source_model.specs.Operands.{instruction}
 use Rattle.source_model.specs.Source.{Source}
-use Rattle.source_syntax.specs.Pieces.{ArePieces}
-use Rattle.source_syntax.specs.Readers.{Reads}
+use Rattle.source_nodes.specs.Pieces.{ArePieces}
+use Rattle.source_nodes.specs.Readers.{Reads}
 use Rattle.check_bodies.specs.Sizes.{offsets_from}
 use Rattle.check_bodies.proofs.sizes.offsets_of.Given as goal
 

@@ -5,8 +5,8 @@ use Rattle.ilasm_grammar.specs.declared.productions.TheConstants.{INDEX_NAME}
 use Rattle.source_model.specs.Forest.{child, has}
 use Rattle.source_model.specs.Instructions.{op_of}
 use Rattle.source_model.specs.Variables.{variable_named, variable_token}
-use Rattle.source_syntax.specs.Least.{least}
-use Rattle.source_syntax.specs.Readers.{IsOf}
+use Rattle.source_nodes.specs.Least.{least}
+use Rattle.source_nodes.specs.Readers.{IsOf}
 use Rattle.check_bodies.proofs.VariableParts.{has_variable}
 use Rattle.check_bodies.proofs.variable_rules.undeclared.Goals as goal
 

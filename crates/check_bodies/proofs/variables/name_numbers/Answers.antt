@@ -1,6 +1,6 @@
 use Rattle.std.proofs.Common.{◌+◌, ◌≤◌, [], ◌++◌, length, ap, sym, ◌∙◌, arith}
 use Rattle.std.specs.List.{enumerate_from, flat_map}
-use Rattle.source_syntax.proofs.PieceLemmas.{as_many, flat_next, part_read}
+use Rattle.source_nodes.proofs.PieceLemmas.{as_many, flat_next, part_read}
 use Rattle.check_bodies.specs.NamedVariables.{number_if_named}
 use Rattle.check_bodies.proofs.CodeLemmas.{all_numbered, with_number}
 use Rattle.check_bodies.proofs.variables.name_numbers.Goals as goal

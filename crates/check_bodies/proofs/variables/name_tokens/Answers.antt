@@ -1,5 +1,5 @@
 use Rattle.std.proofs.Common.{[], sym, ◌∙◌}
-use Rattle.source_syntax.proofs.PieceLemmas.{flat_next, part_read}
+use Rattle.source_nodes.proofs.PieceLemmas.{flat_next, part_read}
 use Rattle.check_bodies.specs.NamedVariables.{name_of}
 use Rattle.check_bodies.proofs.variables.name_tokens.Goals as goal
 

@@ -1,7 +1,7 @@
 use Rattle.std.proofs.Common.{◌≡◌, List, [], ◌++◌, take}
 use Rattle.std.specs.List.{flat_map}
 use Rattle.source_model.specs.Forest.{Part}
-use Rattle.source_syntax.specs.Pieces.{ArePieces}
+use Rattle.source_nodes.specs.Pieces.{ArePieces}
 use Rattle.check_bodies.specs.NamedVariables.{name_of}
 use Rattle.check_bodies.proofs.variables.name_tokens.Given as goal
 

@@ -2,7 +2,7 @@ use Rattle.std.proofs.Common.{◌∷◌, [], ap, sym, subst, ◌∙◌, map}
 use Rattle.source_model.specs.Forest.{parts}
 use Rattle.source_model.specs.Values.{name_text}
 use Rattle.source_syntax.specs.Methods.{AreNames}
-use Rattle.source_syntax.specs.Pieces.{ArePieces}
+use Rattle.source_nodes.specs.Pieces.{ArePieces}
 use Rattle.check_bodies.proofs.NamedLemmas.{names_below, numbers_below}
 use Rattle.check_bodies.proofs.variables.named_parts.Goals as goal
 

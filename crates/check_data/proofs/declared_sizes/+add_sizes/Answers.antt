@@ -5,8 +5,8 @@ use Rattle.il_lexer.specs.declared.types.TokenKind.TheVariants as kind
 use Rattle.source_model.specs.Nodes.{class_token, type_id}
 use Rattle.source_syntax.specs.ClassNumbers.{class_in, class_numbered}
 use Rattle.source_syntax.specs.Nested.{onward}
-use Rattle.source_syntax.specs.Readers.{IsOf}
-use Rattle.source_syntax.specs.Walk.{IsForest}
+use Rattle.source_nodes.specs.Readers.{IsOf}
+use Rattle.source_nodes.specs.Walk.{IsForest}
 use Rattle.source_syntax.proofs.NameTokens.{class_is_name}
 use Rattle.check_visitor.proofs.AskingLemmas.{below_shorter, next_shorter, rest_shorter}
 use Rattle.check_names.specs.DeclaredClasses.{inner_path}

@@ -3,9 +3,9 @@ use Rattle.type_terms.specs.declared.name.TypeId.{TypeId}
 use Rattle.source_model.specs.Forest.{Forest, preorder}
 use Rattle.source_model.specs.Source.{Source}
 use Rattle.source_syntax.specs.ClassNumbers.{class_numbered}
-use Rattle.source_syntax.specs.Derived.{HasBodies}
-use Rattle.source_syntax.specs.Readers.{Reads}
-use Rattle.source_syntax.specs.Walk.{IsForest}
+use Rattle.source_nodes.specs.Derived.{HasBodies}
+use Rattle.source_nodes.specs.Readers.{Reads}
+use Rattle.source_nodes.specs.Walk.{IsForest}
 use Rattle.check_data.specs.DeclaredSizes.{AreFilled, AreKnown, ClassSize, size_list}
 use Rattle.check_data.proofs.SizeWalks.{Filling}
 use Rattle.check_data.proofs.declared_sizes.+add_sizes.Given as goal

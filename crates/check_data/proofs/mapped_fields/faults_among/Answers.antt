@@ -1,7 +1,7 @@
 use Rattle.std.proofs.Common.{◌∙◌, sym}
 use Rattle.ilasm_grammar.specs.declared.productions.TheConstants.{FIELD}
 use Rattle.source_model.specs.Nodes.{nodes_in}
-use Rattle.source_syntax.proofs.Collecting.{behind_is, below_is, is_branch}
+use Rattle.source_nodes.proofs.Collecting.{behind_is, below_is, is_branch}
 use Rattle.check_data.proofs.FieldLemmas.{asking_end, asking_field, asking_other, asking_start}
 use Rattle.check_data.proofs.mapped_fields.faults_among.Goals as goal
 

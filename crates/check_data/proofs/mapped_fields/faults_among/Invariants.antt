@@ -2,8 +2,8 @@ use Rattle.std.proofs.Common.{◌≡◌, length}
 use Rattle.source_model.specs.Forest.{Forest, preorder}
 use Rattle.source_model.specs.Nodes.{Around, nodes_in}
 use Rattle.source_model.specs.Source.{Source}
-use Rattle.source_syntax.specs.Derived.{HasBodies}
-use Rattle.source_syntax.specs.Walk.{IsForest}
+use Rattle.source_nodes.specs.Derived.{HasBodies}
+use Rattle.source_nodes.specs.Walk.{IsForest}
 use Rattle.check_data.specs.FieldFaults.{Maps}
 use Rattle.check_data.proofs.FieldLemmas.{Asking}
 use Rattle.check_data.proofs.mapped_fields.faults_among.Given as goal

@@ -6,7 +6,7 @@ use Rattle.source_model.specs.Data.{at_token, data_named}
 use Rattle.source_model.specs.Forest.{child, the}
 use Rattle.source_model.specs.OutOfRange.{asked_length}
 use Rattle.source_model.specs.Values.{name_text}
-use Rattle.source_syntax.specs.Readers.{IsOf}
+use Rattle.source_nodes.specs.Readers.{IsOf}
 use Rattle.source_syntax.proofs.NameTokens.{at_is_name, child_bodies, the_body}
 use Rattle.check_names.specs.MappedData.{counted_length}
 use Rattle.check_data.proofs.FieldLemmas.{counted_twice, with_size, without_size}

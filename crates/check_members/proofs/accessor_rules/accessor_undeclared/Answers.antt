@@ -5,7 +5,7 @@ use Rattle.std.proofs.lemmas.Result.{IfOk-weaker}
 use Rattle.source_model.specs.Forest.{preorder}
 use Rattle.source_model.specs.Nodes.{nothing_around}
 use Rattle.source_model.specs.Undeclared.{accessors_undeclared}
-use Rattle.source_syntax.specs.Least.{least}
+use Rattle.source_nodes.specs.Least.{least}
 use Rattle.check_members.specs.OwnMethods.{is_owner}
 use Rattle.check_members.proofs.AccessorWalks.{all_undeclared}
 use Rattle.check_members.proofs.OwnerLemmas.{no_owner}

@@ -2,8 +2,8 @@ use Rattle.std.proofs.Common.{◌≡◌, List, None, length}
 use Rattle.type_terms.specs.declared.name.TypeId.{TypeId}
 use Rattle.source_model.specs.Forest.{Forest, preorder}
 use Rattle.source_model.specs.Source.{Source}
-use Rattle.source_syntax.specs.Derived.{HasBodies}
-use Rattle.source_syntax.specs.Walk.{IsForest}
+use Rattle.source_nodes.specs.Derived.{HasBodies}
+use Rattle.source_nodes.specs.Walk.{IsForest}
 use Rattle.check_members.specs.declared.member_kinds.Level.TheVariants as level
 use Rattle.check_members.proofs.LoneLemmas.{LeftLone}
 use Rattle.check_members.proofs.WithinLemmas.{Walked}

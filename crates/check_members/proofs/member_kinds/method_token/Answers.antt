@@ -1,5 +1,5 @@
 use Rattle.std.proofs.Common.{◌∙◌, refl, sym}
-use Rattle.source_syntax.proofs.Collecting.{behind_is}
+use Rattle.source_nodes.proofs.Collecting.{behind_is}
 use Rattle.check_members.specs.MemberKinds.{method_names}
 use Rattle.check_members.proofs.MemberParts.{chosen_below, token_end, token_found, token_in}
 use Rattle.check_members.proofs.member_kinds.method_token.Goals as goal

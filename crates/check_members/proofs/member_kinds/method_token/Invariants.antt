@@ -1,6 +1,6 @@
 use Rattle.std.proofs.Common.{◌≡◌, length}
 use Rattle.source_model.specs.Forest.{Forest, preorder}
-use Rattle.source_syntax.specs.Walk.{IsForest}
+use Rattle.source_nodes.specs.Walk.{IsForest}
 use Rattle.check_members.proofs.MemberParts.{TokenLeft}
 use Rattle.check_members.proofs.member_kinds.method_token.Given as goal
 

@@ -1,7 +1,7 @@
 use Rattle.std.proofs.Common.{◌∙◌, ap, subst, sym}
 use Rattle.il_lexer.specs.declared.types.TokenKind.TheVariants as token_kind
 use Rattle.source_model.specs.Values.{name_text}
-use Rattle.source_syntax.specs.Readers.{IsOf}
+use Rattle.source_nodes.specs.Readers.{IsOf}
 use Rattle.check_members.specs.declared.member_kinds.Kind.TheVariants.{Event}
 use Rattle.check_members.proofs.MemberParts.{event_is_name}
 use Rattle.check_members.proofs.ReadLemmas.{same_member, some_is}

@@ -1,7 +1,7 @@
 use Rattle.std.proofs.Common.{◌∙◌, ap, refl, sym, subst}
 use Rattle.std.specs.Prelude.{is_some, not}
 use Rattle.source_model.specs.Forest.{the}
-use Rattle.source_syntax.specs.Derived.{FitsBody}
+use Rattle.source_nodes.specs.Derived.{FitsBody}
 use Rattle.source_syntax.proofs.ReferenceLemmas.{sound_part}
 use Rattle.check_visitor.specs.Surroundings.{HasParameters, IsSurrounding}
 use Rattle.check_members.proofs.AccessorLemmas.{no_part_found, part_found, turned_back}

@@ -6,8 +6,8 @@ use Rattle.ilasm_grammar.specs.declared.productions.TheConstants.{TARGET_END, TA
 use Rattle.source_model.specs.Forest.{child, leaf_at, the}
 use Rattle.source_model.specs.References.{method_name, reference_name}
 use Rattle.source_model.specs.Values.{name_text}
-use Rattle.source_syntax.specs.Derived.{FitsBody}
-use Rattle.source_syntax.specs.Readers.{IsOf}
+use Rattle.source_nodes.specs.Derived.{FitsBody}
+use Rattle.source_nodes.specs.Readers.{IsOf}
 use Rattle.source_syntax.proofs.ReferenceLemmas.{of_the}
 use Rattle.check_members.proofs.ReferenceParts.{lone_name}
 use Rattle.check_members.proofs.reference_reading.reference_name.Goals as goal

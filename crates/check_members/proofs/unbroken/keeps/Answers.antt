@@ -1,6 +1,6 @@
 use Rattle.std.proofs.Common.{◌∙◌, ◌∷◌, [], ap, refl, sym, subst}
 use Rattle.ilasm_grammar.specs.declared.tree.TreeNode.TheVariants.{Branch}
-use Rattle.source_syntax.specs.Walk.{IsForest}
+use Rattle.source_nodes.specs.Walk.{IsForest}
 use Rattle.check_members.specs.MemberKinds.{signature_parts}
 use Rattle.check_members.proofs.KeepLemmas.{Left, at_end, back_is_forest, broken_first, cut_back, cut_fits, cut_front, front_is_forest, past_kept, past_leaf, past_other, rest_is_forest}
 use Rattle.check_members.proofs.unbroken.keeps.Goals as goal

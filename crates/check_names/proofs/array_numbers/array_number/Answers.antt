@@ -2,7 +2,7 @@ use Rattle.std.proofs.Common.{◌≡◌, [], ◌∙◌, ap, sym, subst}
 use Rattle.std.specs.Prelude.{Bool, true, ◌==◌, IfOk, if◌then◌else◌}
 use Rattle.std.proofs.lemmas.Bool.Decides.{Decides-eqb}
 use Rattle.ilasm_grammar.specs.declared.productions.TheConstants.{TYPE_SUFFIX_BRACKET}
-use Rattle.source_syntax.specs.Least.{least}
+use Rattle.source_nodes.specs.Least.{least}
 use Rattle.check_names.specs.ArrayNumbers.{shape_number}
 use Rattle.check_names.proofs.array_numbers.array_number.Goals as goal
 

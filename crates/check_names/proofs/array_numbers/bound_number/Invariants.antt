@@ -1,7 +1,7 @@
 use Rattle.std.proofs.Common.{◌≡◌, length}
 use Rattle.std.specs.Prelude.{None}
 use Rattle.source_model.specs.Source.{Source}
-use Rattle.source_syntax.specs.Readers.{Reads}
+use Rattle.source_nodes.specs.Readers.{Reads}
 use Rattle.check_names.proofs.ArrayLemmas.{bounds_after}
 use Rattle.check_names.proofs.array_numbers.bound_number.Given as goal
 

@@ -1,6 +1,6 @@
 use Rattle.std.proofs.Common.{◌≡◌, length, map}
 use Rattle.source_model.specs.TypeRules.{first_size}
-use Rattle.source_syntax.specs.Dimensions.{bound_of}
+use Rattle.source_nodes.specs.Dimensions.{bound_of}
 use Rattle.check_names.proofs.array_numbers.first_size.Given as goal
 
 abbrev pub invariant-loop-left : goal.invariant-loop-left

@@ -3,8 +3,8 @@ use Rattle.std.specs.Prelude.{Bool, false, drop, if◌then◌else◌}
 use Rattle.std.specs.List.{flat_map}
 use Rattle.source_model.specs.Shapes.{Bound, commas, dimensions, is_vector}
 use Rattle.source_model.specs.TypeRules.{comma_past_rank, size_after_gap}
-use Rattle.source_syntax.specs.Dimensions.{bound_of}
-use Rattle.source_syntax.specs.Least.{least}
+use Rattle.source_nodes.specs.Dimensions.{bound_of}
+use Rattle.source_nodes.specs.Least.{least}
 use Rattle.check_names.specs.ArrayNumbers.{dimension_number}
 use Rattle.check_names.proofs.ArrayLemmas.{next_rule}
 use Rattle.check_names.proofs.array_numbers.shape_number.Goals as goal

@@ -4,9 +4,9 @@ use Rattle.ilasm_grammar.specs.declared.productions.TheConstants.{CLASS}
 use Rattle.il_lexer.specs.declared.types.TokenKind.TheVariants as kind
 use Rattle.source_model.specs.Nodes.{type_id}
 use Rattle.source_syntax.specs.ClassNumbers.{IsNumber}
-use Rattle.source_syntax.specs.Least.{sooner}
-use Rattle.source_syntax.specs.Readers.{IsOf}
-use Rattle.source_syntax.specs.Walk.{IsForest}
+use Rattle.source_nodes.specs.Least.{sooner}
+use Rattle.source_nodes.specs.Readers.{IsOf}
+use Rattle.source_nodes.specs.Walk.{IsForest}
 use Rattle.check_visitor.proofs.AskingLemmas.{below_shorter, next_shorter, rest_shorter}
 use Rattle.check_names.proofs.ClassWalks.{Adding, adding_class, adding_end, adding_leaf, adding_method, adding_other, adding_start, forest_behind}
 use Rattle.source_syntax.proofs.NameTokens.{class_is_name}

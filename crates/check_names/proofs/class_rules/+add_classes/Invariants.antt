@@ -4,9 +4,9 @@ use Rattle.source_model.specs.Forest.{Forest, preorder}
 use Rattle.source_model.specs.Source.{Source}
 use Rattle.source_syntax.specs.ClassNumbers.{Knows, class_numbered}
 use Rattle.check_names.specs.DeclaredClasses.{Kept}
-use Rattle.source_syntax.specs.Derived.{HasBodies}
-use Rattle.source_syntax.specs.Readers.{Reads}
-use Rattle.source_syntax.specs.Walk.{IsForest}
+use Rattle.source_nodes.specs.Derived.{HasBodies}
+use Rattle.source_nodes.specs.Readers.{Reads}
+use Rattle.source_nodes.specs.Walk.{IsForest}
 use Rattle.check_names.proofs.ClassWalks.{Adding}
 use Rattle.check_names.proofs.class_rules.+add_classes.Given as goal
 

@@ -6,7 +6,7 @@ use Rattle.ilasm_grammar.specs.declared.productions.TheConstants.{DATA_ITEM_BYTE
 use Rattle.source_model.specs.Data.{item_bits, item_count, item_length}
 use Rattle.source_model.specs.Forest.{leaf_at, part}
 use Rattle.source_model.specs.Values.{array_bytes}
-use Rattle.source_syntax.specs.Readers.{IsOf}
+use Rattle.source_nodes.specs.Readers.{IsOf}
 use Rattle.source_model.specs.OutOfRange.{stands_too_often}
 use Rattle.check_names.proofs.DataLemmas.{is_bytes}
 use Rattle.check_names.proofs.data_lengths.known_length.Goals as goal

@@ -5,7 +5,7 @@ use Rattle.source_model.specs.Data.{item_bits}
 use Rattle.source_model.specs.Forest.{each, leaf_at}
 use Rattle.source_model.specs.OutOfRange.{fits_width, is_repeat}
 use Rattle.source_model.specs.TypeRules.{unless}
-use Rattle.source_syntax.specs.Least.{least, sooner}
+use Rattle.source_nodes.specs.Least.{least, sooner}
 use Rattle.source_syntax.proofs.LeastLemmas.{least_append}
 use Rattle.check_names.proofs.data_numbers.item_number.Goals as goal
 

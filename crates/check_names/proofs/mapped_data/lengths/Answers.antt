@@ -1,6 +1,6 @@
 use Rattle.std.proofs.Common.{◌∙◌, sym, subst}
 use Rattle.ilasm_grammar.specs.declared.productions.TheConstants.{DATA}
-use Rattle.source_syntax.proofs.Collecting.{after_is, behind_is, below_is, is_branch}
+use Rattle.source_nodes.proofs.Collecting.{after_is, behind_is, below_is, is_branch}
 use Rattle.check_names.proofs.MappedData.{Lengths, lengths_end, lengths_go_in, lengths_start, lengths_take}
 use Rattle.check_names.proofs.mapped_data.lengths.Goals as goal
 

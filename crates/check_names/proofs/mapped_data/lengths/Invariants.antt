@@ -1,7 +1,7 @@
 use Rattle.std.proofs.Common.{length}
 use Rattle.source_model.specs.Source.{Source}
-use Rattle.source_syntax.specs.Readers.{Reads}
-use Rattle.source_syntax.specs.Walk.{IsForest}
+use Rattle.source_nodes.specs.Readers.{Reads}
+use Rattle.source_nodes.specs.Walk.{IsForest}
 use Rattle.check_names.proofs.MappedData.{Lengths}
 use Rattle.check_names.proofs.mapped_data.lengths.Given as goal
 

@@ -6,7 +6,7 @@ use Rattle.source_model.specs.Nodes.{type_id}
 use Rattle.source_model.specs.Source.{Source}
 use Rattle.source_syntax.specs.ClassNumbers.{class_numbered, id_of, outer_of}
 use Rattle.source_syntax.specs.Nested.{reached}
-use Rattle.source_syntax.specs.Readers.{IsOf, Reads}
+use Rattle.source_nodes.specs.Readers.{IsOf, Reads}
 use Rattle.check_names.proofs.named_types.is_declared.Given as goal
 
 abbrev pub invariant-loop-k : goal.invariant-loop-k

@@ -1,6 +1,6 @@
 use Rattle.std.proofs.Common.{◌≡◌, ◌∙◌, subst, sym}
 use Rattle.std.specs.Prelude.{IfOk}
-use Rattle.source_syntax.specs.Least.{least}
+use Rattle.source_nodes.specs.Least.{least}
 use Rattle.check_names.specs.NamedTypes.{path_missing}
 use Rattle.check_names.proofs.NamedTypeLemmas.{here_is}
 use Rattle.check_names.proofs.named_types.missing.Goals as goal

@@ -1,5 +1,5 @@
 use Rattle.std.proofs.Common.{◌∙◌, ap}
-use Rattle.source_syntax.specs.Least.{least}
+use Rattle.source_nodes.specs.Least.{least}
 use Rattle.check_names.proofs.NamedTypeLemmas.{types_are}
 use Rattle.check_names.proofs.named_types.type_undeclared.Goals as goal
 

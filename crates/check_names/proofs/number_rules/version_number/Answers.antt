@@ -1,7 +1,7 @@
 use Rattle.std.proofs.Common.{ℕ, ◌∙◌, ap}
 use Rattle.source_model.specs.OutOfRange.{is_16_bits}
 use Rattle.source_model.specs.TypeRules.{unless}
-use Rattle.source_syntax.specs.Least.{least, sooner}
+use Rattle.source_nodes.specs.Least.{least, sooner}
 use Rattle.check_visitor.proofs.RangeLemmas.{four}
 use Rattle.check_names.proofs.number_rules.version_number.Goals as goal
 

@@ -7,7 +7,7 @@ use Rattle.source_model.specs.Forest.{Forest, each, leaf_at}
 use Rattle.source_model.specs.Nodes.{typars}
 use Rattle.source_model.specs.TypeRules.{is_within, unless}
 use Rattle.source_model.specs.Values.{name_text}
-use Rattle.source_syntax.specs.Least.{least}
+use Rattle.source_nodes.specs.Least.{least}
 use Rattle.check_names.proofs.param_numbers.typar_number.Goals as goal
 
 pub returns : goal.returns

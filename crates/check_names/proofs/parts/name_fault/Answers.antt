@@ -1,8 +1,8 @@
 use Rattle.std.proofs.Common.{◌++◌, ◌∙◌, ap, subst, sym}
 use Rattle.std.specs.Prelude.{All, Some}
 use Rattle.il_lexer.specs.declared.types.TokenKind.TheVariants as kind
-use Rattle.source_syntax.specs.Least.{least}
-use Rattle.source_syntax.specs.Readers.{IsOf}
+use Rattle.source_nodes.specs.Least.{least}
+use Rattle.source_nodes.specs.Readers.{IsOf}
 use Rattle.source_syntax.proofs.NameTokens.{all_of_each}
 use Rattle.check_visitor.proofs.LeastOfRules.{then_rule}
 use Rattle.check_names.specs.NamedTypes.{path_missing, scope_missing_in, type_missing_in, written_scope_by}

@@ -1,5 +1,5 @@
 use Rattle.std.proofs.Common.{◌∙◌, ap, sym}
-use Rattle.source_syntax.specs.Least.{least}
+use Rattle.source_nodes.specs.Least.{least}
 use Rattle.check_names.proofs.RootLemmas.{all_wanted, none_wanted}
 use Rattle.check_names.proofs.roots.object_undeclared.Goals as goal
 

@@ -1,7 +1,7 @@
 use Rattle.std.proofs.Common.{◌∙◌, length, sym, subst}
 use Rattle.il_lexer.specs.declared.types.TokenKind.TheVariants as kind
 use Rattle.source_model.specs.Nodes.{class_token}
-use Rattle.source_syntax.specs.Readers.{IsOf}
+use Rattle.source_nodes.specs.Readers.{IsOf}
 use Rattle.source_syntax.proofs.NameTokens.{class_is_name}
 use Rattle.check_names.proofs.RootLemmas.{named_at, root_alone, without_base}
 use Rattle.check_names.proofs.roots.unless_based.Goals as goal

@@ -1,7 +1,7 @@
 use Rattle.std.proofs.Common.{◌≡◌, sym, ◌∙◌}
 use Rattle.std.specs.Prelude.{false, true}
 use Rattle.check_names.specs.TypeDepths.{is_modifier}
-use Rattle.source_syntax.proofs.Collecting.{after_is, behind_is}
+use Rattle.source_nodes.proofs.Collecting.{after_is, behind_is}
 use Rattle.check_names.proofs.DepthRules.{is_suffix_there}
 use Rattle.check_names.proofs.StatedSizes.{sized_end, sized_into, sized_lost, sized_past, sized_start}
 use Rattle.check_names.proofs.stated_sizes.keeps_size.Goals as goal

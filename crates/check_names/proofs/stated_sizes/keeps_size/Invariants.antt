@@ -7,7 +7,7 @@ use Rattle.source_model.specs.Forest.{Forest, preorder}
 use Rattle.source_model.specs.Nodes.{Around}
 use Rattle.source_model.specs.Source.{Source}
 use Rattle.source_model.specs.Types.{suffixed}
-use Rattle.source_syntax.specs.Walk.{IsForest}
+use Rattle.source_nodes.specs.Walk.{IsForest}
 use Rattle.check_names.proofs.StatedSizes.{Sized}
 use Rattle.check_names.proofs.stated_sizes.keeps_size.Given as goal
 

@@ -1,6 +1,6 @@
 use Rattle.std.proofs.Common.{sym, ◌∙◌, refl, arith}
 use Rattle.ilasm_grammar.specs.declared.productions.TheConstants.{TYPE}
-use Rattle.source_syntax.proofs.Collecting.{below_is, after_is, behind_is, is_branch}
+use Rattle.source_nodes.proofs.Collecting.{below_is, after_is, behind_is, is_branch}
 use Rattle.source_syntax.proofs.TypeWalks.{suffix_branch}
 use Rattle.check_names.proofs.DepthRules.{is_suffix_there}
 use Rattle.check_names.proofs.DepthWalks.{deepens_end, deepens_into, deepens_past, deepens_start, no_empty, no_token, split, split_depths}

@@ -6,9 +6,9 @@ use Rattle.source_model.specs.Nodes.{Around}
 use Rattle.source_model.specs.Source.{Source}
 use Rattle.source_model.specs.TypeRules.{type_too_deep}
 use Rattle.source_model.specs.Types.{suffixed, types_in}
-use Rattle.source_syntax.specs.Derived.{HasBodies}
-use Rattle.source_syntax.specs.Least.{least, sooner}
-use Rattle.source_syntax.specs.Walk.{IsForest}
+use Rattle.source_nodes.specs.Derived.{HasBodies}
+use Rattle.source_nodes.specs.Least.{least, sooner}
+use Rattle.source_nodes.specs.Walk.{IsForest}
 use Rattle.check_visitor.specs.Surroundings.{found_in}
 use Rattle.check_names.proofs.DepthRules.{OnlyInSuffixes}
 use Rattle.check_names.proofs.DepthWalks.{Deepens}

@@ -4,8 +4,8 @@ use Rattle.il_lexer.specs.declared.types.TokenKind.TheVariants as kind
 use Rattle.ilasm_grammar.specs.declared.productions.TheConstants.{INDEX_NAME}
 use Rattle.source_model.specs.Forest.{has, leaf_at, the}
 use Rattle.source_model.specs.TypeRules.{name_unless_among}
-use Rattle.source_syntax.specs.Least.{least}
-use Rattle.source_syntax.specs.Readers.{IsOf}
+use Rattle.source_nodes.specs.Least.{least}
+use Rattle.source_nodes.specs.Readers.{IsOf}
 use Rattle.source_syntax.proofs.NameTokens.{index_is_name}
 use Rattle.check_names.proofs.undeclared.index.Goals as goal
 

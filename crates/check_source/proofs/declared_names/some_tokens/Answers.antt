@@ -1,7 +1,7 @@
 use Rattle.std.proofs.Common.{◌≡◌, ◌++◌, ◌∙◌, ap, arith, subst, sym}
 use Rattle.source_model.specs.Forest as tree
-use Rattle.source_syntax.specs.Walk.{IsForest, is_of}
-use Rattle.source_syntax.proofs.Collecting.{after_is, behind_is, is_branch}
+use Rattle.source_nodes.specs.Walk.{IsForest, is_of}
+use Rattle.source_nodes.proofs.Collecting.{after_is, behind_is, is_branch}
 use Rattle.source_syntax.proofs.NamingLemmas.{Names, names_end, names_go_in, names_start, names_take}
 use Rattle.check_source.proofs.CensusLemmas.{count_of}
 use Rattle.check_source.proofs.SomeNames.{all_found, fewer_after, fewer_behind, takes_one, tree_forest, tree_of}

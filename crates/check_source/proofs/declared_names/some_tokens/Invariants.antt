@@ -1,7 +1,7 @@
 use Rattle.std.proofs.Common.{◌≡◌, ◌≤◌, length}
 use Rattle.source_model.specs.Forest.{Forest, preorder}
 use Rattle.source_syntax.specs.Namings.{production_of}
-use Rattle.source_syntax.specs.Walk.{IsForest}
+use Rattle.source_nodes.specs.Walk.{IsForest}
 use Rattle.source_syntax.proofs.NamingLemmas.{Names}
 use Rattle.check_source.proofs.CensusLemmas.{count_of}
 use Rattle.check_source.proofs.declared_names.some_tokens.Given as goal

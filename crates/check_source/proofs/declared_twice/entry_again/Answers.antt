@@ -1,7 +1,7 @@
 use Rattle.std.proofs.Common.{◌∙◌, ap, arith, map, sym, refl}
 use Rattle.ilasm_grammar.specs.declared.productions.TheConstants.{ITEM_ENTRYPOINT}
 use Rattle.source_model.specs.Forest.{first_token}
-use Rattle.source_syntax.specs.Least.{least}
+use Rattle.source_nodes.specs.Least.{least}
 use Rattle.check_source.proofs.CensusLemmas.{none_behind}
 use Rattle.check_source.proofs.declared_twice.entry_again.Goals as goal
 

@@ -2,7 +2,7 @@ use Rattle.std.proofs.Common.{◌++◌, ◌∙◌, ap, arith, map, sym, drop, re
 use Rattle.ilasm_grammar.specs.declared.productions.TheConstants.{ASSEMBLY_ASSEMBLY_ATTR_STAR, DECL_MODULE}
 use Rattle.source_model.specs.Forest.{each, leaf_at}
 use Rattle.source_model.specs.Names.{assembly_token}
-use Rattle.source_syntax.specs.Least.{least}
+use Rattle.source_nodes.specs.Least.{least}
 use Rattle.check_source.proofs.CensusLemmas.{none_behind}
 use Rattle.check_source.proofs.declared_twice.manifest_again.Goals as goal
 

@@ -1,7 +1,7 @@
 use Rattle.std.proofs.Common.{◌∙◌, ap, sym}
 use Rattle.source_model.specs.Forest.{preorder}
 use Rattle.source_model.specs.Nodes.{nothing_around}
-use Rattle.source_syntax.specs.Least.{least}
+use Rattle.source_nodes.specs.Least.{least}
 use Rattle.check_members.proofs.AccessorWalks.{all_undeclared}
 use Rattle.check_members.proofs.OwnerLemmas.{no_owner}
 use Rattle.check_source.proofs.not_declared.accessor_absent.Goals as goal

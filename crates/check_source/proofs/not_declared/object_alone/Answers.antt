@@ -1,6 +1,6 @@
 use Rattle.std.proofs.Common.{◌∙◌, ap, sym}
 use Rattle.source_model.specs.Undeclared.{objects_undeclared, scopes_undeclared}
-use Rattle.source_syntax.specs.Least.{least, sooner}
+use Rattle.source_nodes.specs.Least.{least, sooner}
 use Rattle.source_syntax.proofs.LeastLemmas.{least_append}
 use Rattle.check_source.proofs.not_declared.object_alone.Goals as goal
 

@@ -1,7 +1,7 @@
 use Rattle.std.proofs.Common.{ap, sym, ◌∙◌}
 use Rattle.source_model.specs.BodyFaults.{body_numbers_out_of_range}
 use Rattle.source_model.specs.OutOfRange.{numbers_out_of_range}
-use Rattle.source_syntax.specs.Least.{least, sooner}
+use Rattle.source_nodes.specs.Least.{least, sooner}
 use Rattle.source_syntax.proofs.LeastLemmas.{least_append}
 use Rattle.check_source.proofs.out_of_bounds.any_number.Goals as goal
 

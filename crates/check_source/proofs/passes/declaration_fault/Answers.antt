@@ -1,6 +1,6 @@
 use Rattle.std.proofs.Common.{◌∷◌, ap, sym, subst, ◌∙◌}
-use Rattle.source_syntax.specs.Least.{sooner}
-use Rattle.source_syntax.specs.Walk.{IsForest}
+use Rattle.source_nodes.specs.Least.{sooner}
+use Rattle.source_nodes.specs.Walk.{IsForest}
 use Rattle.check_source.proofs.Sweeps.{Swept, begin, ended, first_fits, first_is_forest, into_outer, past_leaf, past_tree}
 use Rattle.check_source.proofs.passes.declaration_fault.Goals as goal
 

@@ -2,9 +2,9 @@ use Rattle.std.proofs.Common.{◌≡◌, ◌<◌, ◌^◌, ◌∷◌, length, ap
 use Rattle.std.specs.Prelude.{false, None}
 use Rattle.source_model.specs.Forest.{joined}
 use Rattle.source_model.specs.Nodes.{entered, typar_names}
-use Rattle.source_syntax.specs.Least.{least, sooner}
+use Rattle.source_nodes.specs.Least.{least, sooner}
 use Rattle.check_visitor.specs.Surroundings.{found_in, is_scope, HasParameters, IsSurrounding}
-use Rattle.source_syntax.specs.Walk.{IsForest}
+use Rattle.source_nodes.specs.Walk.{IsForest}
 use Rattle.check_visitor.proofs.AskingLemmas.{Bodied, bodied_after, bodied_behind, bodied_below, bodied_by, bodied_past_leaf, into_parts, next_shorter, node_of, left_shorter, nothing_more, past_scope, quiet_left, rest_shorter, same_around, below_shorter, few_typars, sought}
 use Rattle.source_syntax.proofs.Stepping.{Steps, below_fits, below_is_forest, first_step, step_at_end, step_into_branch, step_past_branch, step_past_leaf}
 use Rattle.check_visitor.proofs.asking.+first_among.Goals as goal

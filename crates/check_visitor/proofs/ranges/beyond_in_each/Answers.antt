@@ -1,7 +1,7 @@
 use Rattle.std.proofs.Common.{◌≡◌, ◌∷◌, ap, sym, ◌∙◌, refl, subst, arith}
 use Rattle.std.specs.Prelude.{true, false, ◌==◌, None}
 use Rattle.source_model.specs.TypeRules.{unless}
-use Rattle.source_syntax.specs.Least.{least, sooner}
+use Rattle.source_nodes.specs.Least.{least, sooner}
 use Rattle.check_visitor.proofs.AskingLemmas.{nothing_more}
 use Rattle.check_visitor.specs.NumberTests.{keeps_within}
 use Rattle.check_visitor.proofs.RangeLemmas.{out_after, out_in_each, out_into, out_past}

@@ -1,6 +1,6 @@
 use Rattle.std.proofs.Common.{ap, sym, ◌∙◌}
 use Rattle.ilasm_grammar.specs.declared.productions.TheConstants.{ASSEMBLY_ASSEMBLY_ATTR_STAR, DECL_MODULE}
-use Rattle.source_syntax.specs.Least.{least, sooner}
+use Rattle.source_nodes.specs.Least.{least, sooner}
 use Rattle.check_visitor.specs.Picks.{picked_past}
 use Rattle.check_visitor.specs.declared.repeats.Pick.TheVariants.{At}
 use Rattle.source_syntax.proofs.LeastLemmas.{least_append}

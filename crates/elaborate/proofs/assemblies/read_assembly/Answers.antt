@@ -1,7 +1,7 @@
 use Rattle.std.proofs.Common.{length, ap, sym, subst}
 use Rattle.source_flags.proofs.Gathered.{has_bodies}
 use Rattle.source_model.specs.Items.{declarations}
-use Rattle.source_syntax.specs.Pieces.{ArePieces}
+use Rattle.source_nodes.specs.Pieces.{ArePieces}
 use Rattle.elaborate.proofs.AssemblyLemmas.{at_outside}
 use Rattle.elaborate.proofs.ClassLemmas.{all_ranged}
 use Rattle.elaborate.proofs.assemblies.read_assembly.Goals as goal

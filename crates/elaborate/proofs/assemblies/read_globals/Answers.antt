@@ -3,8 +3,8 @@ use Rattle.std.specs.List.{AllByRecursion}
 use Rattle.source_model.specs.Items.{declarations}
 use Rattle.source_model.specs.Nodes.{nothing_around}
 use Rattle.source_flags.proofs.Gathered.{all_follow}
-use Rattle.source_syntax.specs.Pieces.{ArePieces}
-use Rattle.lower_members.specs.Ranged.{IsRanged}
+use Rattle.source_nodes.specs.Pieces.{ArePieces}
+use Rattle.param_lines.specs.Ranged.{IsRanged}
 use Rattle.elaborate.specs.WholeParts.{IsWholePart}
 use Rattle.elaborate.proofs.AssemblyLemmas.{declarations_whole}
 use Rattle.elaborate.proofs.ClassLemmas.{all_ranged}

@@ -6,7 +6,7 @@ use Rattle.source_model.specs.Forest.{child, none}
 use Rattle.source_model.specs.Types.{owners_in}
 use Rattle.source_flags.specs.InRange.{IsInRange}
 use Rattle.source_flags.proofs.Gathered.{readable}
-use Rattle.source_syntax.proofs.Collecting.{no_forest}
+use Rattle.source_nodes.proofs.Collecting.{no_forest}
 use Rattle.source_syntax.proofs.ReferenceLemmas.{of_child}
 use Rattle.source_syntax.proofs.TypeLemmas.{owners_none}
 use Rattle.lower_members.proofs.BareParams.{no_nodes}

@@ -3,7 +3,7 @@ use Rattle.il_lexer.specs.declared.types.TokenKind.TheVariants as kind
 use Rattle.ilasm_grammar.specs.declared.productions.TheConstants.{CLASS}
 use Rattle.source_model.specs.Classes.{is_root}
 use Rattle.source_model.specs.Nodes.{class_token, type_id}
-use Rattle.source_syntax.specs.Readers.{IsOf}
+use Rattle.source_nodes.specs.Readers.{IsOf}
 use Rattle.source_syntax.proofs.NameTokens.{name_at}
 use Rattle.elaborate.specs.ClassParts.{inner}
 use Rattle.elaborate.proofs.ClassLemmas.{class_is_named}

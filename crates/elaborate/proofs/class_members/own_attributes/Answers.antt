@@ -1,6 +1,6 @@
 use Rattle.std.proofs.Common.{false, ap, sym, subst, ◌∙◌}
 use Rattle.source_model.specs.Items.{members, own_customs}
-use Rattle.source_syntax.specs.Pieces.{ArePieces}
+use Rattle.source_nodes.specs.Pieces.{ArePieces}
 use Rattle.source_model.specs.Manifests.{attributes}
 use Rattle.lower_manifest.specs.Runs.{is_custom}
 use Rattle.lower_manifest.proofs.CustomParts.{outside_hold}

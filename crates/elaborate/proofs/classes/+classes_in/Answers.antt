@@ -5,8 +5,8 @@ use Rattle.source_model.specs.Classes.{class_from}
 use Rattle.source_model.specs.Forest.{parts_outside}
 use Rattle.source_model.specs.Items.{members}
 use Rattle.source_model.specs.Nodes.{class_token, type_id}
-use Rattle.source_syntax.specs.Pieces.{ArePieces}
-use Rattle.source_syntax.specs.Walk.{IsForest}
+use Rattle.source_nodes.specs.Pieces.{ArePieces}
+use Rattle.source_nodes.specs.Walk.{IsForest}
 use Rattle.source_flags.specs.Lines.{productions_of}
 use Rattle.source_flags.specs.declared.gathering.Kind.TheVariants.{Members}
 use Rattle.source_flags.proofs.Gathered.{has_bodies}

@@ -9,11 +9,11 @@ use Rattle.source_model.specs.Items.{declarations}
 use Rattle.source_model.specs.Names.{externs, key_token}
 use Rattle.source_model.specs.Values.{name_text}
 use Rattle.source_syntax.specs.Namings.{names_in}
-use Rattle.source_syntax.specs.Pieces.{ArePieces}
-use Rattle.source_syntax.specs.Readers.{IsOf}
+use Rattle.source_nodes.specs.Pieces.{ArePieces}
+use Rattle.source_nodes.specs.Readers.{IsOf}
 use Rattle.source_syntax.specs.declared.name_lists.Naming.TheVariants as naming
 use Rattle.source_syntax.proofs.NamingLemmas.{names_are_names}
-use Rattle.source_syntax.proofs.PieceLemmas.{all_taken, flat_next, part_read}
+use Rattle.source_nodes.proofs.PieceLemmas.{all_taken, flat_next, part_read}
 use Rattle.elaborate.proofs.AssemblyLemmas.{key_tokens_are, keys_are, keys_in, keys_in_all}
 use Rattle.elaborate.proofs.extern_keys.extern_keys.Goals as goal
 

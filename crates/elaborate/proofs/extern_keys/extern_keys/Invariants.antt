@@ -3,7 +3,7 @@ use Rattle.std.specs.List.{flat_map}
 use Rattle.ilasm_grammar.specs.declared.productions.TheConstants.{DECL_ASSEMBLY}
 use Rattle.source_model.specs.Items.{declarations}
 use Rattle.source_model.specs.Source.{Source}
-use Rattle.source_syntax.specs.Pieces.{ArePieces}
+use Rattle.source_nodes.specs.Pieces.{ArePieces}
 use Rattle.lower_manifest.specs.Chosen.{are_of}
 use Rattle.source_flags.specs.declared.gathering.Kind.TheVariants.{One}
 use Rattle.elaborate.proofs.AssemblyLemmas.{keys_in}

@@ -2,8 +2,8 @@ use Rattle.std.proofs.Common.{[], ◌∷◌, ◌++◌, ◌≤◌, length, map, a
 use Rattle.ilasm_grammar.specs.declared.productions.TheConstants.{ASSEMBLY_EXTERN}
 use Rattle.source_model.specs.Forest.{parts}
 use Rattle.source_model.specs.Names.{key_token}
-use Rattle.source_syntax.specs.Pieces.{ArePieces}
-use Rattle.source_syntax.proofs.PieceLemmas.{all_taken, part_read}
+use Rattle.source_nodes.specs.Pieces.{ArePieces}
+use Rattle.source_nodes.proofs.PieceLemmas.{all_taken, part_read}
 use Rattle.lower_manifest.proofs.ExternLemmas.{mapped_next}
 use Rattle.elaborate.proofs.extern_keys.push_keys.Goals as goal
 

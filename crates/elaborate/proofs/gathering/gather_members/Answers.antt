@@ -4,7 +4,7 @@ use Rattle.std.proofs.lemmas.Option.{slice_get_read}
 use Rattle.source_flags.specs.Lines.{productions_of}
 use Rattle.source_flags.specs.declared.gathering.Kind.TheVariants.{Members}
 use Rattle.source_flags.proofs.PastShut.{Gathered, begin, past_leaf, into_branch, past_branch, past_shut}
-use Rattle.source_syntax.specs.declared.pieces.Piece.{Piece}
+use Rattle.source_nodes.specs.declared.pieces.Piece.{Piece}
 use Rattle.elaborate.specs.HeadForms.{head_forms}
 use Rattle.elaborate.proofs.gathering.gather_members.Goals as goal
 use Rattle.elaborate.proofs.gathering.gather_members.Goals.{In-Some}

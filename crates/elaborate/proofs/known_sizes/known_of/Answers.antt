@@ -1,7 +1,7 @@
 use Rattle.std.proofs.Common.{◌≤◌, ◌++◌, [], ◌∷◌, length, map, take, ap, sym, ◌∙◌, arith}
 use Rattle.std.proofs.lemmas.List.{take_all}
 use Rattle.std.proofs.lemmas.Option.{slice_get-get_or}
-use Rattle.source_syntax.proofs.PieceLemmas.{map_next}
+use Rattle.source_nodes.proofs.PieceLemmas.{map_next}
 use Rattle.elaborate.specs.KnownSizes.{known_size}
 use Rattle.elaborate.proofs.known_sizes.known_of.Goals as goal
 

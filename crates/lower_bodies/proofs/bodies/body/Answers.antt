@@ -1,6 +1,6 @@
 use Rattle.std.proofs.Common.{◌≡◌, [], sym, subst, ◌∙◌, rules}
 use Rattle.source_model.specs.Instructions.{instructions_of}
-use Rattle.source_syntax.specs.Pieces.{ArePieces, AreParts}
+use Rattle.source_nodes.specs.Pieces.{ArePieces, AreParts}
 use Rattle.lower_bodies.proofs.BodyLemmas.{method_in_range, no_body, nothing_found, some_body, something_found}
 use Rattle.lower_bodies.proofs.bodies.body.Goals as goal
 

@@ -3,7 +3,7 @@ use Rattle.std.specs.Prelude.{true, false}
 use Rattle.ilasm_grammar.specs.declared.productions.TheConstants.{INSTRUCTION_OP_VAR, LOCAL}
 use Rattle.source_model.specs.Forest.{parts}
 use Rattle.source_model.specs.Instructions.{instructions_of}
-use Rattle.source_syntax.specs.Pieces.{ArePieces, AreParts}
+use Rattle.source_nodes.specs.Pieces.{ArePieces, AreParts}
 use Rattle.lower_bodies.proofs.InstructionLemmas.{some_take}
 use Rattle.lower_bodies.proofs.WholeCode.{whole_code}
 use Rattle.lower_bodies.proofs.bodies.body_named.Goals as goal

@@ -1,8 +1,8 @@
 use Rattle.std.proofs.Common.{◌<◌, ◌++◌, ◌∷◌, [], length, ap, sym, ◌∙◌, append_assoc, arith, rules}
 use Rattle.source_model.specs.Clauses.{clause}
 use Rattle.ilasm_grammar.specs.declared.productions.TheConstants.{ITEM_INSTRUCTION, ITEM_TRY}
-use Rattle.source_syntax.specs.Walk.{IsForest}
-use Rattle.source_syntax.proofs.Collecting.{after_is, behind_is, below_is, is_branch}
+use Rattle.source_nodes.specs.Walk.{IsForest}
+use Rattle.source_nodes.proofs.Collecting.{after_is, behind_is, below_is, is_branch}
 use Rattle.lower_bodies.proofs.ClauseLemmas.{clauses_in, guarded_by, pushed_clause, pushed_end, pushed_other, pushed_past, pushed_start, pushed_try}
 use Rattle.lower_bodies.proofs.clauses.+push_clauses.Goals as goal
 

@@ -3,7 +3,7 @@ use Rattle.source_model.specs.Forest.{Forest, preorder}
 use Rattle.source_model.specs.Nodes.{Around}
 use Rattle.source_model.specs.Source.{Source}
 use Rattle.source_flags.specs.InRange.{AllInRange}
-use Rattle.source_syntax.specs.Walk.{IsForest}
+use Rattle.source_nodes.specs.Walk.{IsForest}
 use Rattle.lower_bodies.specs.BodyPlaces.{IsWithin}
 use Rattle.lower_bodies.proofs.ClauseLemmas.{Pushed}
 use Rattle.lower_bodies.proofs.clauses.+push_clauses.Given as goal

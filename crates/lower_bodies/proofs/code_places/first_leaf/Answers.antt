@@ -1,6 +1,6 @@
 use Rattle.std.proofs.Common.{◌∷◌, ap, ◌∙◌, refl}
 use Rattle.source_model.specs.Forest.{first_token}
-use Rattle.source_syntax.proofs.Walks.{asks_all, asks_into_branch, asked_at_leaf, first_inside}
+use Rattle.source_nodes.proofs.Walks.{asks_all, asks_into_branch, asked_at_leaf, first_inside}
 use Rattle.lower_bodies.proofs.code_places.first_leaf.Goals as goal
 
 pub loop-node-init : goal.loop-node-init

@@ -1,7 +1,7 @@
 use Rattle.std.proofs.Common.{length}
 use Rattle.source_model.specs.Forest.{first_token}
-use Rattle.source_syntax.specs.Walk.{IsForest}
-use Rattle.source_syntax.proofs.Walks.{Asks}
+use Rattle.source_nodes.specs.Walk.{IsForest}
+use Rattle.source_nodes.proofs.Walks.{Asks}
 use Rattle.lower_bodies.proofs.code_places.first_leaf.Given as goal
 
 abbrev pub invariant-loop-node : goal.invariant-loop-node

@@ -2,7 +2,7 @@ use Rattle.std.proofs.Common.{◌≡◌, length}
 use Rattle.source_model.specs.Source.{Source}
 use Rattle.lower_bodies.specs.LabelSlots.{first_named}
 use Rattle.source_syntax.specs.Methods.{AreNames}
-use Rattle.source_syntax.specs.Readers.{Reads}
+use Rattle.source_nodes.specs.Readers.{Reads}
 use Rattle.lower_bodies.proofs.code_places.first_named.Given as goal
 
 -- what is left are names, and the first of all is the first of them

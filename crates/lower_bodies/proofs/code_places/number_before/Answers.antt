@@ -2,7 +2,7 @@ use Rattle.std.proofs.Common.{◌≡◌, ◌<◌, ◌≤◌, ◌+◌, ◌-◌, �
 use Rattle.std.proofs.lemmas.List.{length-map}
 use Rattle.source_model.specs.Instructions.{mnemonic_token}
 use Rattle.source_syntax.proofs.OrderLemmas.{split_at}
-use Rattle.source_syntax.proofs.PieceLemmas.{as_many, part_read}
+use Rattle.source_nodes.proofs.PieceLemmas.{as_many, part_read}
 use Rattle.lower_bodies.proofs.Halves.{AreNotLess, less_up_to, not_less_from, token_there}
 use Rattle.lower_bodies.proofs.code_places.number_before.Goals as goal
 

@@ -2,7 +2,7 @@ use Rattle.std.proofs.Common.{◌≤◌, ◌-◌, List, length, map}
 use Rattle.std.specs.List.Sorted.{IsNonDecreasing}
 use Rattle.source_model.specs.Forest.{Part}
 use Rattle.source_model.specs.Instructions.{mnemonic_token}
-use Rattle.source_syntax.specs.Pieces.{ArePieces}
+use Rattle.source_nodes.specs.Pieces.{ArePieces}
 use Rattle.lower_bodies.proofs.Halves.{AreLess, AreNotLess}
 use Rattle.lower_bodies.proofs.code_places.number_before.Given as goal
 

@@ -1,6 +1,6 @@
 use Rattle.std.proofs.Common.{[], ◌∷◌, map, ap, sym, subst, ◌∙◌}
 use Rattle.ilasm_grammar.specs.declared.productions.TheConstants.{LOCAL}
-use Rattle.source_syntax.specs.Pieces.{ArePieces, piece_of}
+use Rattle.source_nodes.specs.Pieces.{ArePieces, piece_of}
 use Rattle.source_flags.specs.declared.outside.Shut.TheVariants.{Instructions}
 use Rattle.source_flags.proofs.Apart.{same_outside}
 use Rattle.lower_bodies.proofs.HeldLemmas.{not_held}

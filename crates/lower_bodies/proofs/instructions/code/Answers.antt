@@ -1,7 +1,7 @@
 use Rattle.std.proofs.Common.{◌≤◌, length, map, ap, sym, ◌∙◌, arith}
 use Rattle.source_model.specs.Instructions.{instructions_of}
 use Rattle.source_model.specs.Operands.{instruction}
-use Rattle.source_syntax.proofs.PieceLemmas.{all_taken, map_next, part_read}
+use Rattle.source_nodes.proofs.PieceLemmas.{all_taken, map_next, part_read}
 use Rattle.source_flags.proofs.Gathered.{few_below}
 use Rattle.lower_bodies.proofs.InstructionLemmas.{code_is, one_in_range}
 use Rattle.lower_bodies.proofs.instructions.code.Goals as goal

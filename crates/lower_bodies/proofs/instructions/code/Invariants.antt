@@ -4,7 +4,7 @@ use Rattle.source_model.specs.Instructions.{instructions_of}
 use Rattle.source_model.specs.Nodes.{Around}
 use Rattle.source_model.specs.Operands.{instruction}
 use Rattle.source_model.specs.Source.{Source}
-use Rattle.source_syntax.specs.Pieces.{ArePieces}
+use Rattle.source_nodes.specs.Pieces.{ArePieces}
 use Rattle.lower_bodies.specs.BodyPlaces.{IsWithin}
 use Rattle.lower_bodies.specs.MethodsInRange.{IsMethodInRange}
 use Rattle.lower_bodies.proofs.instructions.code.Given as goal

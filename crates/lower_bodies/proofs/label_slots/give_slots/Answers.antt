@@ -2,7 +2,7 @@ use Rattle.std.proofs.Common.{◌≤◌, ◌∙◌, get_or, length, ap, arith, r
 use Rattle.std.proofs.lemmas.List.{take_all}
 use Rattle.std.proofs.lemmas.Option.{slice_get-get_or}
 use Rattle.il_lexer.specs.declared.types.TokenKind.TheVariants.{Name}
-use Rattle.source_syntax.specs.Readers.{IsOf}
+use Rattle.source_nodes.specs.Readers.{IsOf}
 use Rattle.source_syntax.proofs.MethodLemmas.{all_at}
 use Rattle.lower_bodies.specs.LabelSlots.{first_named}
 use Rattle.lower_bodies.proofs.SlotLemmas.{next_slotted, none_slotted}

@@ -1,7 +1,7 @@
 use Rattle.std.proofs.Common.{◌≡◌, ◌-◌, length}
 use Rattle.source_model.specs.Source.{Source}
 use Rattle.source_syntax.specs.Methods.{AreNames}
-use Rattle.source_syntax.specs.Readers.{Reads}
+use Rattle.source_nodes.specs.Readers.{Reads}
 use Rattle.lower_bodies.proofs.SlotLemmas.{Slotted}
 use Rattle.lower_bodies.proofs.label_slots.give_slots.Given as goal
 

@@ -2,7 +2,7 @@ use Rattle.std.proofs.Common.{◌≤◌, [], ◌∷◌, ◌++◌, length, map, a
 use Rattle.ilasm_grammar.specs.declared.productions.TheConstants.{LOCAL}
 use Rattle.source_model.specs.Forest.{parts}
 use Rattle.source_model.specs.Types.{the_type}
-use Rattle.source_syntax.proofs.PieceLemmas.{all_taken, map_next, mapped_below, part_read}
+use Rattle.source_nodes.proofs.PieceLemmas.{all_taken, map_next, mapped_below, part_read}
 use Rattle.source_flags.specs.InRange.{IsInRange}
 use Rattle.source_flags.proofs.Gathered.{IsSought, all_at, of_parts, readable}
 use Rattle.lower_bodies.proofs.locals.local_types.Goals as goal

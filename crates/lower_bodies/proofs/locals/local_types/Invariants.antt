@@ -4,7 +4,7 @@ use Rattle.source_model.specs.Forest.{Forest, parts}
 use Rattle.source_model.specs.Nodes.{Around}
 use Rattle.source_model.specs.Source.{Source}
 use Rattle.source_model.specs.Types.{the_type}
-use Rattle.source_syntax.specs.Pieces.{ArePieces}
+use Rattle.source_nodes.specs.Pieces.{ArePieces}
 use Rattle.source_syntax.specs.Places.{IsAt}
 use Rattle.source_flags.specs.InRange.{AllInRange}
 use Rattle.lower_bodies.proofs.locals.local_types.Given as goal

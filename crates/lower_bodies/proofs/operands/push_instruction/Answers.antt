@@ -12,7 +12,7 @@ use Rattle.source_model.specs.Nodes.{Around}
 use Rattle.source_model.specs.Operands.{instruction, number_in, operand_of}
 use Rattle.source_model.specs.Source.{Source}
 use Rattle.source_model.specs.Values.{int_at}
-use Rattle.source_syntax.specs.Derived.{FitsBody}
+use Rattle.source_nodes.specs.Derived.{FitsBody}
 use Rattle.source_flags.proofs.Gathered.{has_bodies}
 use Rattle.lower_bodies.specs.Operands.{instruction_with, other_operand}
 use Rattle.lower_bodies.proofs.FormLemmas.{is_form_at, is_form_else, kind_is, other_form}

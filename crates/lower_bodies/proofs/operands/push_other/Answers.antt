@@ -4,8 +4,8 @@ use Rattle.il_lexer.specs.declared.types.TokenKind.TheVariants.{Name}
 use Rattle.assembly_tree.specs.declared.body.Operand.TheVariants as operand
 use Rattle.ilasm_grammar.specs.declared.productions.TheConstants.{INSTRUCTION_LDSTR, INSTRUCTION_OP_BRANCH, INSTRUCTION_SWITCH}
 use Rattle.source_model.specs.Instructions.{label_number}
-use Rattle.source_syntax.specs.Derived.{FitsBody}
-use Rattle.source_syntax.specs.Readers.{IsOf}
+use Rattle.source_nodes.specs.Derived.{FitsBody}
+use Rattle.source_nodes.specs.Readers.{IsOf}
 use Rattle.source_syntax.proofs.LabelTokens.{targets_are_names}
 use Rattle.source_flags.proofs.Gathered.{has_bodies}
 use Rattle.lower_bodies.specs.Operands.{instruction_with}

@@ -2,7 +2,7 @@ use Rattle.std.proofs.Common.{◌≡◌, ◌++◌, ◌∷◌, [], sym, subst, �
 use Rattle.std.specs.Prelude.{IfOk}
 use Rattle.ilasm_grammar.specs.declared.productions.TheConstants.{INSTRUCTION_OP_FIELD, INSTRUCTION_OP_METHOD, INSTRUCTION_OP_TYPE}
 use Rattle.source_model.specs.Forest.{none}
-use Rattle.source_syntax.specs.Derived.{FitsBody}
+use Rattle.source_nodes.specs.Derived.{FitsBody}
 use Rattle.lower_bodies.specs.Operands.{instruction_with}
 use Rattle.lower_bodies.proofs.FormLemmas.{other_form, refers_at, refers_else}
 use Rattle.lower_bodies.proofs.References.{field_held, method_held}

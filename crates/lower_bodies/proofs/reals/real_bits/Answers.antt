@@ -5,7 +5,7 @@ use Rattle.ilasm_grammar.specs.declared.productions.TheConstants.{REAL_BITS_FLOA
 use Rattle.source_model.specs.Constants.{wrapped}
 use Rattle.source_model.specs.Forest.{has, leaf_at, the}
 use Rattle.source_model.specs.Values.{int_at, little_number, real_bytes}
-use Rattle.source_syntax.specs.Readers.{IsOf}
+use Rattle.source_nodes.specs.Readers.{IsOf}
 use Rattle.lower_bodies.proofs.NumberLemmas.{few_bytes}
 use Rattle.lower_bodies.proofs.RealParts.{has_real}
 use Rattle.lower_bodies.proofs.reals.real_bits.Goals as goal

@@ -5,7 +5,7 @@ use Rattle.ilasm_grammar.specs.declared.productions.TheConstants.{STRING_OPERAND
 use Rattle.source_model.specs.Constants.{units_in}
 use Rattle.source_model.specs.Forest.{has, leaf_at, the}
 use Rattle.source_model.specs.Values.{array_bytes, units_of_bytes}
-use Rattle.source_syntax.specs.Readers.{IsOf}
+use Rattle.source_nodes.specs.Readers.{IsOf}
 use Rattle.lower_bodies.proofs.References.{bytes_in_string, text_in_string}
 use Rattle.lower_bodies.proofs.strings.string_units.Goals as goal
 

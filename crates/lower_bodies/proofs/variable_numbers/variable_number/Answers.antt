@@ -8,7 +8,7 @@ use Rattle.source_model.specs.OutOfRange.{is_16_bits}
 use Rattle.source_model.specs.Shapes.{natural}
 use Rattle.source_model.specs.Values.{int_at, or_zero}
 use Rattle.source_model.specs.Variables.{variable_named, variable_number, variable_token}
-use Rattle.source_syntax.specs.Readers.{IsOf}
+use Rattle.source_nodes.specs.Readers.{IsOf}
 use Rattle.lower_bodies.proofs.NumberLemmas.{short_variable, small_variable}
 use Rattle.lower_bodies.proofs.VariableParts.{has_variable}
 use Rattle.lower_bodies.proofs.variable_numbers.variable_number.Goals as goal

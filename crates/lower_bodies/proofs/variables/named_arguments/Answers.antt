@@ -4,7 +4,7 @@ use Rattle.ilasm_grammar.specs.declared.productions.TheConstants.{DEF_ARG, DEF_A
 use Rattle.source_model.specs.Forest.{child, parts}
 use Rattle.source_model.specs.Parameters.{parameters}
 use Rattle.source_model.specs.Variables.{first_argument}
-use Rattle.source_syntax.specs.Pieces.{ArePieces}
+use Rattle.source_nodes.specs.Pieces.{ArePieces}
 use Rattle.source_syntax.proofs.NameTokens.{child_bodies}
 use Rattle.lower_bodies.specs.NamedVariables.{AreNumbered}
 use Rattle.lower_bodies.proofs.Nameless.{nameless_numbers, nameless_parameters, nameless_texts}

@@ -1,6 +1,6 @@
 use Rattle.std.proofs.Common.{◌≤◌, [], ◌∷◌, ◌++◌, length, map, ap, sym, ◌∙◌, arith}
 use Rattle.source_model.specs.Manifests.{attribute}
-use Rattle.source_syntax.proofs.PieceLemmas.{all_taken, map_next, part_read}
+use Rattle.source_nodes.proofs.PieceLemmas.{all_taken, map_next, part_read}
 use Rattle.lower_manifest.specs.Customs.{IsCustom}
 use Rattle.source_flags.proofs.Gathered.{all_at, few_below}
 use Rattle.lower_manifest.proofs.attributes.attributes.Goals as goal

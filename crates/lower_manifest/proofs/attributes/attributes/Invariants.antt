@@ -4,7 +4,7 @@ use Rattle.source_model.specs.Forest.{Part}
 use Rattle.source_model.specs.Manifests.{attribute}
 use Rattle.source_model.specs.Nodes.{Around}
 use Rattle.source_model.specs.Source.{Source}
-use Rattle.source_syntax.specs.Pieces.{ArePieces}
+use Rattle.source_nodes.specs.Pieces.{ArePieces}
 use Rattle.source_syntax.specs.Places.{IsAt}
 use Rattle.lower_manifest.specs.Customs.{IsCustom}
 use Rattle.lower_manifest.proofs.attributes.attributes.Given as goal

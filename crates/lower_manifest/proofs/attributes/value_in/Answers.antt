@@ -4,7 +4,7 @@ use Rattle.ilasm_grammar.specs.declared.productions.TheConstants.{EQ_BYTES_OPT_S
 use Rattle.il_lexer.specs.declared.types.TokenKind.TheVariants as kind
 use Rattle.source_model.specs.Forest.{leaf_at, the}
 use Rattle.source_model.specs.Values.{equals_bytes}
-use Rattle.source_syntax.specs.Readers.{IsOf}
+use Rattle.source_nodes.specs.Readers.{IsOf}
 use Rattle.lower_manifest.proofs.CustomLemmas.{value_is_bytes}
 use Rattle.lower_manifest.proofs.attributes.value_in.Goals as goal
 

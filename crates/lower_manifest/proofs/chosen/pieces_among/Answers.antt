@@ -1,7 +1,7 @@
 use Rattle.std.proofs.Common.{◌≤◌, length, subst, sym, arith}
 use Rattle.lower_manifest.specs.Chosen.{are_of}
 use Rattle.lower_manifest.proofs.Among.{all_chosen, chosen_are}
-use Rattle.source_syntax.specs.Pieces.{ArePieces}
+use Rattle.source_nodes.specs.Pieces.{ArePieces}
 use Rattle.lower_manifest.proofs.chosen.pieces_among.Goals as goal
 
 pub returns : goal.returns

@@ -3,8 +3,8 @@ use Rattle.std.specs.List.{AllByRecursion, flat_map}
 use Rattle.ilasm_grammar.specs.declared.productions.TheConstants.{DECL_ASSEMBLY}
 use Rattle.source_model.specs.Forest.{Part}
 use Rattle.source_model.specs.Items.{declarations}
-use Rattle.source_syntax.specs.Pieces.{ArePieces}
-use Rattle.source_syntax.proofs.PieceLemmas.{all_taken, flat_next, part_read}
+use Rattle.source_nodes.specs.Pieces.{ArePieces}
+use Rattle.source_nodes.proofs.PieceLemmas.{all_taken, flat_next, part_read}
 use Rattle.source_flags.specs.InRange.{AllInRange}
 use Rattle.lower_manifest.specs.Chosen.{are_of}
 use Rattle.source_flags.specs.declared.gathering.Kind.TheVariants.{One}

@@ -2,7 +2,7 @@ use Rattle.std.proofs.Common.{ap, sym, subst, ◌∙◌}
 use Rattle.il_lexer.specs.declared.types.TokenKind.TheVariants as kind
 use Rattle.ilasm_grammar.specs.declared.productions.TheConstants.{ASSEMBLY_EXTERN}
 use Rattle.source_model.specs.Values.{name_text}
-use Rattle.source_syntax.specs.Readers.{IsOf}
+use Rattle.source_nodes.specs.Readers.{IsOf}
 use Rattle.source_syntax.proofs.NameTokens.{name_at}
 use Rattle.lower_manifest.proofs.ExternLemmas.{extern_is_name, same_extern}
 use Rattle.lower_manifest.proofs.externs.extern_assembly.Goals as goal

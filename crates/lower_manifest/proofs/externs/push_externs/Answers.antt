@@ -1,8 +1,8 @@
 use Rattle.std.proofs.Common.{◌≤◌, [], ◌∷◌, ◌++◌, length, map, ap, sym, subst, ◌∙◌, arith}
 use Rattle.ilasm_grammar.specs.declared.productions.TheConstants.{ASSEMBLY_EXTERN}
 use Rattle.source_model.specs.Forest.{parts}
-use Rattle.source_syntax.specs.Pieces.{ArePieces}
-use Rattle.source_syntax.proofs.PieceLemmas.{all_taken, part_read}
+use Rattle.source_nodes.specs.Pieces.{ArePieces}
+use Rattle.source_nodes.proofs.PieceLemmas.{all_taken, part_read}
 use Rattle.source_flags.specs.InRange.{IsInRange}
 use Rattle.source_flags.proofs.Gathered.{IsSought, all_at, of_parts}
 use Rattle.lower_manifest.specs.Externs.{extern_at}

@@ -2,7 +2,7 @@ use Rattle.std.proofs.Common.{◌≡◌, [], ◌∷◌, ◌++◌, map, take}
 use Rattle.ilasm_grammar.specs.declared.productions.TheConstants.{ASSEMBLY_EXTERN}
 use Rattle.source_model.specs.Forest.{Forest, parts, preorder}
 use Rattle.source_model.specs.Source.{Source}
-use Rattle.source_syntax.specs.Readers.{Reads}
+use Rattle.source_nodes.specs.Readers.{Reads}
 use Rattle.source_flags.specs.InRange.{AllInRange}
 use Rattle.lower_manifest.specs.Externs.{extern_at}
 use Rattle.lower_manifest.proofs.externs.push_externs.Given as goal

@@ -4,8 +4,8 @@ use Rattle.il_lexer.specs.declared.types.TokenKind.TheVariants as kind
 use Rattle.ilasm_grammar.specs.declared.productions.TheConstants.{EXTERN_ITEM_HASH}
 use Rattle.source_model.specs.Forest.{leaf_at, parts}
 use Rattle.source_model.specs.Values.{equals_bytes}
-use Rattle.source_syntax.specs.Derived.{FitsBody}
-use Rattle.source_syntax.specs.Readers.{IsOf}
+use Rattle.source_nodes.specs.Derived.{FitsBody}
+use Rattle.source_nodes.specs.Readers.{IsOf}
 use Rattle.source_flags.specs.InRange.{IsInRange}
 use Rattle.source_flags.proofs.Gathered.{said, said_last}
 use Rattle.lower_manifest.proofs.KeyLemmas.{hash_bytes, only}

@@ -5,7 +5,7 @@ use Rattle.ilasm_grammar.specs.declared.productions.TheConstants.{KEY_PUBLICKEY,
 use Rattle.source_model.specs.Forest.{leaf_at}
 use Rattle.source_model.specs.Manifests.{keys}
 use Rattle.source_model.specs.Values.{equals_bytes}
-use Rattle.source_syntax.specs.Readers.{IsOf}
+use Rattle.source_nodes.specs.Readers.{IsOf}
 use Rattle.source_flags.specs.InRange.{IsInRange}
 use Rattle.source_flags.proofs.Gathered.{said, said_last}
 use Rattle.lower_manifest.proofs.KeyLemmas.{key_is_bytes}

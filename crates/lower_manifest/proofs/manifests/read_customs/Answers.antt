@@ -6,7 +6,7 @@ use Rattle.source_model.specs.Forest.{parts, the}
 use Rattle.source_model.specs.Items.{declarations, own_customs}
 use Rattle.source_model.specs.Manifests.{this_assembly}
 use Rattle.source_model.specs.Nodes.{nothing_around}
-use Rattle.source_syntax.specs.Pieces.{ArePieces}
+use Rattle.source_nodes.specs.Pieces.{ArePieces}
 use Rattle.source_syntax.proofs.SizeLemmas.{the_smaller}
 use Rattle.lower_manifest.specs.Customs.{IsCustom}
 use Rattle.source_flags.specs.InRange.{IsInRange}

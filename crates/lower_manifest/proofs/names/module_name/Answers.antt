@@ -6,15 +6,15 @@ use Rattle.source_model.specs.Forest.{leaf_at, parts}
 use Rattle.source_model.specs.Items.{declarations}
 use Rattle.source_model.specs.Manifests.{assembly_name, last_said}
 use Rattle.source_model.specs.Values.{name_text}
-use Rattle.source_syntax.specs.Derived.{FitsBody}
-use Rattle.source_syntax.specs.Readers.{IsOf}
+use Rattle.source_nodes.specs.Derived.{FitsBody}
+use Rattle.source_nodes.specs.Readers.{IsOf}
 use Rattle.source_syntax.proofs.NameTokens.{name_at}
 use Rattle.source_flags.specs.Lines.{IsLast}
 use Rattle.lower_manifest.specs.Chosen.{are_of}
 use Rattle.source_flags.specs.declared.gathering.Kind.TheVariants.{One}
 use Rattle.lower_manifest.proofs.Among.{declared_ones}
 use Rattle.source_flags.proofs.Gathered.{nothing_said, said, said_last}
-use Rattle.source_syntax.specs.Pieces.{ArePieces}
+use Rattle.source_nodes.specs.Pieces.{ArePieces}
 use Rattle.lower_manifest.proofs.KeyLemmas.{module_is_name, only}
 use Rattle.lower_manifest.proofs.PastLemmas.{module_declaration}
 use Rattle.lower_manifest.proofs.names.module_name.Goals as goal

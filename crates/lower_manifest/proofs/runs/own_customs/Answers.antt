@@ -1,7 +1,7 @@
 use Rattle.std.proofs.Common.{◌≤◌, length, subst, sym, arith}
 use Rattle.std.specs.Prelude.{false}
 use Rattle.source_model.specs.Items.{own_customs}
-use Rattle.source_syntax.specs.Pieces.{ArePieces}
+use Rattle.source_nodes.specs.Pieces.{ArePieces}
 use Rattle.lower_manifest.proofs.RunLemmas.{all_taken, outside_is}
 use Rattle.lower_manifest.proofs.runs.own_customs.Goals as goal
 

@@ -10,7 +10,7 @@ use Rattle.lower_manifest.specs.Chosen.{are_of}
 use Rattle.source_flags.specs.declared.gathering.Kind.TheVariants.{One}
 use Rattle.lower_manifest.proofs.Among.{declared_ones, is_declaration}
 use Rattle.source_flags.proofs.Gathered.{has_bodies, nothing_said, said, said_last}
-use Rattle.source_syntax.specs.Pieces.{ArePieces}
+use Rattle.source_nodes.specs.Pieces.{ArePieces}
 use Rattle.lower_manifest.specs.Settings.{default_of, place_of, production_of}
 use Rattle.lower_manifest.proofs.KeyLemmas.{only}
 use Rattle.lower_manifest.proofs.SettingLemmas.{setting_declaration, setting_fits}

@@ -2,7 +2,7 @@ use Rattle.std.proofs.Common.{◌≡◌, ◌++◌, ap, sym, subst, ◌∙◌}
 use Rattle.std.specs.Prelude.{IfOk, IsUtf8}
 use Rattle.il_lexer.specs.declared.types.TokenKind.TheVariants.{QString}
 use Rattle.source_model.specs.Constants.{text_in}
-use Rattle.source_syntax.specs.Readers.{IsOf}
+use Rattle.source_nodes.specs.Readers.{IsOf}
 use Rattle.lower_manifest.specs.Texts.{later_bytes, piece_bytes}
 use Rattle.lower_manifest.proofs.TextLemmas.{text_begins, whole_utf8}
 use Rattle.lower_manifest.proofs.texts.text_in.Goals as goal

@@ -1,6 +1,6 @@
 use Rattle.std.proofs.Common.{◌∙◌, sym}
 use Rattle.ilasm_grammar.specs.declared.productions.TheConstants.{PLUS_STRING}
-use Rattle.source_syntax.proofs.Collecting.{after_is, behind_is, below_is, is_branch}
+use Rattle.source_nodes.proofs.Collecting.{after_is, behind_is, below_is, is_branch}
 use Rattle.lower_manifest.proofs.TextLemmas.{joined_end, joined_go_in, joined_start, joined_take}
 use Rattle.lower_manifest.proofs.texts.with_pieces.Goals as goal
 

@@ -5,7 +5,7 @@ use Rattle.ilasm_grammar.specs.declared.productions.TheConstants.{CONST_BYTES, T
 use Rattle.source_flags.proofs.Gathered.{has_bodies}
 use Rattle.source_model.specs.Forest.{the}
 use Rattle.source_model.specs.Values.{array_bytes, units_of_bytes}
-use Rattle.source_syntax.specs.Readers.{IsOf}
+use Rattle.source_nodes.specs.Readers.{IsOf}
 use Rattle.lower_manifest.proofs.ConstantLemmas.{bytes_in_constant, text_in_constant}
 use Rattle.lower_members.proofs.ConstantChoices.{is_bytes, is_text}
 use Rattle.lower_members.proofs.constants.other_constant.Goals as goal

@@ -6,7 +6,7 @@ use Rattle.source_flags.specs.InRange.{IsInRange}
 use Rattle.source_model.specs.Data.{at_token, bytes_at, data_named, data_size, first_bytes}
 use Rattle.source_model.specs.Forest.{has, the}
 use Rattle.source_model.specs.Values.{name_text}
-use Rattle.source_syntax.specs.Readers.{IsOf}
+use Rattle.source_nodes.specs.Readers.{IsOf}
 use Rattle.source_syntax.proofs.NameTokens.{at_is_name}
 use Rattle.source_syntax.proofs.ReferenceLemmas.{sound_part}
 use Rattle.lower_members.proofs.contents.content.Goals as goal

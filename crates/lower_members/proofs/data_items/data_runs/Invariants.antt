@@ -4,7 +4,7 @@ use Rattle.source_flags.specs.InRange.{AllInRange}
 use Rattle.source_model.specs.Data.{data_items, item_bytes}
 use Rattle.source_model.specs.Forest.{Forest, preorder}
 use Rattle.source_model.specs.Source.{Source}
-use Rattle.source_syntax.specs.Readers.{Reads}
+use Rattle.source_nodes.specs.Readers.{Reads}
 use Rattle.lower_members.specs.Runs.{bytes_of_runs}
 use Rattle.lower_members.proofs.data_items.data_runs.Given as goal
 

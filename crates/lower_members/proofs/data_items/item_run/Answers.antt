@@ -5,7 +5,7 @@ use Rattle.il_lexer.specs.declared.types.TokenKind.TheVariants.{ByteArray}
 use Rattle.ilasm_grammar.specs.declared.productions.TheConstants.{DATA_ITEM_BYTES}
 use Rattle.source_model.specs.Data.{item_count, repeated}
 use Rattle.source_model.specs.Values.{array_bytes}
-use Rattle.source_syntax.specs.Readers.{IsOf}
+use Rattle.source_nodes.specs.Readers.{IsOf}
 use Rattle.lower_members.proofs.DataItemLemmas.{bytes_of_array, bytes_of_number, item_array, item_number}
 use Rattle.lower_members.proofs.data_items.item_run.Goals as goal
 

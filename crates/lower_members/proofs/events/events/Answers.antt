@@ -3,9 +3,9 @@ use Rattle.std.specs.Prelude.{◌==◌}
 use Rattle.ilasm_grammar.specs.declared.productions.TheConstants.{EVENT, MEMBER_EVENT}
 use Rattle.source_model.specs.Forest.{the}
 use Rattle.source_model.specs.Members.{event, events_in}
-use Rattle.source_syntax.proofs.PieceLemmas.{all_taken, part_read}
+use Rattle.source_nodes.proofs.PieceLemmas.{all_taken, part_read}
 use Rattle.source_flags.proofs.Gathered.{all_at, few_below}
-use Rattle.lower_members.specs.Ranged.{IsRanged}
+use Rattle.param_lines.specs.Ranged.{IsRanged}
 use Rattle.lower_members.proofs.PropertyLemmas.{picked_next}
 use Rattle.lower_members.proofs.events.events.Goals as goal
 

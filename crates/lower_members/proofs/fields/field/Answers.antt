@@ -4,7 +4,7 @@ use Rattle.ilasm_grammar.specs.declared.productions.TheConstants.{FIELD}
 use Rattle.ilasm_grammar.specs.declared.tree.TreeNode.{TreeNode}
 use Rattle.source_model.specs.Forest.{preorder, the}
 use Rattle.source_model.specs.Items.{is_custom}
-use Rattle.source_syntax.specs.Pieces.{ArePieces}
+use Rattle.source_nodes.specs.Pieces.{ArePieces}
 use Rattle.lower_members.proofs.FieldLemmas.{field_in, run_customs, run_pieces}
 use Rattle.lower_members.proofs.fields.field.Goals as goal
 

@@ -2,7 +2,7 @@ use Rattle.std.proofs.Common.{sym, subst, ◌∙◌, ap}
 use Rattle.il_lexer.specs.declared.types.TokenKind.TheVariants.{Name}
 use Rattle.ilasm_grammar.specs.declared.productions.TheConstants.{FIELD}
 use Rattle.source_model.specs.Values.{name_text}
-use Rattle.source_syntax.specs.Readers.{IsOf}
+use Rattle.source_nodes.specs.Readers.{IsOf}
 use Rattle.source_syntax.proofs.NameTokens.{name_at}
 use Rattle.lower_manifest.proofs.SoundParts.{sound_type}
 use Rattle.lower_members.proofs.FieldLemmas.{field_is_name, same_field}

@@ -1,6 +1,6 @@
 use Rattle.std.proofs.Common.{◌++◌, ap, subst, ◌∙◌}
 use Rattle.source_model.specs.Members.{fields}
-use Rattle.source_syntax.specs.Pieces.{AreParts}
+use Rattle.source_nodes.specs.Pieces.{AreParts}
 use Rattle.lower_members.proofs.FieldLemmas.{Left, begins, nothing_left, parts_begin}
 use Rattle.lower_members.proofs.fields.fields.Goals as goal
 

@@ -4,9 +4,9 @@ use Rattle.source_model.specs.Forest.{Part}
 use Rattle.source_model.specs.Members.{fields}
 use Rattle.source_model.specs.Nodes.{Around}
 use Rattle.source_model.specs.Source.{Source}
-use Rattle.source_syntax.specs.Pieces.{ArePieces, AreParts}
+use Rattle.source_nodes.specs.Pieces.{ArePieces, AreParts}
 use Rattle.lower_members.specs.FieldContexts.{IsContext}
-use Rattle.lower_members.specs.Ranged.{IsRanged}
+use Rattle.param_lines.specs.Ranged.{IsRanged}
 use Rattle.lower_members.proofs.FieldLemmas.{Left}
 use Rattle.lower_members.proofs.fields.fields.Given as goal
 

@@ -5,7 +5,7 @@ use Rattle.source_flags.specs.InRange.{IsInRange}
 use Rattle.source_flags.proofs.Gathered.{has_bodies, readable}
 use Rattle.source_model.specs.Forest.{the}
 use Rattle.source_model.specs.Values.{name_text}
-use Rattle.source_syntax.specs.Readers.{IsOf}
+use Rattle.source_nodes.specs.Readers.{IsOf}
 use Rattle.source_syntax.proofs.NameTokens.{typar_is_name}
 use Rattle.source_syntax.proofs.ReferenceLemmas.{of_the}
 use Rattle.lower_members.proofs.GenericLemmas.{same_generic}

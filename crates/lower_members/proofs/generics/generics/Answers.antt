@@ -10,8 +10,8 @@ use Rattle.source_model.specs.Forest.{child}
 use Rattle.source_model.specs.Items.{runs}
 use Rattle.source_model.specs.Nodes.{typar_names, typars}
 use Rattle.source_model.specs.Parameters as params
-use Rattle.source_syntax.specs.Pieces.{ArePieces}
-use Rattle.source_syntax.proofs.PieceLemmas.{as_many, map_next, part_read}
+use Rattle.source_nodes.specs.Pieces.{ArePieces}
+use Rattle.source_nodes.proofs.PieceLemmas.{as_many, map_next, part_read}
 use Rattle.source_syntax.proofs.ReferenceLemmas.{of_child}
 use Rattle.lower_manifest.proofs.KeyLemmas.{only}
 use Rattle.lower_members.specs.Generics.{generic_with}

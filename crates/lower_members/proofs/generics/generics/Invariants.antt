@@ -4,7 +4,7 @@ use Rattle.source_flags.specs.InRange.{AllInRange}
 use Rattle.source_model.specs.Forest.{Forest, Part, preorder}
 use Rattle.source_model.specs.Nodes.{Around, typar_names}
 use Rattle.source_model.specs.Source.{Source}
-use Rattle.source_syntax.specs.Pieces.{ArePieces}
+use Rattle.source_nodes.specs.Pieces.{ArePieces}
 use Rattle.source_syntax.specs.Places.{IsAt}
 use Rattle.lower_members.specs.Ranged.{IsRangedItem}
 use Rattle.lower_members.proofs.GenericLemmas.{Read}

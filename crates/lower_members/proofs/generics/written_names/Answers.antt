@@ -2,7 +2,7 @@ use Rattle.std.proofs.Common.{◌≡◌, [], ◌∷◌, map, ap, sym, ◌∙◌}
 use Rattle.ilasm_grammar.specs.declared.productions.TheConstants.{TYPAR, TYPARS_OPT_SOME}
 use Rattle.source_model.specs.Forest.{child, each, leaf_at, none}
 use Rattle.source_model.specs.Values.{name_text}
-use Rattle.source_syntax.proofs.Collecting.{no_forest}
+use Rattle.source_nodes.proofs.Collecting.{no_forest}
 use Rattle.lower_members.proofs.BareParams.{no_nodes}
 use Rattle.lower_members.proofs.generics.written_names.Goals as goal
 

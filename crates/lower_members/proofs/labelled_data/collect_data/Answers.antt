@@ -7,7 +7,7 @@ use Rattle.source_flags.specs.declared.outside.Shut.TheVariants.{Methods}
 use Rattle.source_flags.proofs.Apart.{same_outside}
 use Rattle.source_flags.proofs.Gathered.{IsSought, all_follow, has_bodies, of_parts}
 use Rattle.source_model.specs.Forest.{parts, parts_outside}
-use Rattle.source_syntax.specs.Pieces.{ArePieces}
+use Rattle.source_nodes.specs.Pieces.{ArePieces}
 use Rattle.lower_members.proofs.LabelledLemmas.{data_past, none_found}
 use Rattle.lower_members.proofs.labelled_data.collect_data.Goals as goal
 

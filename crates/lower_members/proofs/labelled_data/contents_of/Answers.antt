@@ -2,7 +2,7 @@ use Rattle.std.proofs.Common.{◌≤◌, [], length, ap, sym, ◌∙◌, arith}
 use Rattle.std.specs.List.{flat_map}
 use Rattle.source_flags.specs.InRange.{AllInRange}
 use Rattle.source_flags.proofs.Gathered.{all_at}
-use Rattle.source_syntax.proofs.PieceLemmas.{all_taken, flat_next, part_read}
+use Rattle.source_nodes.proofs.PieceLemmas.{all_taken, flat_next, part_read}
 use Rattle.lower_members.specs.Runs.{bytes_of_each}
 use Rattle.lower_members.proofs.LabelledLemmas.{chosen_bytes, labelled_bytes}
 use Rattle.lower_members.proofs.labelled_data.contents_of.Goals as goal

@@ -3,8 +3,8 @@ use Rattle.std.specs.List.{AllByRecursion, flat_map}
 use Rattle.source_flags.specs.InRange.{AllInRange}
 use Rattle.source_model.specs.Forest.{Part}
 use Rattle.source_model.specs.Source.{Source}
-use Rattle.source_syntax.specs.Pieces.{ArePieces}
-use Rattle.source_syntax.specs.Readers.{Reads}
+use Rattle.source_nodes.specs.Pieces.{ArePieces}
+use Rattle.source_nodes.specs.Readers.{Reads}
 use Rattle.lower_members.specs.Runs.{bytes_of_each}
 use Rattle.lower_members.proofs.LabelledLemmas.{labelled_bytes}
 use Rattle.lower_members.proofs.labelled_data.contents_of.Given as goal

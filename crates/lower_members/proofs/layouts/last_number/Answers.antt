@@ -1,9 +1,9 @@
 use Rattle.std.proofs.Common.{◌≤◌, None, length, ap, sym, ◌∙◌, arith}
 use Rattle.std.specs.Prelude.{fold}
-use Rattle.source_syntax.proofs.PieceLemmas.{all_taken, part_read}
+use Rattle.source_nodes.proofs.PieceLemmas.{all_taken, part_read}
 use Rattle.source_flags.proofs.Gathered.{all_at}
 use Rattle.lower_members.specs.Layouts.{number_or}
-use Rattle.lower_members.specs.Ranged.{IsRanged}
+use Rattle.param_lines.specs.Ranged.{IsRanged}
 use Rattle.lower_members.proofs.LayoutLemmas.{fold_next}
 use Rattle.lower_members.proofs.layouts.last_number.Goals as goal
 

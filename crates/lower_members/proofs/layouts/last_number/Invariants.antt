@@ -4,10 +4,10 @@ use Rattle.std.specs.List.{AllByRecursion}
 use Rattle.ilasm_grammar.specs.declared.productions.TheConstants.{MEMBER_PACK, MEMBER_SIZE}
 use Rattle.source_model.specs.Forest.{Part}
 use Rattle.source_model.specs.Source.{Source}
-use Rattle.source_syntax.specs.Pieces.{ArePieces}
-use Rattle.source_syntax.specs.Readers.{Reads}
+use Rattle.source_nodes.specs.Pieces.{ArePieces}
+use Rattle.source_nodes.specs.Readers.{Reads}
 use Rattle.lower_members.specs.Layouts.{number_or}
-use Rattle.lower_members.specs.Ranged.{IsRanged}
+use Rattle.param_lines.specs.Ranged.{IsRanged}
 use Rattle.lower_members.proofs.layouts.last_number.Given as goal
 
 abbrev pub invariant-loop-member : goal.invariant-loop-member

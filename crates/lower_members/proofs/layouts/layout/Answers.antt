@@ -8,7 +8,7 @@ use Rattle.source_flags.specs.declared.gathering.Kind.TheVariants.{Members}
 use Rattle.source_flags.proofs.Gathered.{IsSought, all_follow, of_parts}
 use Rattle.source_model.specs.Items.{members}
 use Rattle.lower_members.specs.Layouts.{last_member, layout_of}
-use Rattle.lower_members.specs.Ranged.{IsRanged}
+use Rattle.param_lines.specs.Ranged.{IsRanged}
 use Rattle.lower_members.proofs.LayoutLemmas.{layout_said, pack_fits}
 use Rattle.lower_members.proofs.layouts.layout.Goals as goal
 

@@ -6,7 +6,7 @@ use Rattle.source_model.specs.Forest.{preorder}
 use Rattle.source_model.specs.Items.{is_custom}
 use Rattle.source_model.specs.Manifests.{attributes}
 use Rattle.source_model.specs.Parameters.{is_typar_line, typar_number}
-use Rattle.source_syntax.specs.Pieces.{ArePieces}
+use Rattle.source_nodes.specs.Pieces.{ArePieces}
 use Rattle.lower_members.specs.ParamLines.{appended}
 use Rattle.lower_members.proofs.FieldLemmas.{run_pieces}
 use Rattle.lower_members.proofs.GivenLemmas.{capped_same}

@@ -1,5 +1,5 @@
 use Rattle.std.proofs.Common.{◌<◌, ◌^◌, length, ap, sym, subst, ◌∙◌}
-use Rattle.source_syntax.specs.Pieces.{AreParts}
+use Rattle.source_nodes.specs.Pieces.{AreParts}
 use Rattle.lower_members.specs.GivenAttributes.{none_given}
 use Rattle.lower_members.proofs.FieldLemmas.{parts_begin}
 use Rattle.lower_members.proofs.GivenLemmas.{LinesLeft, begins, lines_end, lines_start}

@@ -3,7 +3,7 @@ use Rattle.std.specs.List.{AllByRecursion}
 use Rattle.source_model.specs.Forest.{Part}
 use Rattle.source_model.specs.Nodes.{Around}
 use Rattle.source_model.specs.Source.{Source}
-use Rattle.source_syntax.specs.Pieces.{ArePieces, AreParts}
+use Rattle.source_nodes.specs.Pieces.{ArePieces, AreParts}
 use Rattle.source_syntax.specs.Places.{IsAt}
 use Rattle.lower_members.specs.Ranged.{IsRangedItem}
 use Rattle.lower_members.proofs.GivenLemmas.{LinesLeft}

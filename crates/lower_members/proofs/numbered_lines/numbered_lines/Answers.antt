@@ -1,5 +1,5 @@
 use Rattle.std.proofs.Common.{◌+◌, sym, subst, refl, arith}
-use Rattle.source_syntax.specs.Pieces.{AreParts}
+use Rattle.source_nodes.specs.Pieces.{AreParts}
 use Rattle.lower_members.specs.NumberedLines.{AllLines}
 use Rattle.lower_members.proofs.FieldLemmas.{parts_begin}
 use Rattle.lower_members.proofs.NumberedLemmas.{NumbersLeft, none_lines, numbers_begin, numbers_end, numbers_start}

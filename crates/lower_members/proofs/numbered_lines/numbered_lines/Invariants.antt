@@ -2,8 +2,8 @@ use Rattle.std.proofs.Common.{◌<◌, ◌+◌, List, length}
 use Rattle.std.specs.List.{AllByRecursion}
 use Rattle.source_model.specs.Forest.{Part}
 use Rattle.source_model.specs.Source.{Source}
-use Rattle.source_syntax.specs.Pieces.{ArePieces, AreParts}
-use Rattle.source_syntax.specs.Readers.{Reads}
+use Rattle.source_nodes.specs.Pieces.{ArePieces, AreParts}
+use Rattle.source_nodes.specs.Readers.{Reads}
 use Rattle.lower_members.specs.NumberedLines.{AllLines}
 use Rattle.lower_members.specs.Ranged.{IsBodyItem}
 use Rattle.lower_members.proofs.NumberedLemmas.{NumbersLeft}

@@ -3,7 +3,7 @@ use Rattle.std.specs.Prelude.{take_while}
 use Rattle.std.proofs.lemmas.Result.{IfOk-weaker}
 use Rattle.source_model.specs.Items.{is_custom}
 use Rattle.source_model.specs.Manifests.{attributes}
-use Rattle.source_syntax.specs.Pieces.{ArePieces}
+use Rattle.source_nodes.specs.Pieces.{ArePieces}
 use Rattle.lower_members.proofs.FieldLemmas.{run_pieces}
 use Rattle.lower_members.proofs.ItemEnds.{run_items}
 use Rattle.lower_members.proofs.ParamRows.{body_ranged}

@@ -2,7 +2,7 @@ use Rattle.std.proofs.Common.{◌∷◌, ap, ◌∙◌, arith}
 use Rattle.std.specs.Prelude.{Bool, ◌||◌}
 use Rattle.ilasm_grammar.specs.declared.productions.TheConstants.{NAME_OPT_SOME, PARAM_ATTR_STAR_MORE}
 use Rattle.source_model.specs.Forest.{has, is_any_part}
-use Rattle.source_syntax.proofs.Walks.{all_left, left_of_branch, left_of_leaf, none_found, there_is}
+use Rattle.source_nodes.proofs.Walks.{all_left, left_of_branch, left_of_leaf, none_found, there_is}
 use Rattle.lower_members.proofs.BareParams.{second_is}
 use Rattle.lower_members.proofs.params.has_more.Goals as goal
 

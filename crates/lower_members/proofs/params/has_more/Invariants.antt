@@ -1,6 +1,6 @@
 use Rattle.std.proofs.Common.{length}
 use Rattle.ilasm_grammar.specs.declared.productions.TheConstants.{NAME_OPT_SOME, PARAM_ATTR_STAR_MORE}
-use Rattle.source_syntax.proofs.Walks.{Left}
+use Rattle.source_nodes.proofs.Walks.{Left}
 use Rattle.lower_members.proofs.params.has_more.Given as goal
 
 abbrev pub invariant-loop-node : goal.invariant-loop-node

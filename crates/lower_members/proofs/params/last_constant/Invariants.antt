@@ -3,7 +3,7 @@ use Rattle.std.specs.Prelude.{fold}
 use Rattle.source_model.specs.Items.{Run}
 use Rattle.source_model.specs.Parameters.{line_constant}
 use Rattle.source_model.specs.Source.{Source}
-use Rattle.source_syntax.specs.Readers.{Reads}
+use Rattle.source_nodes.specs.Readers.{Reads}
 use Rattle.lower_members.specs.NumberedLines.{AreRuns}
 use Rattle.lower_members.proofs.params.last_constant.Given as goal
 

@@ -5,7 +5,7 @@ use Rattle.il_lexer.specs.declared.types.TokenKind.TheVariants.{Name}
 use Rattle.ilasm_grammar.specs.declared.productions.TheConstants.{NAME_OPT_SOME}
 use Rattle.source_model.specs.Forest.{child, leaf_at}
 use Rattle.source_model.specs.Values.{name_text}
-use Rattle.source_syntax.specs.Readers.{IsOf}
+use Rattle.source_nodes.specs.Readers.{IsOf}
 use Rattle.lower_members.proofs.ParamFlags.{parameter_named}
 use Rattle.lower_members.proofs.params.name.Goals as goal
 

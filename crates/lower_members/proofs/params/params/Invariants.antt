@@ -4,7 +4,7 @@ use Rattle.source_model.specs.Items.{items_and_ends}
 use Rattle.source_model.specs.Nodes.{Around}
 use Rattle.source_model.specs.Source.{Source}
 use Rattle.source_flags.specs.InRange.{AllInRange}
-use Rattle.source_syntax.specs.Pieces.{ArePieces}
+use Rattle.source_nodes.specs.Pieces.{ArePieces}
 use Rattle.source_syntax.specs.Places.{IsAt}
 use Rattle.lower_members.proofs.ParamRows.{RowsRead}
 use Rattle.lower_members.proofs.params.params.Given as goal

@@ -6,8 +6,8 @@ use Rattle.source_flags.specs.InRange.{IsInRange}
 use Rattle.source_flags.proofs.Gathered.{IsSought, all_at, of_parts}
 use Rattle.source_model.specs.Forest.{child, has, parts}
 use Rattle.source_model.specs.Parameters.{parameters, rows_of}
-use Rattle.source_syntax.specs.Pieces.{ArePieces}
-use Rattle.source_syntax.proofs.PieceLemmas.{as_many, flat_next, part_read}
+use Rattle.source_nodes.specs.Pieces.{ArePieces}
+use Rattle.source_nodes.proofs.PieceLemmas.{as_many, flat_next, part_read}
 use Rattle.source_syntax.proofs.ReferenceLemmas.{of_child}
 use Rattle.lower_manifest.proofs.KeyLemmas.{only}
 use Rattle.lower_members.proofs.GenericLemmas.{below_at, many_below, many_numbered, numbered_from}

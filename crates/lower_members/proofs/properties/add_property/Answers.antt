@@ -4,7 +4,7 @@ use Rattle.std.proofs.lemmas.Bool.Decides.{Decides-eqb}
 use Rattle.ilasm_grammar.specs.declared.productions.TheConstants.{PROPERTY, MEMBER_PROPERTY}
 use Rattle.source_model.specs.Forest.{preorder, the}
 use Rattle.source_model.specs.Members.{property, properties_in}
-use Rattle.source_syntax.specs.Derived.{FitsBody}
+use Rattle.source_nodes.specs.Derived.{FitsBody}
 use Rattle.source_syntax.proofs.ReferenceLemmas.{sound_part}
 use Rattle.source_syntax.proofs.SizeLemmas.{the_smaller}
 use Rattle.source_flags.specs.InRange.{IsInRange}

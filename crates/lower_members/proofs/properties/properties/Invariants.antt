@@ -4,9 +4,9 @@ use Rattle.source_model.specs.Forest.{Forest, Part}
 use Rattle.source_model.specs.Members.{property, properties_in}
 use Rattle.source_model.specs.Nodes.{Around}
 use Rattle.source_model.specs.Source.{Source}
-use Rattle.source_syntax.specs.Pieces.{ArePieces}
+use Rattle.source_nodes.specs.Pieces.{ArePieces}
 use Rattle.source_syntax.specs.Places.{IsAt}
-use Rattle.lower_members.specs.Ranged.{IsRanged}
+use Rattle.param_lines.specs.Ranged.{IsRanged}
 use Rattle.lower_members.specs.SignedMethods.{declared}
 use Rattle.lower_members.proofs.properties.properties.Given as goal
 

@@ -1,6 +1,6 @@
 use Rattle.std.proofs.Common.{◌≤◌, length, ap, sym, ◌∙◌, arith}
 use Rattle.source_model.specs.Members.{methods}
-use Rattle.source_syntax.proofs.PieceLemmas.{all_taken, part_read}
+use Rattle.source_nodes.proofs.PieceLemmas.{all_taken, part_read}
 use Rattle.source_flags.proofs.Gathered.{all_at, few_below}
 use Rattle.lower_methods.specs.SoundMethods.{IsWholePart}
 use Rattle.lower_methods.proofs.MethodLemmas.{picked_next}

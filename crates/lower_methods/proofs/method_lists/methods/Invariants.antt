@@ -4,7 +4,7 @@ use Rattle.source_model.specs.Forest.{Part}
 use Rattle.source_model.specs.Members.{methods}
 use Rattle.source_model.specs.Nodes.{Around}
 use Rattle.source_model.specs.Source.{Source}
-use Rattle.source_syntax.specs.Pieces.{ArePieces}
+use Rattle.source_nodes.specs.Pieces.{ArePieces}
 use Rattle.source_syntax.specs.Places.{IsAt}
 use Rattle.lower_methods.specs.SoundMethods.{IsWholePart}
 use Rattle.lower_methods.proofs.method_lists.methods.Given as goal

@@ -1,7 +1,7 @@
 use Rattle.std.proofs.Common.{sym, subst}
 use Rattle.std.specs.Prelude.{false}
 use Rattle.source_model.specs.Items.{items_and_ends, own_customs}
-use Rattle.source_syntax.specs.Pieces.{ArePieces}
+use Rattle.source_nodes.specs.Pieces.{ArePieces}
 use Rattle.lower_members.proofs.ItemEnds.{items_ranged, outside_items}
 use Rattle.lower_methods.proofs.method_rows.own_attributes.Goals as goal
 

@@ -1,7 +1,7 @@
 use Rattle.std.proofs.Common.{◌≡◌, ℕ, List, ◌<◌, ◌^◌, length, ap, sym, subst, ◌∙◌}
 use Rattle.source_model.specs.Items.{items_and_ends}
 use Rattle.source_model.specs.Nodes.{typar_names}
-use Rattle.source_syntax.specs.Pieces.{ArePieces}
+use Rattle.source_nodes.specs.Pieces.{ArePieces}
 use Rattle.lower_members.proofs.ItemEnds.{items_ranged}
 use Rattle.lower_methods.proofs.method_rows.rows_with_lines.Goals as goal
 

@@ -2,7 +2,7 @@ use Rattle.std.proofs.Common.{◌≡◌, ◌+◌, slice_get, ap, sym, ◌∙◌,
 use Rattle.std.specs.Prelude.{Some}
 use Rattle.std.proofs.lemmas.Option.{slice_get_read}
 use Rattle.source_flags.specs.Lines.{productions_of}
-use Rattle.source_syntax.proofs.PieceLemmas.{Gathered, begin, past_leaf, into_branch, past_branch}
+use Rattle.source_nodes.proofs.PieceLemmas.{Gathered, begin, past_leaf, into_branch, past_branch}
 use Rattle.source_flags.proofs.gathering.parts_of.Goals as goal
 use Rattle.source_flags.proofs.gathering.parts_of.Goals.{In-Some}
 

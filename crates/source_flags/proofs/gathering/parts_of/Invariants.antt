@@ -1,6 +1,6 @@
 use Rattle.std.proofs.Common.{length, ◌-◌}
 use Rattle.source_flags.specs.Lines.{productions_of}
-use Rattle.source_syntax.proofs.PieceLemmas.{Gathered}
+use Rattle.source_nodes.proofs.PieceLemmas.{Gathered}
 use Rattle.source_flags.proofs.gathering.parts_of.Given as goal
 
 abbrev pub invariant-loop-node : goal.invariant-loop-node

@@ -1,9 +1,9 @@
 use Rattle.std.proofs.Common.{[], sym, subst, ◌∙◌}
 use Rattle.source_model.specs.BodyFaults.{label_names_in}
 use Rattle.source_model.specs.Forest.{parts}
-use Rattle.source_syntax.specs.Pieces.{ArePieces, productions_of}
-use Rattle.source_syntax.specs.declared.pieces.Sought.TheVariants.{LabelNames}
-use Rattle.source_syntax.proofs.PieceLemmas.{flat_next, part_read}
+use Rattle.source_nodes.specs.Pieces.{ArePieces, productions_of}
+use Rattle.source_nodes.specs.declared.pieces.Sought.TheVariants.{LabelNames}
+use Rattle.source_nodes.proofs.PieceLemmas.{flat_next, part_read}
 use Rattle.source_syntax.proofs.labels.label_names.Goals as goal
 
 pub push_label_names-requires : goal.push_label_names-requires

@@ -1,8 +1,8 @@
 use Rattle.std.proofs.Common.{[], ◌∷◌, sym, subst, ◌∙◌}
 use Rattle.ilasm_grammar.specs.declared.productions.TheConstants.{ITEM_NAME}
 use Rattle.source_model.specs.Forest.{leaf_at, parts}
-use Rattle.source_syntax.specs.Pieces.{ArePieces}
-use Rattle.source_syntax.proofs.PieceLemmas.{mapped_below}
+use Rattle.source_nodes.specs.Pieces.{ArePieces}
+use Rattle.source_nodes.proofs.PieceLemmas.{mapped_below}
 use Rattle.source_syntax.proofs.labels.label_tokens.Goals as goal
 
 pub returns : goal.returns

@@ -2,7 +2,7 @@ use Rattle.std.proofs.Common.{◌≡◌, [], ◌∷◌, ◌++◌, ap, sym, subst
 use Rattle.il_lexer.specs.declared.types.TokenKind.TheVariants.{Name}
 use Rattle.source_model.specs.Values.{name_text}
 use Rattle.source_syntax.specs.Methods.{AreNames}
-use Rattle.source_syntax.specs.Readers.{IsOf}
+use Rattle.source_nodes.specs.Readers.{IsOf}
 use Rattle.source_syntax.proofs.LabelLemmas.{in_middle}
 use Rattle.source_syntax.proofs.labels.names_at.Goals as goal
 

@@ -2,8 +2,8 @@ use Rattle.std.proofs.Common.{[], ◌∷◌, ◌++◌, ap, sym, subst, ◌∙◌
 use Rattle.std.proofs.lemmas.Result.{on_ok_weaker}
 use Rattle.ilasm_grammar.specs.declared.productions.TheConstants.{COMMA_NAME}
 use Rattle.source_model.specs.Forest.{leaf_at, parts}
-use Rattle.source_syntax.specs.Pieces.{ArePieces}
-use Rattle.source_syntax.proofs.PieceLemmas.{mapped_below}
+use Rattle.source_nodes.specs.Pieces.{ArePieces}
+use Rattle.source_nodes.proofs.PieceLemmas.{mapped_below}
 use Rattle.source_syntax.proofs.labels.push_names.Goals as goal
 
 pub returns : goal.returns

@@ -3,8 +3,8 @@ use Rattle.std.specs.List.{flat_map}
 use Rattle.ilasm_grammar.specs.declared.productions.TheConstants.{NAMES}
 use Rattle.source_model.specs.Forest.{Part, parts}
 use Rattle.source_model.specs.Instructions.{names_in}
-use Rattle.source_syntax.specs.Pieces.{ArePieces}
-use Rattle.source_syntax.proofs.PieceLemmas.{all_taken, collected_below, flat_next, part_read}
+use Rattle.source_nodes.specs.Pieces.{ArePieces}
+use Rattle.source_nodes.proofs.PieceLemmas.{all_taken, collected_below, flat_next, part_read}
 use Rattle.source_syntax.proofs.labels.push_switch_names.Goals as goal
 
 pub push_names-requires : goal.push_names-requires

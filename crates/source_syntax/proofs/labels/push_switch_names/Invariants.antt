@@ -2,7 +2,7 @@ use Rattle.std.proofs.Common.{◌≡◌, List, ◌++◌, take}
 use Rattle.std.specs.List.{flat_map}
 use Rattle.source_model.specs.Forest.{Part}
 use Rattle.source_model.specs.Instructions.{names_in}
-use Rattle.source_syntax.specs.Pieces.{ArePieces}
+use Rattle.source_nodes.specs.Pieces.{ArePieces}
 use Rattle.source_syntax.proofs.labels.push_switch_names.Given as goal
 
 abbrev pub invariant-loop-list : goal.invariant-loop-list

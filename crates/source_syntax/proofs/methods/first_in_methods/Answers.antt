@@ -3,7 +3,7 @@ use Rattle.std.specs.List.{flat_map}
 use Rattle.std.proofs.lemmas.Option.{slice_get-get_or}
 use Rattle.ilasm_grammar.specs.declared.productions.TheConstants.{METHOD}
 use Rattle.source_model.specs.BodyFaults.{all_methods}
-use Rattle.source_syntax.specs.Least.{least, sooner}
+use Rattle.source_nodes.specs.Least.{least, sooner}
 use Rattle.source_syntax.specs.Methods.{all_below, AreBelow, IsMethod}
 use Rattle.source_syntax.proofs.MethodLemmas.{all_at, as_many, forest_at, method_at, methods_derived, nothing_left, one_more}
 use Rattle.source_syntax.proofs.methods.first_in_methods.Goals as goal

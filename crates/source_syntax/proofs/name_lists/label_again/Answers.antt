@@ -2,7 +2,7 @@ use Rattle.std.proofs.Common.{◌∙◌, ap, sym}
 use Rattle.std.specs.Prelude.{map}
 use Rattle.source_model.specs.Values.{name_text}
 use Rattle.source_model.specs.DeclaredTwice.{repeats}
-use Rattle.source_syntax.specs.Least.{least}
+use Rattle.source_nodes.specs.Least.{least}
 use Rattle.source_syntax.proofs.NamingLemmas.{labels_repeat, same_text}
 use Rattle.source_syntax.proofs.name_lists.label_again.Goals as goal
 

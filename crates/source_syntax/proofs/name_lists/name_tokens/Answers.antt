@@ -1,8 +1,8 @@
 use Rattle.std.proofs.Common.{◌≡◌, ◌∙◌, ap, refl, sym, subst, take, drop}
-use Rattle.source_syntax.proofs.Collecting.{after_is, behind_is, below_is, is_branch}
+use Rattle.source_nodes.proofs.Collecting.{after_is, behind_is, below_is, is_branch}
 use Rattle.source_syntax.proofs.NamingLemmas.{Names, names_end, names_go_in, names_start, names_take}
-use Rattle.source_syntax.proofs.Opening.{in_two, opens_in_two, whole, opens_whole}
-use Rattle.source_syntax.specs.Walk.{is_of}
+use Rattle.source_nodes.proofs.Opening.{in_two, opens_in_two, whole, opens_whole}
+use Rattle.source_nodes.specs.Walk.{is_of}
 use Rattle.source_syntax.proofs.name_lists.name_tokens.Goals as goal
 
 pub loop-node-init : goal.loop-node-init

@@ -1,8 +1,8 @@
 use Rattle.std.proofs.Common.{◌≡◌, length}
 use Rattle.source_model.specs.Forest.{Forest, preorder}
 use Rattle.source_syntax.specs.Namings.{names_in}
-use Rattle.source_syntax.specs.Walk.{IsForest}
-use Rattle.source_syntax.proofs.Collecting.{SoFar}
+use Rattle.source_nodes.specs.Walk.{IsForest}
+use Rattle.source_nodes.proofs.Collecting.{SoFar}
 use Rattle.source_syntax.proofs.NamingLemmas.{Any}
 use Rattle.source_syntax.proofs.name_lists.name_tokens.Given as goal
 

@@ -3,7 +3,7 @@ use Rattle.std.specs.Prelude.{All}
 use Rattle.il_lexer.specs.declared.types.TokenKind.TheVariants as kind
 use Rattle.source_model.specs.Source.{Source}
 use Rattle.source_model.specs.Values.{name_text}
-use Rattle.source_syntax.specs.Readers.{IsOf, Reads}
+use Rattle.source_nodes.specs.Readers.{IsOf, Reads}
 use Rattle.source_syntax.proofs.name_lists.texts.Given as goal
 
 abbrev pub invariant-loop-more : goal.invariant-loop-more

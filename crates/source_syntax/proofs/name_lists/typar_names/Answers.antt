@@ -5,8 +5,8 @@ use Rattle.il_lexer.specs.declared.types.TokenKind.TheVariants as kind
 use Rattle.ilasm_grammar.specs.declared.productions.TheConstants.{TYPAR, TYPARS_OPT_SOME}
 use Rattle.source_model.specs.Forest.{child, each, leaf_at}
 use Rattle.source_model.specs.Values.{name_text}
-use Rattle.source_syntax.specs.Readers.{IsOf}
-use Rattle.source_syntax.proofs.Collecting.{no_forest}
+use Rattle.source_nodes.specs.Readers.{IsOf}
+use Rattle.source_nodes.proofs.Collecting.{no_forest}
 use Rattle.source_syntax.proofs.NamingLemmas.{typar_names_are, typars_are_names}
 use Rattle.source_syntax.proofs.name_lists.typar_names.Goals as goal
 

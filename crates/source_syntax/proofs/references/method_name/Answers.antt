@@ -4,8 +4,8 @@ use Rattle.il_lexer.specs.declared.types.TokenKind.TheVariants as kind
 use Rattle.ilasm_grammar.specs.declared.productions.TheConstants.{METHOD_NAME_CCTOR, METHOD_NAME_CTOR, METHOD_NAME_NAME}
 use Rattle.source_model.specs.References.{method_name}
 use Rattle.source_model.specs.Values.{name_text}
-use Rattle.source_syntax.specs.Readers.{IsOf}
-use Rattle.source_syntax.proofs.Collecting.{behind_is, below_is, is_branch}
+use Rattle.source_nodes.specs.Readers.{IsOf}
+use Rattle.source_nodes.proofs.Collecting.{behind_is, below_is, is_branch}
 use Rattle.source_syntax.proofs.MethodNames.{apart_names, is_cctor, is_ctor, is_named, name_found, names_go_in, names_start, no_name}
 use Rattle.source_syntax.proofs.references.method_name.Goals as goal
 

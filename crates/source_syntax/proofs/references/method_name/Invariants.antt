@@ -1,8 +1,8 @@
 use Rattle.std.proofs.Common.{◌≡◌, length}
 use Rattle.source_model.specs.Forest.{Forest, preorder}
 use Rattle.source_model.specs.Source.{Source}
-use Rattle.source_syntax.specs.Derived.{HasBodies}
-use Rattle.source_syntax.specs.Walk.{IsForest}
+use Rattle.source_nodes.specs.Derived.{HasBodies}
+use Rattle.source_nodes.specs.Walk.{IsForest}
 use Rattle.source_syntax.proofs.MethodNames.{Named}
 use Rattle.source_syntax.proofs.references.method_name.Given as goal
 

@@ -1,6 +1,6 @@
 use Rattle.std.proofs.Common.{sym, ◌∙◌, arith}
 use Rattle.ilasm_grammar.specs.declared.productions.TheConstants.{DEF_ARG, SIG_ARG_ELLIPSIS}
-use Rattle.source_syntax.proofs.Collecting.{after_is, behind_is, is_branch}
+use Rattle.source_nodes.proofs.Collecting.{after_is, behind_is, is_branch}
 use Rattle.source_syntax.proofs.SignatureLemmas.{passed_start, passed_argument, passed_ellipsis, passed_other, passed_all}
 use Rattle.source_syntax.proofs.signatures.before_ellipsis.Goals as goal
 

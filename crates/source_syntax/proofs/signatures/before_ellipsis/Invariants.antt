@@ -1,6 +1,6 @@
 use Rattle.std.proofs.Common.{◌≡◌, ◌+◌, ◌≤◌, length}
 use Rattle.source_model.specs.Forest.{Forest, preorder}
-use Rattle.source_syntax.specs.Walk.{IsForest}
+use Rattle.source_nodes.specs.Walk.{IsForest}
 use Rattle.source_syntax.proofs.SignatureLemmas.{Passed}
 use Rattle.source_syntax.proofs.signatures.before_ellipsis.Given as goal
 

@@ -3,7 +3,7 @@ use Rattle.std.proofs.lemmas.Bool.{eqb-true}
 use Rattle.ilasm_grammar.specs.declared.productions.TheConstants.{TYPAR, TYPARS_OPT_SOME}
 use Rattle.source_model.specs.Forest.{child, preorder}
 use Rattle.source_model.specs.Nodes.{typars}
-use Rattle.source_syntax.proofs.NestingLemmas.{found_length}
+use Rattle.source_nodes.proofs.NestingLemmas.{found_length}
 use Rattle.source_syntax.proofs.SizeLemmas.{child_smaller, few_each}
 use Rattle.source_syntax.proofs.signatures.typar_count.Goals as goal
 

@@ -1,8 +1,8 @@
 use Rattle.std.proofs.Common.{◌≡◌, ◌++◌, ◌∙◌, ap, sym, subst}
 use Rattle.source_model.specs.BodyNumbers.{body_numbers_out_of_range_in}
 use Rattle.source_model.specs.Instructions.{instructions_of}
-use Rattle.source_syntax.specs.Least.{least, sooner}
-use Rattle.source_syntax.specs.Pieces.{ArePieces}
+use Rattle.source_nodes.specs.Least.{least, sooner}
+use Rattle.source_nodes.specs.Pieces.{ArePieces}
 use Rattle.source_syntax.proofs.LeastLemmas.{least_append}
 use Rattle.check_bodies.specs.AllOfBodies.{backwards_in, ends_in, far_in, twice_in, undeclared_in, variables_in}
 use Rattle.check_bodies.specs.MethodFaults.{naming_in}

@@ -5,7 +5,7 @@ use Rattle.source_model.specs.BodyNumbers.{bounds_out_of_range, clause_forests, 
 use Rattle.source_model.specs.Instructions.{instructions_with}
 use Rattle.source_model.specs.TypeRules.{past_count}
 use Rattle.source_model.specs.Variables.{locals}
-use Rattle.source_syntax.specs.Least.{least, sooner}
+use Rattle.source_nodes.specs.Least.{least, sooner}
 use Rattle.check_bodies.proofs.BodyNumberLemmas.{body_least}
 use Rattle.check_bodies.proofs.ClauseCountLemmas.{clauses_are}
 use Rattle.check_bodies.proofs.OperandLemmas.{by_forms}

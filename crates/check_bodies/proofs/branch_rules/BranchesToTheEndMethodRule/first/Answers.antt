@@ -3,12 +3,12 @@ use Rattle.std.specs.Prelude.{filter, IfOk}
 use Rattle.std.specs.List.{flat_map}
 use Rattle.source_model.specs.Instructions.{instructions_of, targets}
 use Rattle.source_syntax.specs.Labels.{ends_at, number_declared}
-use Rattle.source_syntax.specs.Least.{least}
+use Rattle.source_nodes.specs.Least.{least}
 use Rattle.source_syntax.specs.Methods.{AreNames}
-use Rattle.source_syntax.specs.Pieces.{ArePieces}
+use Rattle.source_nodes.specs.Pieces.{ArePieces}
 use Rattle.check_bodies.proofs.BranchLemmas.{to_the_end}
 use Rattle.source_syntax.proofs.LabelTokens.{all_targets_are_names}
-use Rattle.source_syntax.proofs.PieceLemmas.{as_many}
+use Rattle.source_nodes.proofs.PieceLemmas.{as_many}
 use Rattle.check_bodies.proofs.branch_rules.BranchesToTheEndMethodRule.first.Goals as goal
 
 pub returns : goal.returns

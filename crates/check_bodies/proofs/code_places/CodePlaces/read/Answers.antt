@@ -1,7 +1,7 @@
 use Rattle.std.proofs.Common.{sym, subst}
 use Rattle.std.specs.List.Sorted.{IsNonDecreasing}
 use Rattle.source_model.specs.Instructions.{instructions_of}
-use Rattle.source_syntax.specs.Pieces.{ArePieces}
+use Rattle.source_nodes.specs.Pieces.{ArePieces}
 use Rattle.source_syntax.proofs.OpTokens.{instructions_have_tokens}
 use Rattle.source_syntax.proofs.OrderLemmas.{starts_never_fall}
 use Rattle.check_bodies.proofs.code_places.CodePlaces.read.Goals as goal

@@ -3,7 +3,7 @@ use Rattle.std.specs.Prelude.{IfOk}
 use Rattle.source_model.specs.BodyFaults.{is_same_name}
 use Rattle.source_model.specs.DeclaredTwice.{repeats}
 use Rattle.source_model.specs.Values.{name_text}
-use Rattle.source_syntax.specs.Least.{least}
+use Rattle.source_nodes.specs.Least.{least}
 use Rattle.source_syntax.specs.Methods.{AreNames}
 use Rattle.source_syntax.proofs.LabelTokens.{labels_are_names}
 use Rattle.check_bodies.proofs.label_rules.LabelsTwiceMethodRule.first.Goals as goal

@@ -3,7 +3,7 @@ use Rattle.std.specs.Prelude.{Bool, not, filter, bytes_eq, is_some, position, If
 use Rattle.source_model.specs.BodyFaults.{label_names}
 use Rattle.source_model.specs.Instructions.{is_label}
 use Rattle.source_model.specs.Values.{name_text}
-use Rattle.source_syntax.specs.Least.{least}
+use Rattle.source_nodes.specs.Least.{least}
 use Rattle.source_syntax.specs.Methods.{AreNames}
 use Rattle.source_syntax.proofs.LabelLemmas.{filter_same, is_label_named}
 use Rattle.source_syntax.proofs.LabelTokens.{labels_are_names, label_names_are_names}

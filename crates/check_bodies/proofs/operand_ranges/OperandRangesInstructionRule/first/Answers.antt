@@ -1,7 +1,7 @@
 use Rattle.std.proofs.Common.{◌≡◌, ap, sym, subst, ◌∙◌}
 use Rattle.std.specs.Prelude.{IfOk}
-use Rattle.source_syntax.specs.Derived.{FitsBody}
-use Rattle.source_syntax.specs.Least.{least}
+use Rattle.source_nodes.specs.Derived.{FitsBody}
+use Rattle.source_nodes.specs.Least.{least}
 use Rattle.check_bodies.proofs.OperandLemmas.{at_number, at_real, at_variable}
 use Rattle.check_bodies.proofs.operand_ranges.OperandRangesInstructionRule.first.Goals as goal
 

@@ -1,5 +1,5 @@
 use Rattle.std.proofs.Common.{ap, sym, ◌∙◌}
-use Rattle.source_syntax.specs.Least.{least}
+use Rattle.source_nodes.specs.Least.{least}
 use Rattle.check_bodies.specs.Sizes.{far_from, far_target}
 use Rattle.check_bodies.proofs.ShortBranchLemmas.{far_is, short_name}
 use Rattle.check_bodies.proofs.short_branches.ReachInstructionRule.first.Goals as goal

@@ -1,7 +1,7 @@
 use Rattle.std.proofs.Common.{sym, subst}
 use Rattle.source_model.specs.Bodies.{code}
 use Rattle.source_model.specs.Instructions.{instructions_of}
-use Rattle.source_syntax.specs.Pieces.{ArePieces}
+use Rattle.source_nodes.specs.Pieces.{ArePieces}
 use Rattle.check_bodies.specs.Sizes.{AreOffsets}
 use Rattle.check_bodies.proofs.short_branches.ShortBranchesMethodRule.first.Goals as goal
 

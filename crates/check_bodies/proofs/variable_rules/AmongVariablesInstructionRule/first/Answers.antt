@@ -3,8 +3,8 @@ use Rattle.std.specs.Prelude.{Bool, true, ◌==◌, if◌then◌else◌, [], IfO
 use Rattle.std.proofs.lemmas.Bool.Decides.{Decides-eqb}
 use Rattle.ilasm_grammar.specs.declared.productions.TheConstants.{INSTRUCTION_OP_VAR}
 use Rattle.source_model.specs.BodyFaults.{variable_undeclared}
-use Rattle.source_syntax.specs.Derived.{FitsBody}
-use Rattle.source_syntax.specs.Least.{least}
+use Rattle.source_nodes.specs.Derived.{FitsBody}
+use Rattle.source_nodes.specs.Least.{least}
 use Rattle.check_bodies.proofs.variable_rules.AmongVariablesInstructionRule.first.Goals as goal
 
 pub returns-in-315 : goal.returns-in-315

@@ -2,8 +2,8 @@ use Rattle.std.proofs.Common.{ap, sym, subst, ◌∙◌}
 use Rattle.ilasm_grammar.specs.declared.productions.TheConstants.{INSTRUCTION_OP_VAR}
 use Rattle.source_model.specs.BodyFaults.{variable_undeclared}
 use Rattle.source_model.specs.Instructions.{instructions_of}
-use Rattle.source_syntax.specs.Least.{least}
-use Rattle.source_syntax.specs.Pieces.{ArePieces}
+use Rattle.source_nodes.specs.Least.{least}
+use Rattle.source_nodes.specs.Pieces.{ArePieces}
 use Rattle.check_bodies.specs.NamedVariables.{undeclared_at}
 use Rattle.check_bodies.proofs.CodeLemmas.{of_one_form, without_numbers}
 use Rattle.check_bodies.proofs.variable_rules.NamedVariablesMethodRule.first.Goals as goal

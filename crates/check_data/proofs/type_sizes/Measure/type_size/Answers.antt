@@ -2,7 +2,7 @@ use Rattle.std.proofs.Common.{◌≡◌, ◌∙◌, ap, sym, subst}
 use Rattle.std.specs.Prelude.{Bool, IfOk, None, if◌then◌else◌}
 use Rattle.source_model.specs.OutOfRange.{asked_size, asked_value_size}
 use Rattle.source_model.specs.Types.{base_type, type_of, types_in}
-use Rattle.source_syntax.proofs.Collecting.{after_is, below_is}
+use Rattle.source_nodes.proofs.Collecting.{after_is, below_is}
 use Rattle.source_syntax.proofs.TypeWalks.{empty_type, other_type}
 use Rattle.check_data.proofs.TypeSizeLemmas.{begun, void_size}
 use Rattle.check_data.proofs.type_sizes.Measure.type_size.Goals as goal

@@ -2,8 +2,8 @@ use Rattle.std.proofs.Common.{◌≡◌, ◌<◌, ◌∷◌, ◌∙◌, None, le
 use Rattle.std.specs.Prelude.{true, false, ◌==◌}
 use Rattle.ilasm_grammar.specs.declared.productions.TheConstants.{CLASS}
 use Rattle.source_model.specs.Items.{members}
-use Rattle.source_syntax.specs.Least.{sooner}
-use Rattle.source_syntax.specs.Walk.{IsForest}
+use Rattle.source_nodes.specs.Least.{sooner}
+use Rattle.source_nodes.specs.Walk.{IsForest}
 use Rattle.check_names.specs.DeclaredClasses.{inner_path}
 use Rattle.check_visitor.proofs.AskingLemmas.{below_shorter, next_shorter, nothing_more, rest_shorter}
 use Rattle.check_names.proofs.ClassWalks.{forest_behind}

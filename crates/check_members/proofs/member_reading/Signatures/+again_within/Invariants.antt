@@ -3,9 +3,9 @@ use Rattle.std.specs.Prelude.{min}
 use Rattle.type_terms.specs.declared.name.TypeId.{TypeId}
 use Rattle.source_model.specs.Forest.{Forest, preorder}
 use Rattle.source_model.specs.Source.{Source}
-use Rattle.source_syntax.specs.Derived.{HasBodies}
-use Rattle.source_syntax.specs.Readers.{Reads}
-use Rattle.source_syntax.specs.Walk.{IsForest}
+use Rattle.source_nodes.specs.Derived.{HasBodies}
+use Rattle.source_nodes.specs.Readers.{Reads}
+use Rattle.source_nodes.specs.Walk.{IsForest}
 use Rattle.check_members.specs.MemberReading.{Serves}
 use Rattle.check_members.proofs.WithinLemmas.{Walked}
 use Rattle.check_members.proofs.member_reading.Signatures.+again_within.Given as goal

@@ -4,10 +4,10 @@ use Rattle.il_lexer.specs.declared.types.TokenKind.TheVariants as kind
 use Rattle.ilasm_grammar.specs.declared.productions.TheConstants.{CLASS, METHOD}
 use Rattle.source_model.specs.Forest.{preorder}
 use Rattle.source_model.specs.Nodes.{entered}
-use Rattle.source_syntax.specs.Derived.{FitsBody}
-use Rattle.source_syntax.specs.Least.{least}
-use Rattle.source_syntax.specs.Readers.{IsOf}
-use Rattle.source_syntax.specs.Walk.{IsForest}
+use Rattle.source_nodes.specs.Derived.{FitsBody}
+use Rattle.source_nodes.specs.Least.{least}
+use Rattle.source_nodes.specs.Readers.{IsOf}
+use Rattle.source_nodes.specs.Walk.{IsForest}
 use Rattle.source_syntax.proofs.NameTokens.{class_is_name}
 use Rattle.check_members.specs.OwnMethods.{has_accessors, undeclared_at}
 use Rattle.check_visitor.specs.Surroundings.{found_in, is_scope}

@@ -1,5 +1,5 @@
 use Rattle.std.proofs.Common.{◌∙◌, sym}
-use Rattle.source_syntax.proofs.Collecting.{behind_is}
+use Rattle.source_nodes.proofs.Collecting.{behind_is}
 use Rattle.check_members.specs.OwnMethods.{accessor_items}
 use Rattle.check_members.proofs.AccessorWalks.{accessed, accessors_end, accessors_in_other, accessors_start}
 use Rattle.check_members.proofs.MemberParts.{chosen_after, chosen_below}

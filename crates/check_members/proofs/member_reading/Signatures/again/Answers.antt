@@ -1,5 +1,5 @@
 use Rattle.std.proofs.Common.{◌∙◌, ap}
-use Rattle.source_syntax.specs.Least.{sooner}
+use Rattle.source_nodes.specs.Least.{sooner}
 use Rattle.check_members.specs.MemberKinds.{parts_at}
 use Rattle.check_members.proofs.LoneLemmas.{none_twice}
 use Rattle.check_members.proofs.TwiceLemmas.{twice_is}

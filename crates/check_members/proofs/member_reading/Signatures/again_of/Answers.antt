@@ -1,7 +1,7 @@
 use Rattle.std.proofs.Common.{◌∙◌, refl, sym, subst}
 use Rattle.std.specs.Prelude.{None}
 use Rattle.source_model.specs.Forest.{the}
-use Rattle.source_syntax.proofs.Collecting.{behind_is}
+use Rattle.source_nodes.proofs.Collecting.{behind_is}
 use Rattle.check_members.specs.MemberKinds.{places, production_of}
 use Rattle.check_members.proofs.MemberParts.{chosen_after, chosen_below}
 use Rattle.check_members.proofs.MemberWalks.{LeftOf, at_end, at_start, goes_in, goes_past, said}

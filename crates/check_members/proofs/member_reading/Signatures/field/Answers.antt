@@ -5,7 +5,7 @@ use Rattle.ilasm_grammar.specs.declared.productions.TheConstants.{TYPE}
 use Rattle.source_model.specs.Forest.{chosen}
 use Rattle.source_model.specs.Signatures.{is_field_unbroken}
 use Rattle.source_model.specs.Values.{name_text}
-use Rattle.source_syntax.specs.Readers.{IsOf}
+use Rattle.source_nodes.specs.Readers.{IsOf}
 use Rattle.check_members.specs.MemberKinds.{of_type}
 use Rattle.check_members.specs.declared.member_kinds.Kind.TheVariants.{Field}
 use Rattle.check_members.proofs.MemberParts.{field_is_name}

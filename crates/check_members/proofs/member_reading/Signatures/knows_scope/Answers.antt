@@ -4,7 +4,7 @@ use Rattle.std.proofs.lemmas.Option.{same_Some}
 use Rattle.il_lexer.specs.declared.types.TokenKind.TheVariants as kind
 use Rattle.ilasm_grammar.specs.declared.productions.TheConstants.{TARGET_SCOPE}
 use Rattle.source_model.specs.Forest.{child}
-use Rattle.source_syntax.specs.Readers.{IsOf}
+use Rattle.source_nodes.specs.Readers.{IsOf}
 use Rattle.check_names.specs.NamedTypes.{written_scope_by}
 use Rattle.check_members.proofs.ReadLemmas.{scope_known, unscoped_known}
 use Rattle.check_members.proofs.ReferenceParts.{scope_sound}

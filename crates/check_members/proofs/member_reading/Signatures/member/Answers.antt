@@ -1,6 +1,6 @@
 use Rattle.std.proofs.Common.{◌≡◌, subst, sym}
 use Rattle.std.specs.Prelude.{IfOk}
-use Rattle.source_syntax.specs.Derived.{FitsBody}
+use Rattle.source_nodes.specs.Derived.{FitsBody}
 use Rattle.check_members.specs.MemberKinds.{production_of, unbroken_member}
 use Rattle.check_members.proofs.member_reading.Signatures.member.Goals as goal
 

@@ -1,5 +1,5 @@
 use Rattle.std.proofs.Common.{◌∙◌, sym, subst}
-use Rattle.source_syntax.proofs.Collecting.{behind_is}
+use Rattle.source_nodes.proofs.Collecting.{behind_is}
 use Rattle.check_members.specs.MemberKinds.{places}
 use Rattle.check_members.specs.declared.member_kinds.Level.TheVariants as level
 use Rattle.check_members.proofs.AccessorWalks.{MethodsLeft, declared, methods_end, methods_in_other, methods_past, methods_start}

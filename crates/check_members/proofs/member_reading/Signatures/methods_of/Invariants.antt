@@ -2,9 +2,9 @@ use Rattle.std.proofs.Common.{◌≡◌, length}
 use Rattle.source_model.specs.Forest.{preorder}
 use Rattle.source_model.specs.Nodes.{Around}
 use Rattle.source_model.specs.Source.{Source}
-use Rattle.source_syntax.specs.Derived.{HasBodies}
-use Rattle.source_syntax.specs.Readers.{Reads}
-use Rattle.source_syntax.specs.Walk.{IsForest}
+use Rattle.source_nodes.specs.Derived.{HasBodies}
+use Rattle.source_nodes.specs.Readers.{Reads}
+use Rattle.source_nodes.specs.Walk.{IsForest}
 use Rattle.check_members.specs.MemberReading.{Serves}
 use Rattle.check_visitor.specs.Surroundings.{HasParameters, IsSurrounding}
 use Rattle.check_members.proofs.AccessorWalks.{MethodsLeft}

@@ -5,7 +5,7 @@ use Rattle.ilasm_grammar.specs.declared.productions.TheConstants.{SIGNATURE, TYP
 use Rattle.source_model.specs.Forest.{chosen}
 use Rattle.source_model.specs.Signatures.{is_property_unbroken, not_in_property}
 use Rattle.source_model.specs.Values.{name_text}
-use Rattle.source_syntax.specs.Readers.{IsOf}
+use Rattle.source_nodes.specs.Readers.{IsOf}
 use Rattle.check_members.specs.declared.member_kinds.Kind.TheVariants.{Property}
 use Rattle.check_members.proofs.KeepLemmas.{some_found}
 use Rattle.check_members.proofs.MemberParts.{property_is_name}

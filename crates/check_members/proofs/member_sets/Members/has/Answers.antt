@@ -2,7 +2,7 @@ use Rattle.std.proofs.Common.{◌≡◌, ◌∙◌, Some, ap, sym, arith}
 use Rattle.std.specs.Prelude.{nat_eq}
 use Rattle.std.proofs.lemmas.Option.{same_Some, slice_get_within}
 use Rattle.indexmap.specs.IndexMap.{get}
-use Rattle.source_syntax.proofs.ChainLemmas.{ahead_first, ahead_next, hashed_first, hashed_next}
+use Rattle.source_nodes.proofs.ChainLemmas.{ahead_first, ahead_next, hashed_first, hashed_next}
 use Rattle.check_members.specs.MemberHashes.{member_hash}
 use Rattle.check_members.specs.SameMembers.{is_member, is_same_member}
 use Rattle.check_members.proofs.MemberLemmas.{found_at, found_nowhere, other_member}

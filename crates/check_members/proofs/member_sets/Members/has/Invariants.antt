@@ -1,7 +1,7 @@
 use Rattle.std.proofs.Common.{◌≡◌, ℕ, ◌≤◌, Some}
 use Rattle.std.specs.Prelude.{slice_get}
-use Rattle.source_syntax.specs.Chains.{HasHash}
-use Rattle.source_syntax.proofs.ChainLemmas.{ahead_of}
+use Rattle.source_nodes.specs.Chains.{HasHash}
+use Rattle.source_nodes.proofs.ChainLemmas.{ahead_of}
 use Rattle.check_members.specs.MemberHashes.{member_hash}
 use Rattle.check_members.proofs.member_sets.Members.has.Given as goal
 

@@ -1,7 +1,7 @@
 use Rattle.std.proofs.Common.{rules, ◌≡◌, ℕ, None}
 use Rattle.std.specs.Prelude.{nat_eq}
 use Rattle.indexmap.specs.IndexMap.{get}
-use Rattle.source_syntax.proofs.ChainLemmas.{IsChained-none}
+use Rattle.source_nodes.proofs.ChainLemmas.{IsChained-none}
 use Rattle.check_members.specs.MemberHashes.{member_hash}
 use Rattle.check_members.proofs.member_sets.Members.new.Goals as goal
 

@@ -1,7 +1,7 @@
 use Rattle.std.proofs.Common.{rules, ◌≡◌, ℕ, [], ◌∷◌, ◌++◌, Some, cond}
 use Rattle.std.specs.Prelude.{nat_eq}
 use Rattle.indexmap.specs.IndexMap.{get}
-use Rattle.source_syntax.proofs.ChainLemmas.{chain_push, chain_undo}
+use Rattle.source_nodes.proofs.ChainLemmas.{chain_push, chain_undo}
 use Rattle.check_members.specs.MemberHashes.{member_hash}
 use Rattle.check_members.proofs.member_sets.Members.push.Goals as goal
 

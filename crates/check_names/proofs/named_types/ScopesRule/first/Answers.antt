@@ -1,5 +1,5 @@
 use Rattle.std.proofs.Common.{◌∙◌, ap, sym}
-use Rattle.source_syntax.specs.Least.{least}
+use Rattle.source_nodes.specs.Least.{least}
 use Rattle.check_names.specs.NamedTypes.{scope_missing_in, written_scope_by}
 use Rattle.check_names.specs.WrittenTypes.{written_of}
 use Rattle.check_names.proofs.NamedTypeLemmas.{none_of, some_of, tokens_of_name}

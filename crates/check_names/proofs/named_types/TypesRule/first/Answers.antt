@@ -1,9 +1,9 @@
 use Rattle.std.proofs.Common.{◌≡◌, ap, subst, sym}
 use Rattle.std.specs.Prelude.{All, IfOk}
 use Rattle.il_lexer.specs.declared.types.TokenKind.TheVariants as kind
-use Rattle.source_syntax.specs.Least.{least}
+use Rattle.source_nodes.specs.Least.{least}
 use Rattle.check_names.specs.NamedTypes.{path_missing, type_missing_in, written_scope_by}
-use Rattle.source_syntax.specs.Readers.{IsOf}
+use Rattle.source_nodes.specs.Readers.{IsOf}
 use Rattle.check_names.specs.WrittenTypes.{written_of}
 use Rattle.source_syntax.proofs.NameTokens.{all_of_each}
 use Rattle.check_names.proofs.NamedTypeLemmas.{none_of, some_of, tokens_of_name}

@@ -1,7 +1,7 @@
 use Rattle.std.proofs.Common.{◌∙◌, ap, sym}
 use Rattle.source_model.specs.Forest.{is_among}
 use Rattle.source_model.specs.TypeRules.{path_too_long}
-use Rattle.source_syntax.specs.Least.{least}
+use Rattle.source_nodes.specs.Least.{least}
 use Rattle.check_visitor.proofs.LeastOfRules.{then_rule}
 use Rattle.check_names.specs.AllOfParts.{name_broken}
 use Rattle.check_names.specs.Asked.{named}

@@ -4,8 +4,8 @@ use Rattle.il_lexer.specs.declared.types.TokenKind.TheVariants as kind
 use Rattle.type_terms.specs.declared.name.Scope.TheVariants.{Here}
 use Rattle.ilasm_grammar.specs.declared.productions.TheConstants.{PATH, SLASH_NAME, TYPE_NAME_PATH}
 use Rattle.source_model.specs.Forest.{child, has}
-use Rattle.source_syntax.specs.Least.{least}
-use Rattle.source_syntax.specs.Readers.{IsOf}
+use Rattle.source_nodes.specs.Least.{least}
+use Rattle.source_nodes.specs.Readers.{IsOf}
 use Rattle.check_names.specs.NamedTypes.{path_missing}
 use Rattle.check_names.proofs.LoneNames.{lone_broken, lone_is_name}
 use Rattle.check_names.proofs.parts.AllOfParts.first_named.Goals as goal

@@ -3,7 +3,7 @@ use Rattle.std.specs.Prelude.{Bool, IfOk, if◌then◌else◌, ◌==◌}
 use Rattle.std.proofs.lemmas.Bool.Decides.{Decides-eqb}
 use Rattle.ilasm_grammar.specs.declared.productions.TheConstants.{CLASS}
 use Rattle.source_model.specs.Nodes.{class_token}
-use Rattle.source_syntax.specs.Least.{least}
+use Rattle.source_nodes.specs.Least.{least}
 use Rattle.check_names.specs.Roots.{is_rootless}
 use Rattle.check_names.proofs.roots.RootlessRule.first.Goals as goal
 

@@ -1,6 +1,6 @@
 use Rattle.std.proofs.Common.{◌∙◌, ap, sym}
 use Rattle.source_model.specs.Instructions.{instructions_of, number_of_label}
-use Rattle.source_syntax.proofs.PieceLemmas.{as_many}
+use Rattle.source_nodes.proofs.PieceLemmas.{as_many}
 use Rattle.lower_bodies.proofs.code_places.Code.label_number.Goals as goal
 
 pub returns-in-Some : goal.returns-in-Some

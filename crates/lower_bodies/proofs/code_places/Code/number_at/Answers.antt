@@ -2,7 +2,7 @@ use Rattle.std.proofs.Common.{◌≡◌, ◌<◌, ◌^◌, ◌∙◌, map, refl,
 use Rattle.std.proofs.lemmas.List.{length-map}
 use Rattle.source_model.specs.Instructions.{instructions_of, mnemonic_token, number_at}
 use Rattle.lower_manifest.proofs.CodeLemmas.{number_fits, number_of_starts}
-use Rattle.source_syntax.proofs.PieceLemmas.{as_many}
+use Rattle.source_nodes.proofs.PieceLemmas.{as_many}
 use Rattle.lower_bodies.proofs.code_places.Code.number_at.Goals as goal
 
 pub returns : goal.returns

@@ -3,7 +3,7 @@ use Rattle.std.specs.Prelude.{nat_eq, position, slice_get}
 use Rattle.std.proofs.lemmas.List.{length-map}
 use Rattle.std.proofs.lemmas.Option.{same_Some, slice_get_read, slice_get_within}
 use Rattle.indexmap.specs.IndexMap.{get}
-use Rattle.source_syntax.proofs.ChainLemmas.{ahead_first, ahead_next, hashed_first, hashed_next}
+use Rattle.source_nodes.proofs.ChainLemmas.{ahead_first, ahead_next, hashed_first, hashed_next}
 use Rattle.lower_members.specs.MethodHashes.{signed_hash}
 use Rattle.lower_members.specs.SignedMethods.{Signed, is_signed, signed}
 use Rattle.lower_members.proofs.FirstSigned.{entries, entry, last_is_first, nowhere_first}

@@ -1,7 +1,7 @@
 use Rattle.std.proofs.Common.{◌≡◌, ℕ, ◌≤◌, Some, map, reverse}
 use Rattle.std.specs.Prelude.{slice_get}
-use Rattle.source_syntax.specs.Chains.{HasHash}
-use Rattle.source_syntax.proofs.ChainLemmas.{ahead_of}
+use Rattle.source_nodes.specs.Chains.{HasHash}
+use Rattle.source_nodes.proofs.ChainLemmas.{ahead_of}
 use Rattle.lower_members.specs.MethodHashes.{signed_hash}
 use Rattle.lower_members.specs.SignedMethods.{Signed, signed}
 use Rattle.lower_members.proofs.method_tables.MethodTable.find.Given as goal

@@ -2,8 +2,8 @@ use Rattle.std.proofs.Common.{rules, ◌≡◌, ◌<◌, ◌-◌, ◌+◌, ◌�
 use Rattle.std.specs.Prelude.{nat_eq, slice_get}
 use Rattle.std.proofs.lemmas.Option.{slice_get_read}
 use Rattle.indexmap.specs.IndexMap.{get}
-use Rattle.source_syntax.specs.Chains.{IsChained}
-use Rattle.source_syntax.proofs.ChainLemmas.{chain_push}
+use Rattle.source_nodes.specs.Chains.{IsChained}
+use Rattle.source_nodes.proofs.ChainLemmas.{chain_push}
 use Rattle.lower_members.specs.MethodHashes.{signed_hash}
 use Rattle.lower_members.specs.SignedMethods.{signed}
 use Rattle.lower_members.proofs.FirstSigned.{at_map, entered_next}

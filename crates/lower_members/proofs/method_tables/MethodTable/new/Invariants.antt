@@ -1,7 +1,7 @@
 use Rattle.std.proofs.Common.{◌≤◌, length, map, drop, reverse}
 use Rattle.std.specs.Prelude.{nat_eq}
 use Rattle.indexmap.specs.IndexMap.{get}
-use Rattle.source_syntax.specs.Chains.{IsChained}
+use Rattle.source_nodes.specs.Chains.{IsChained}
 use Rattle.lower_members.specs.MethodHashes.{signed_hash}
 use Rattle.lower_members.specs.SignedMethods.{signed}
 use Rattle.lower_members.proofs.method_tables.MethodTable.new.Given as goal

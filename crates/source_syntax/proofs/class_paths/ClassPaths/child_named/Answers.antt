@@ -1,10 +1,10 @@
 use Rattle.std.proofs.Common.{◌≡◌, ◌∙◌, true, false, ◌+◌, suc, length, Some, ap, sym, arith}
 use Rattle.std.proofs.lemmas.Option.{same_Some, slice_get_within}
 use Rattle.hash_places.specs.Slots.{place_of}
-use Rattle.source_syntax.specs.NameTexts.{id_with}
+use Rattle.source_nodes.specs.NameTexts.{id_with}
 use Rattle.source_syntax.specs.ClassNumbers.{class_hash, class_in, class_of, is_class}
 use Rattle.source_syntax.specs.ClassTexts.{class_at, classes_in}
-use Rattle.source_syntax.proofs.ChainLemmas.{ahead_next, hashed_next, smaller_next, ahead_of-smaller}
+use Rattle.source_nodes.proofs.ChainLemmas.{ahead_next, hashed_next, smaller_next, ahead_of-smaller}
 use Rattle.source_syntax.proofs.ClassLemmas.{is_apart, nowhere, place_is}
 use Rattle.source_syntax.proofs.KeptClasses.{class_is, classes_long, older_is, read, read_is}
 use Rattle.source_syntax.proofs.class_paths.ClassPaths.child_named.Goals as goal

@@ -1,10 +1,10 @@
 use Rattle.std.proofs.Common.{◌≡◌, ℕ, ◌≤◌, Some}
 use Rattle.std.specs.Prelude.{slice_get}
-use Rattle.source_syntax.specs.Chains.{HasHash}
-use Rattle.source_syntax.specs.NameTexts.{id_with}
+use Rattle.source_nodes.specs.Chains.{HasHash}
+use Rattle.source_nodes.specs.NameTexts.{id_with}
 use Rattle.source_syntax.specs.ClassNumbers.{class_hash, class_of}
 use Rattle.source_syntax.specs.ClassTexts.{classes_in}
-use Rattle.source_syntax.proofs.ChainLemmas.{ahead_of}
+use Rattle.source_nodes.proofs.ChainLemmas.{ahead_of}
 use Rattle.source_syntax.proofs.class_paths.ClassPaths.child_named.Given as goal
 
 abbrev pub invariant-loop-at : goal.invariant-loop-at

@@ -4,9 +4,9 @@ use Rattle.std.proofs.lemmas.List.{take_at}
 use Rattle.hash_places.specs.Slots.{place_of}
 use Rattle.source_syntax.specs.ClassNumbers.{IsNumber, class_hash, class_in, class_of}
 use Rattle.source_syntax.specs.ClassTexts.{classes_in}
-use Rattle.source_syntax.specs.NameTexts.{id_with}
+use Rattle.source_nodes.specs.NameTexts.{id_with}
 use Rattle.source_syntax.specs.declared.class_paths.KeptClass.{KeptClass}
-use Rattle.source_syntax.proofs.ChainLemmas.{set_last}
+use Rattle.source_nodes.proofs.ChainLemmas.{set_last}
 use Rattle.source_syntax.proofs.KeptClasses.{classes_more, classes_push, kept_more, kept_push}
 use Rattle.source_syntax.proofs.class_paths.ClassPaths.push_named.Goals as goal
 

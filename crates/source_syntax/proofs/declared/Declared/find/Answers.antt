@@ -1,6 +1,6 @@
 use Rattle.std.proofs.Common.{◌≡◌, ◌+◌, Some, None, sym, ◌∙◌, ap}
 use Rattle.std.specs.Prelude.{position, bytes_eq}
-use Rattle.source_syntax.specs.ChainedTexts.{one_of}
+use Rattle.source_nodes.specs.ChainedTexts.{one_of}
 use Rattle.source_syntax.proofs.Positions.{in_first, in_neither, in_second}
 use Rattle.source_syntax.proofs.declared.Declared.find.Goals as goal
 

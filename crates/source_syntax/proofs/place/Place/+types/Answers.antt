@@ -4,7 +4,7 @@ use Rattle.type_terms.specs.declared.term.SigType.TheVariants.{Prim}
 use Rattle.ilasm_grammar.specs.declared.productions.TheConstants.{TYPE, SPEC_TYPE_NAME, SPEC_TYPE, TYPE_BASE_INT_TYPE, TYPE_BASE_VOID}
 use Rattle.source_model.specs.Types.{base_type, the_owner}
 use Rattle.source_syntax.specs.BaseTypes.{made_type}
-use Rattle.source_syntax.proofs.Collecting.{below_is, after_is, behind_is, is_branch}
+use Rattle.source_nodes.proofs.Collecting.{below_is, after_is, behind_is, is_branch}
 use Rattle.source_syntax.proofs.TypeWalks.{types_start, types_take, types_go_in, types_end, type_found, word_split, no_type, type_split, wraps_start, suffix_branch, wraps_take, wraps_go_in, wraps_end, modreq_is, modopt_is, mod_is, Types, owners_start, owners_go_in, no_owner, name_is_owner, type_is_owner, empty_type, other_type}
 use Rattle.source_syntax.proofs.place.Place.+types.Goals as goal
 

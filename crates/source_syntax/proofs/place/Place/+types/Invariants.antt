@@ -4,7 +4,7 @@ use Rattle.source_model.specs.Nodes.{Around}
 use Rattle.source_model.specs.Source.{Source}
 use Rattle.source_model.specs.Types.{suffixed}
 use Rattle.source_syntax.specs.Places.{IsAt, IsReadable}
-use Rattle.source_syntax.specs.Walk.{IsForest}
+use Rattle.source_nodes.specs.Walk.{IsForest}
 use Rattle.source_syntax.proofs.TypeWalks.{Types, Wraps, Owned}
 use Rattle.source_syntax.proofs.place.Place.+types.Given as goal
 

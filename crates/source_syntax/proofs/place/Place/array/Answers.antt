@@ -1,8 +1,8 @@
 use Rattle.std.proofs.Common.{◌≡◌, ◌<◌, ◌^◌, map, length, sym, subst, ap, ◌∙◌, arith}
 use Rattle.std.proofs.lemmas.Result.{IfOk-weaker}
 use Rattle.source_model.specs.Types.{array}
-use Rattle.source_syntax.specs.Dimensions.{AreInRange, bound_of}
-use Rattle.source_syntax.proofs.ShapeLemmas.{few_dimensions}
+use Rattle.source_nodes.specs.Dimensions.{AreInRange, bound_of}
+use Rattle.source_nodes.proofs.ShapeLemmas.{few_dimensions}
 use Rattle.source_syntax.proofs.SuffixLemmas.{bounds_in_range, shape_is, vector_is}
 use Rattle.source_syntax.proofs.place.Place.array.Goals as goal
 

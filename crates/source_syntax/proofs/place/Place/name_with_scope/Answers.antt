@@ -2,7 +2,7 @@ use Rattle.std.proofs.Common.{[], ◌∷◌, sym, subst}
 use Rattle.il_lexer.specs.declared.types.TokenKind.TheVariants.{Scope}
 use Rattle.ilasm_grammar.specs.declared.productions.TheConstants.{PATH}
 use Rattle.source_model.specs.Forest.{child}
-use Rattle.source_syntax.specs.Readers.{IsOf}
+use Rattle.source_nodes.specs.Readers.{IsOf}
 use Rattle.source_syntax.proofs.TypeNames.{with_its_scope}
 use Rattle.source_syntax.proofs.place.Place.name_with_scope.Goals as goal
 

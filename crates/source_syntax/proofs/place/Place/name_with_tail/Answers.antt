@@ -4,7 +4,7 @@ use Rattle.il_lexer.specs.declared.types.TokenKind.TheVariants as kind
 use Rattle.ilasm_grammar.specs.declared.productions.TheConstants.{PATH}
 use Rattle.source_model.specs.Forest.{child}
 use Rattle.source_model.specs.Names.{name_and_tail, or_module}
-use Rattle.source_syntax.specs.Readers.{IsOf}
+use Rattle.source_nodes.specs.Readers.{IsOf}
 use Rattle.source_syntax.proofs.NameTails.{before_slash}
 use Rattle.source_syntax.proofs.place.Place.name_with_tail.Goals as goal
 

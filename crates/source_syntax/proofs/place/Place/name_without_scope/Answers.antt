@@ -2,7 +2,7 @@ use Rattle.std.proofs.Common.{[], ◌∷◌, sym}
 use Rattle.ilasm_grammar.specs.declared.productions.TheConstants.{PATH}
 use Rattle.source_model.specs.Forest.{child}
 use Rattle.source_syntax.proofs.TypeNames.{alone}
-use Rattle.source_syntax.proofs.WrittenNames.{path_alone}
+use Rattle.source_nodes.proofs.WrittenNames.{path_alone}
 use Rattle.source_syntax.proofs.place.Place.name_without_scope.Goals as goal
 
 pub returns : goal.returns

@@ -1,6 +1,6 @@
 use Rattle.std.proofs.Common.{sym, ◌∙◌}
 use Rattle.ilasm_grammar.specs.declared.productions.TheConstants.{SPEC_TYPE, SPEC_TYPE_NAME}
-use Rattle.source_syntax.proofs.Collecting.{after_is, behind_is, below_is, is_branch}
+use Rattle.source_nodes.proofs.Collecting.{after_is, behind_is, below_is, is_branch}
 use Rattle.source_syntax.proofs.OwnerLemmas.{name_taken, owners_end, owners_go_in, owners_start, type_taken}
 use Rattle.source_syntax.proofs.place.Place.owners_in.Goals as goal
 

@@ -3,7 +3,7 @@ use Rattle.source_model.specs.Forest.{Forest, preorder}
 use Rattle.source_model.specs.Nodes.{Around}
 use Rattle.source_model.specs.Source.{Source}
 use Rattle.source_syntax.specs.Places.{IsAt, IsReadable}
-use Rattle.source_syntax.specs.Walk.{IsForest}
+use Rattle.source_nodes.specs.Walk.{IsForest}
 use Rattle.source_syntax.proofs.OwnerLemmas.{Owners}
 use Rattle.source_syntax.proofs.place.Place.owners_in.Given as goal
 

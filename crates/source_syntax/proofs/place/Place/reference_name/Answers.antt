@@ -7,7 +7,7 @@ use Rattle.source_model.specs.Forest.{child, leaf_at, the}
 use Rattle.source_model.specs.References.{method_name, reference_name}
 use Rattle.source_model.specs.Values.{name_text}
 use Rattle.source_syntax.specs.Places.{IsSound}
-use Rattle.source_syntax.specs.Readers.{IsOf}
+use Rattle.source_nodes.specs.Readers.{IsOf}
 use Rattle.source_syntax.proofs.ReferenceLemmas.{lone_name, of_the}
 use Rattle.source_syntax.proofs.TypeWalks.{has_bodies}
 use Rattle.source_syntax.proofs.place.Place.reference_name.Goals as goal

@@ -1,9 +1,9 @@
 use Rattle.std.proofs.Common.{◌≡◌, sym, subst, refl, ◌∙◌}
 use Rattle.std.specs.Prelude.{IfOk}
 use Rattle.ilasm_grammar.specs.declared.productions.TheConstants.{TYPE_NAME_SCOPE, TYPE_NAME_PATH}
-use Rattle.source_syntax.proofs.Collecting.{below_is, behind_is, is_branch}
+use Rattle.source_nodes.proofs.Collecting.{below_is, behind_is, is_branch}
 use Rattle.source_syntax.proofs.TypeNames.{name_found, name_starts, name_goes_in, no_name}
-use Rattle.source_syntax.proofs.WrittenNames.{path_child, scope_begins}
+use Rattle.source_nodes.proofs.WrittenNames.{path_child, scope_begins}
 use Rattle.source_syntax.proofs.place.Place.type_name.Goals as goal
 
 pub loop-x-init : goal.loop-x-init

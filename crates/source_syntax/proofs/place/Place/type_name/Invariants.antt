@@ -1,9 +1,9 @@
 use Rattle.std.proofs.Common.{◌≡◌, [], length}
 use Rattle.source_model.specs.Forest.{Forest, preorder}
 use Rattle.source_model.specs.Source.{Source}
-use Rattle.source_syntax.specs.Derived.{FitsBody, HasBodies}
-use Rattle.source_syntax.specs.Walk.{IsForest}
-use Rattle.source_syntax.proofs.Collecting.{SoFar}
+use Rattle.source_nodes.specs.Derived.{FitsBody, HasBodies}
+use Rattle.source_nodes.specs.Walk.{IsForest}
+use Rattle.source_nodes.proofs.Collecting.{SoFar}
 use Rattle.source_syntax.proofs.TypeNames.{name_parts}
 use Rattle.source_syntax.proofs.place.Place.type_name.Given as goal
 

@@ -1,5 +1,5 @@
 use Rattle.std.proofs.Common.{sym, ◌∙◌}
-use Rattle.source_syntax.proofs.Collecting.{below_is, after_is, behind_is, is_branch}
+use Rattle.source_nodes.proofs.Collecting.{below_is, after_is, behind_is, is_branch}
 use Rattle.source_syntax.proofs.SignatureLemmas.{arguments_start, argument_taken, arguments_go_in, arguments_end}
 use Rattle.source_syntax.proofs.place.Place.types_of.Goals as goal
 

@@ -6,7 +6,7 @@ use Rattle.source_model.specs.Forest.{has, leaf_at, the}
 use Rattle.source_model.specs.Shapes.{natural}
 use Rattle.source_model.specs.Types.{number_of}
 use Rattle.source_model.specs.Values.{int_at, name_text}
-use Rattle.source_syntax.specs.Readers.{IsOf}
+use Rattle.source_nodes.specs.Readers.{IsOf}
 use Rattle.source_syntax.proofs.VariableLemmas.{written_number, written_name}
 use Rattle.source_syntax.proofs.place.Place.variable.Goals as goal
 

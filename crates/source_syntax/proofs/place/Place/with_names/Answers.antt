@@ -1,6 +1,6 @@
 use Rattle.std.proofs.Common.{◌++◌, refl, sym, ◌∙◌}
 use Rattle.ilasm_grammar.specs.declared.productions.TheConstants.{SLASH_NAME}
-use Rattle.source_syntax.proofs.Collecting.{below_is, after_is, behind_is, is_branch}
+use Rattle.source_nodes.proofs.Collecting.{below_is, after_is, behind_is, is_branch}
 use Rattle.source_syntax.proofs.PathLemmas.{name_taken, names_end, names_go_in, names_start}
 use Rattle.source_syntax.proofs.ScopeLemmas.{later_ids}
 use Rattle.source_syntax.proofs.place.Place.with_names.Goals as goal

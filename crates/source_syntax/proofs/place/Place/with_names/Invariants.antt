@@ -2,9 +2,9 @@ use Rattle.std.proofs.Common.{◌≡◌, ◌++◌, length}
 use Rattle.source_model.specs.Forest.{Forest, preorder}
 use Rattle.source_model.specs.Nodes.{Around}
 use Rattle.source_model.specs.Source.{Source}
-use Rattle.source_syntax.specs.Derived.{HasBodies}
+use Rattle.source_nodes.specs.Derived.{HasBodies}
 use Rattle.source_syntax.specs.Places.{IsAt}
-use Rattle.source_syntax.specs.Walk.{IsForest}
+use Rattle.source_nodes.specs.Walk.{IsForest}
 use Rattle.source_syntax.proofs.PathLemmas.{Names}
 use Rattle.source_syntax.proofs.ScopeLemmas.{later_ids}
 use Rattle.source_syntax.proofs.place.Place.with_names.Given as goal

@@ -1,0 +1,2 @@
+pub mod CappedLemmas
+pub mod KeyLemmas

@@ -1,0 +1,6 @@
+use Rattle.std.proofs.Common.{◌≡◌, take, fold}
+use Rattle.source_nodes.specs.TextHash.{mix}
+use Rattle.source_nodes.proofs.hashes.mix_text.Given as goal
+
+abbrev pub invariant-loop-byte : goal.invariant-loop-byte
+invariant-loop-byte l = l.hash ≡ fold mix l.fn.hash (take l.byte-index l.text)

@@ -1,0 +1,7 @@
+use Rattle.std.proofs.Common.{◌≡◌, List, map, take}
+use Rattle.source_model.specs.Forest.{Part, first_token}
+use Rattle.source_nodes.specs.Pieces.{ArePieces}
+use Rattle.source_nodes.proofs.pieces.first_tokens.Given as goal
+
+abbrev pub invariant-loop-piece : goal.invariant-loop-piece
+invariant-loop-piece l = (ps : List Part) → ArePieces l.nodes l.found ps → l.tokens ≡ map (λ p. first_token p.below) (take l.piece-index ps)

@@ -1,0 +1,14 @@
+use Rattle.std.proofs.Common.{◌≡◌, length}
+use Rattle.source_model.specs.Forest.{Forest, preorder}
+use Rattle.source_nodes.specs.Walk.{IsForest}
+use Rattle.source_nodes.proofs.ShapeLemmas.{Dimensions}
+use Rattle.source_nodes.proofs.shapes.dimensions.Given as goal
+
+abbrev pub invariant-loop-x : goal.invariant-loop-x
+invariant-loop-x l = record {
+  forest : IsForest l.left;
+  so_far : (f : Forest) → preorder f ≡ l.nodes → Dimensions f l.left l.found;
+}
+
+abbrev pub decreases-loop-x : goal.decreases-loop-x
+decreases-loop-x l = length l.left

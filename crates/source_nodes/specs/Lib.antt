@@ -1,0 +1,12 @@
+pub mod ChainedTexts
+pub mod Chains
+pub mod Derived
+pub mod Dimensions
+pub mod Gaps
+pub mod Integers
+pub mod Least
+pub mod NameTexts
+pub mod Pieces
+pub mod Readers
+pub mod TextHash
+pub mod Walk

@@ -1,6 +1,0 @@
-use Rattle.std.proofs.Common.{◌≡◌, take, fold}
-use Rattle.source_syntax.specs.TextHash.{mix}
-use Rattle.source_syntax.proofs.hashes.mix_text.Given as goal
-
-abbrev pub invariant-loop-byte : goal.invariant-loop-byte
-invariant-loop-byte l = l.hash ≡ fold mix l.fn.hash (take l.byte-index l.text)

@@ -1,9 +1,0 @@
-use Rattle.std.proofs.Common.{sym, subst, ◌∙◌}
-use Rattle.std.specs.Prelude.{IsUtf8}
-use Rattle.source_syntax.proofs.Utf8Lemmas.{named_whole}
-use Rattle.source_syntax.proofs.values.type_names.quoted_text.Goals as goal
-
-pub returns : goal.returns
-returns c =
-    named_whole c.args.spelling.now c.in_ok-name.name.text c.in_ok-name.name.last c.in_ok-name.ensures c.in_ok-text.text
-    (λ u. c.in_ok-text.ensures (subst IsUtf8 (sym c.as_slice.ensures) u) ∙ c.as_slice.ensures)

@@ -1,9 +1,0 @@
-use Rattle.std.proofs.Common.{length}
-use Rattle.source_syntax.proofs.Walks.{Asks, child_nodes}
-use Rattle.source_syntax.proofs.walk.child.Given as goal
-
-abbrev pub invariant-loop-node : goal.invariant-loop-node
-invariant-loop-node l = Asks (child_nodes l.production) (child_nodes l.production) l.nodes l.left
-
-abbrev pub decreases-loop-node : goal.decreases-loop-node
-decreases-loop-node l = length l.left
