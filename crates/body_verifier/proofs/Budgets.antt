@@ -4,10 +4,10 @@ use Rattle.std.specs.List.{sum_by}
 use Rattle.type_terms.specs.declared.term.SigType.{SigType}
 use Rattle.type_hierarchy.specs.Hierarchy.{Hierarchy}
 use Rattle.type_hierarchy.specs.Laws.{IsGrounded}
-use Rattle.body_verifier.specs.Meetings.{IsNewMeeting}
+use Rattle.stack_states.specs.Meetings.{IsNewMeeting}
 use Rattle.body_verifier.specs.Potential.{IsLow, changes, total, potential}
 use Rattle.code_flow.specs.Typings.{State, Typing}
-use Rattle.body_verifier.specs.Waiting.{Waiting, pushed}
+use Rattle.stack_states.specs.Waiting.{Waiting, pushed}
 use Rattle.body_verifier.specs.Ways.{Setup, IsSetUp, HasNoMore, HasLessAt}
 use Rattle.body_verifier.proofs.Following.{IsChanged}
 use Rattle.body_verifier.proofs.Ranks.{changes_fall}

@@ -31,11 +31,11 @@ use Rattle.type_hierarchy.specs.World.{Content, hierarchy, Stays}
 use Rattle.type_order.specs.Worlds.{IsFit, IsWorldSince}
 use Rattle.code_flow.specs.declared.blocks.Spans.{Spans}
 use Rattle.body_verifier.specs.declared.code_marks.CodeMarks.{CodeMarks}
-use Rattle.stack_effects.specs.declared.frame.CodeFrame.{CodeFrame}
+use Rattle.stack_rows.specs.declared.frame.CodeFrame.{CodeFrame}
 use Rattle.body_verifier.specs.declared.report.Broken.{Broken}
 use Rattle.body_verifier.specs.declared.report.Failure.{Failure}
-use Rattle.stack_effects.specs.declared.row.Row.{Row}
-use Rattle.body_verifier.specs.declared.state.State.{State}
+use Rattle.stack_rows.specs.declared.row.Row.{Row}
+use Rattle.stack_states.specs.declared.state.State.{State}
 use Rattle.code_flow.specs.BlockTests.{spans_of}
 use Rattle.code_flow.specs.Blocks.{ClausesNest}
 use Rattle.body_verifier.specs.Checking.{AreBroken, BreaksWhole, HasBody, IsFrameOf, IsReady, IsWhole, above, broken_at, setup, unnested, uninitialised, explicit}
@@ -48,10 +48,10 @@ use Rattle.code_flow.specs.Methods.{Declared, Nested, method_at, type_by_place}
 use Rattle.code_flow.specs.Paths.{NeverWrong}
 use Rattle.body_verifier.specs.Reports as reports
 use Rattle.body_verifier.specs.Reports.{Fails, Lists, none_more, next, Reports, reported, is_uninitialised}
-use Rattle.stack_effects.specs.RowMeanings.{IsRowWithin, MeansFrame, row_meant}
+use Rattle.stack_rows.specs.RowMeanings.{IsRowWithin, MeansFrame, row_meant}
 use Rattle.code_flow.specs.Rows.{row_of}
 use Rattle.code_flow.specs.Rules.{BreaksFirst}
-use Rattle.body_verifier.specs.StateMeanings.{IsStateWithin, state_meant, state_or_none, typing_of}
+use Rattle.stack_states.specs.StateMeanings.{IsStateWithin, state_meant, state_or_none, typing_of}
 use Rattle.body_verifier.specs.StepBound.{height, AreEdges, step_bound}
 use Rattle.code_flow.specs.Typings.{Typing}
 use Rattle.body_verifier.specs.Verdicts.{Judges}
@@ -59,7 +59,7 @@ use Rattle.body_verifier.specs.Ways.{AreRows, IsSetUp, Setup}
 use Rattle.body_verifier.proofs.Breaking.{skips, lists_next, lists_end, quiet_all, same_body}
 use Rattle.body_verifier.proofs.EdgeStart.{within_there}
 use Rattle.body_verifier.proofs.FollowLemmas.{state_kept}
-use Rattle.stack_effects.proofs.Growing.{frame_kept, row_kept}
+use Rattle.stack_rows.proofs.Growing.{frame_kept, row_kept}
 use Rattle.body_verifier.proofs.Heights.{grounded_types, height_low, set_up}
 use Rattle.body_verifier.proofs.Walking.{IsDeclaredIn, declared_at, found_method, same_place}
 use Rattle.body_verifier.proofs.Weighing.{IsLightBody, light_body, few_instructions, few_clauses, few_generics}
@@ -136,7 +136,7 @@ ready a w d b s c ranges h nest spans world = record {
 }
 
 pub frame_of_body : (a : Assembly) (w : Hierarchy) (d : Declared) (b : Body) (ns : List Node) (v : CodeFrame) (ranges : List Spans) → ranges ≡ map spans_of b.clauses
-    → Rattle.stack_effects.specs.RowMeanings.MeansFrame ns v (frame a w d b) → IsFrameOf (frame a w d b) a ns v b ranges
+    → Rattle.stack_rows.specs.RowMeanings.MeansFrame ns v (frame a w d b) → IsFrameOf (frame a w d b) a ns v b ranges
 unfolding frame
 frame_of_body a w d b ns v ranges spans means = record { image = refl; variables = means; code = refl; spans = spans; bound = refl }
 

@@ -18,16 +18,16 @@ use Rattle.type_hierarchy.specs.World.{Content, hierarchy, Stays}
 use Rattle.code_flow.specs.declared.goings.Carried.{Carried}
 use Rattle.code_flow.specs.declared.goings.Carried.TheVariants.{Flowing, Nothing, Object, Caught}
 use Rattle.code_flow.specs.declared.goings.Going.{Going}
-use Rattle.body_verifier.specs.declared.state.State.{State}
-use Rattle.body_verifier.specs.declared.state.State.TheVariants.{Unreached, Stack, Clash}
+use Rattle.stack_states.specs.declared.state.State.{State}
+use Rattle.stack_states.specs.declared.state.State.TheVariants.{Unreached, Stack, Clash}
 use Rattle.body_verifier.specs.declared.stated.Stated.{Stated}
 use Rattle.code_flow.specs.Edges as edges
 use Rattle.code_flow.specs.Frames.{Frame}
-use Rattle.body_verifier.specs.Meetings.{IsMeeting, IsNewMeeting}
+use Rattle.stack_states.specs.Meetings.{IsMeeting, IsNewMeeting}
 use Rattle.body_verifier.specs.Potential.{IsLow, reached}
-use Rattle.body_verifier.specs.StateMeanings.{state_meant, state_or_none, state_depth, depth_or_none, IsStateWithin, typing_of}
+use Rattle.stack_states.specs.StateMeanings.{state_meant, state_or_none, state_depth, depth_or_none, IsStateWithin, typing_of}
 use Rattle.code_flow.specs.Typings as typings
-use Rattle.body_verifier.specs.Waiting.{Waiting, has, pushed}
+use Rattle.stack_states.specs.Waiting.{Waiting, has, pushed}
 use Rattle.body_verifier.specs.Ways.{Setup, IsSetUp, IsShallow, HasNoMore, brought, AreStated, Says, AreWays, charge_of, charge, Raises, stays, rises, IsDepth, HasLessAt, depth_charge, depth_charges}
 use Rattle.body_verifier.proofs.Budgets.{changed_budget, no_more_then, changed_less, less_then}
 use Rattle.body_verifier.proofs.FollowLemmas.{state_kept, states_kept, typing_kept}

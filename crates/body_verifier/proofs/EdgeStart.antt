@@ -17,19 +17,19 @@ use Rattle.type_hierarchy.specs.World.{Content, hierarchy, Stays}
 use Rattle.code_flow.specs.declared.goings.Carried.{Carried}
 use Rattle.code_flow.specs.declared.goings.Carried.TheVariants.{Flowing, Nothing, Object, Caught}
 use Rattle.code_flow.specs.declared.goings.Going.{Going}
-use Rattle.stack_effects.specs.declared.row.Row.{Row}
-use Rattle.body_verifier.specs.declared.state.State.{State}
-use Rattle.body_verifier.specs.declared.state.State.TheVariants.{Unreached, Stack, Clash}
+use Rattle.stack_rows.specs.declared.row.Row.{Row}
+use Rattle.stack_states.specs.declared.state.State.{State}
+use Rattle.stack_states.specs.declared.state.State.TheVariants.{Unreached, Stack, Clash}
 use Rattle.body_verifier.specs.declared.stated.Stated.{Stated}
 use Rattle.code_flow.specs.Edges as edges
 use Rattle.code_flow.specs.Effects.{effect}
 use Rattle.code_flow.specs.Frames.{Frame}
 use Rattle.body_verifier.specs.Potential.{IsLow, reached, one_if_reached, total}
-use Rattle.stack_effects.specs.RowMeanings.{row_meant}
+use Rattle.stack_rows.specs.RowMeanings.{row_meant}
 use Rattle.code_flow.specs.Rows as rows
-use Rattle.body_verifier.specs.StateMeanings.{state_meant, state_or_none, is_unreached, IsStateWithin, typing_of}
+use Rattle.stack_states.specs.StateMeanings.{state_meant, state_or_none, is_unreached, IsStateWithin, typing_of}
 use Rattle.code_flow.specs.Typings as typings
-use Rattle.body_verifier.specs.Waiting.{Waiting}
+use Rattle.stack_states.specs.Waiting.{Waiting}
 use Rattle.body_verifier.specs.Ways.{Setup, IsSetUp, IsOnTheWay, IsShallow, IsUnderWay, HasNoMore, flows, AreStated, Says, AreWays, charge, HasLessAt}
 use Rattle.body_verifier.proofs.EdgeLoop.{IsSetOff, IsFollowing, going_at, target_of, value_of, says_what}
 use Rattle.body_verifier.proofs.FollowLemmas.{state_kept, states_kept, typing_kept}

@@ -12,13 +12,13 @@ use Rattle.type_hierarchy.specs.World.{Content, hierarchy, Stays}
 use Rattle.code_flow.specs.declared.goings.Carried.{Carried}
 use Rattle.code_flow.specs.declared.goings.Carried.TheVariants.{Flowing, Nothing, Object, Caught}
 use Rattle.code_flow.specs.declared.goings.Going.{Going}
-use Rattle.body_verifier.specs.declared.state.State.{State}
-use Rattle.body_verifier.specs.declared.state.State.TheVariants.{Unreached, Stack, Clash}
+use Rattle.stack_states.specs.declared.state.State.{State}
+use Rattle.stack_states.specs.declared.state.State.TheVariants.{Unreached, Stack, Clash}
 use Rattle.body_verifier.specs.declared.stated.Stated.{Stated}
-use Rattle.stack_effects.specs.RowMeanings.{stack_meant}
-use Rattle.body_verifier.specs.StateMeanings.{state_meant, state_or_none, state_depth, depth_or_none, IsStateWithin, typing_of}
+use Rattle.stack_rows.specs.RowMeanings.{stack_meant}
+use Rattle.stack_states.specs.StateMeanings.{state_meant, state_or_none, state_depth, depth_or_none, IsStateWithin, typing_of}
 use Rattle.code_flow.specs.Typings as typings
-use Rattle.body_verifier.proofs.StackLemmas.{stack_kept}
+use Rattle.stack_states.proofs.StackLemmas.{stack_kept}
 
 -- ---- what states mean as the pool grows
 

@@ -10,14 +10,14 @@ use Rattle.type_hierarchy.specs.Laws.{IsOrder}
 use Rattle.code_flow.specs.Edges.{Carries, flowing, stated, Edge}
 use Rattle.code_flow.specs.Frames.{Frame}
 use Rattle.code_flow.specs.Laws.{IsMonotone, AreMonotone}
-use Rattle.body_verifier.specs.Meetings.{IsMeeting, IsNewMeeting}
+use Rattle.stack_states.specs.Meetings.{IsMeeting, IsNewMeeting}
 use Rattle.body_verifier.specs.Potential.{IsLow, reached, one_if_reached, total, potential, changes}
 use Rattle.code_flow.specs.Stacks.{Each}
 use Rattle.code_flow.specs.Typings.{State, unreached, stack, clash, Typing, AtMost, below_all, above_all, stacks, stack_after, carried, IsSolution, IsAtMost, IsLeast}
-use Rattle.body_verifier.specs.Waiting.{has}
+use Rattle.stack_states.specs.Waiting.{has}
 use Rattle.body_verifier.specs.Ways.{IsSettled, IsOnTheWay, IsShallow}
 use Rattle.body_verifier.proofs.Solutions.{state_itself, state_trans, carried_lower}
-use Rattle.body_verifier.proofs.StackLemmas.{each_depth, at_or_before}
+use Rattle.stack_states.proofs.StackLemmas.{each_depth, at_or_before}
 use Rattle.body_verifier.proofs.Totals.{total_at_most, total_but}
 
 pub has_cases : (ks : List ℕ) (k i : ℕ) → has (k ∷ ks) i ≡ true → (i ≡ k) ⊎ (has ks i ≡ true)

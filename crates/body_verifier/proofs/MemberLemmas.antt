@@ -7,7 +7,7 @@ use Rattle.type_terms.specs.declared.term.SigType.{SigType}
 use Rattle.assembly_tree.specs.declared.body.Ins.{Ins}
 use Rattle.sig_pool.specs.declared.node.Node.{Node}
 use Rattle.sig_pool.specs.Terms.{term_of}
-use Rattle.stack_effects.specs.declared.frame.CodeFrame.{CodeFrame}
+use Rattle.stack_rows.specs.declared.frame.CodeFrame.{CodeFrame}
 use Rattle.code_flow.specs.declared.operation.Operation.{Operation}
 use Rattle.code_flow.specs.declared.operation.Operation.TheVariants as does
 use Rattle.code_flow.specs.Frames.{Frame}
@@ -16,7 +16,7 @@ use Rattle.body_verifier.specs.MemberTests.{HasOther, is_reference_there, addres
 use Rattle.type_order.specs.Fields.{fields_meant}
 use Rattle.code_flow.specs.Methods.{is_static}
 use Rattle.code_flow.specs.Operations.{operation}
-use Rattle.stack_effects.specs.RowMeanings.{type_option, MeansFrame}
+use Rattle.stack_rows.specs.RowMeanings.{type_option, MeansFrame}
 use Rattle.code_flow.specs.Rows.{variable, argument, local}
 use Rattle.code_flow.specs.Rules.{wants_static, MisfitsField, MisfitsMember, is_by_reference, addressed}
 use Rattle.code_flow.proofs.PairLemmas.{one_item}

@@ -3,11 +3,11 @@ use Rattle.std.proofs.Common.{◌≡◌, ◌≢◌, ◌⊎◌, inl, inr, refl, s
 use Rattle.std.specs.Prelude.{slice_get, slice_set}
 use Rattle.sig_pool.specs.declared.node.Node.{Node}
 use Rattle.type_hierarchy.specs.Hierarchy.{Hierarchy}
-use Rattle.body_verifier.specs.declared.state.State.{State}
-use Rattle.body_verifier.specs.Meetings.{IsNewMeeting}
-use Rattle.body_verifier.specs.StateMeanings.{state_meant, state_or_none, MeetsAs, IsStateWithin, typing_of}
+use Rattle.stack_states.specs.declared.state.State.{State}
+use Rattle.stack_states.specs.Meetings.{IsNewMeeting}
+use Rattle.stack_states.specs.StateMeanings.{state_meant, state_or_none, MeetsAs, IsStateWithin, typing_of}
 use Rattle.code_flow.specs.Typings as typings
-use Rattle.body_verifier.specs.Waiting.{Waiting, pushed}
+use Rattle.stack_states.specs.Waiting.{Waiting, pushed}
 use Rattle.body_verifier.specs.Ways.{Raises, rises, stays}
 
 pub raised : (w : Hierarchy) (ns : List Node) (states : List State) (list : Waiting) (t : ℕ) (comes : State) (ms : List Node) (x met : State) (after : List State) (later : Waiting)

@@ -11,17 +11,17 @@ use Rattle.sig_pool.specs.Pool.{Extends}
 use Rattle.type_hierarchy.specs.Hierarchy.{Hierarchy}
 use Rattle.type_hierarchy.specs.Tables.{hierarchy_in}
 use Rattle.type_hierarchy.specs.World.{Content, hierarchy, Stays}
-use Rattle.stack_effects.specs.declared.frame.CodeFrame.{CodeFrame}
+use Rattle.stack_rows.specs.declared.frame.CodeFrame.{CodeFrame}
 use Rattle.code_flow.specs.declared.operation.Operation.{Operation}
-use Rattle.stack_effects.specs.declared.row.Row.{Row}
+use Rattle.stack_rows.specs.declared.row.Row.{Row}
 use Rattle.code_flow.specs.Frames.{Frame}
 use Rattle.code_flow.specs.Operations.{operation}
-use Rattle.stack_effects.specs.RowMeanings.{framed, type_option, row_meant, IsRowWithin, IsFrameWithin, MeansFrame, MeansRow}
+use Rattle.stack_rows.specs.RowMeanings.{framed, type_option, row_meant, IsRowWithin, IsFrameWithin, MeansFrame, MeansRow}
 use Rattle.code_flow.specs.Rows.{row_by, row_of, constraint, constraint_by, constraint_of}
 use Rattle.body_verifier.specs.Ways.{AreRows}
-use Rattle.stack_effects.proofs.Growing.{extends_long, below_kept, frame_kept, row_within, row_same, row_kept}
+use Rattle.stack_rows.proofs.Growing.{extends_long, below_kept, frame_kept, row_within, row_same, row_kept}
 use Rattle.code_flow.proofs.PairLemmas.{one_item}
-use Rattle.stack_effects.proofs.RowParts.{option_same}
+use Rattle.stack_rows.proofs.RowParts.{option_same}
 
 -- ---- lists
 

@@ -6,7 +6,7 @@ use Rattle.assembly_tree.specs.declared.body.Ins.{Ins}
 use Rattle.type_hierarchy.specs.Stack.{Stack}
 use Rattle.code_flow.specs.declared.operation.Operation.{Operation}
 use Rattle.code_flow.specs.declared.operation.Operation.TheVariants as does
-use Rattle.body_verifier.specs.Asking.{HasWrongOperand, FailsToFit, IsMismatched}
+use Rattle.stack_states.specs.Asking.{HasWrongOperand, FailsToFit, IsMismatched}
 use Rattle.code_flow.specs.CodeRules.{leaves, rethrows, ends_finally, ends_filter, unlisted, explicit}
 use Rattle.code_flow.specs.Edges.{Does}
 use Rattle.code_flow.specs.Effects.{effect}

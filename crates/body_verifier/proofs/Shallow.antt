@@ -26,7 +26,7 @@ use Rattle.code_flow.specs.Typings.{State, unreached, stack, clash, Typing, AtMo
 use Rattle.body_verifier.specs.Ways.{IsUnderAll, IsDepth, FlowsApart}
 use Rattle.code_flow.proofs.Members.{here, there, in_flat}
 use Rattle.code_flow.proofs.Nesting.{filled}
-use Rattle.body_verifier.proofs.StackLemmas.{each_depth}
+use Rattle.stack_states.proofs.StackLemmas.{each_depth}
 
 module _ (f : Frame) (typing : Typing) (solves : IsSolution f typing) (right : BreaksNothing f typing) where
   breaks_none : (k : ℕ) → k < length f.code → (typing k ≡ unreached → ⊥) → (n rule : ℕ) → rule < n → Breaks f typing k rule → ⊥

@@ -13,7 +13,7 @@ use Rattle.code_flow.specs.Stacks.{Each}
 use Rattle.code_flow.specs.Edges.{Carries, flowing, stated, Edge}
 use Rattle.code_flow.specs.Typings.{State, unreached, stack, clash, Typing, AtMost, below_all, above_all, stacks, stack_after, carried, IsSolution, IsAtMost, IsLeast}
 use Rattle.code_flow.specs.Laws.{IsMonotone, AreMonotone}
-use Rattle.body_verifier.specs.Meetings.{IsMeeting}
+use Rattle.stack_states.specs.Meetings.{IsMeeting}
 
 -- ---- the order of states
 

@@ -14,22 +14,22 @@ use Rattle.type_hierarchy.specs.Meaning.{IsWithin}
 use Rattle.type_order.specs.Staying.{KeepsKeys}
 use Rattle.type_hierarchy.specs.World.{Content, Stays}
 use Rattle.code_flow.specs.declared.goings.Going.{Going}
-use Rattle.body_verifier.specs.declared.state.State.{State}
-use Rattle.body_verifier.specs.declared.state.State.TheVariants.{Unreached, Stack, Clash}
-use Rattle.stack_effects.specs.declared.row.Row.{Row}
+use Rattle.stack_states.specs.declared.state.State.{State}
+use Rattle.stack_states.specs.declared.state.State.TheVariants.{Unreached, Stack, Clash}
+use Rattle.stack_rows.specs.declared.row.Row.{Row}
 use Rattle.body_verifier.specs.declared.stated.Stated.{Stated}
 use Rattle.code_flow.specs.Frames.{Frame}
 use Rattle.body_verifier.specs.Potential.{changes, ranks, total, potential, potential_at}
-use Rattle.stack_effects.specs.RowMeanings.{row_meant, IsRowWithin}
+use Rattle.stack_rows.specs.RowMeanings.{row_meant, IsRowWithin}
 use Rattle.code_flow.specs.Rows as rows
-use Rattle.body_verifier.specs.StateMeanings.{state_meant, state_or_none, IsStateWithin, typing_of}
+use Rattle.stack_states.specs.StateMeanings.{state_meant, state_or_none, IsStateWithin, typing_of}
 use Rattle.code_flow.specs.Typings as typings
-use Rattle.body_verifier.specs.Waiting.{Waiting, has, pushed}
+use Rattle.stack_states.specs.Waiting.{Waiting, has, pushed}
 use Rattle.body_verifier.specs.Ways.{Setup, IsOnTheWay, IsShallow, IsUnderWay, IsSolved, AreRows, AreStated, AreWays, AreAllWays, charge, step_budget}
 use Rattle.body_verifier.proofs.EdgeStart.{ways_kept}
-use Rattle.stack_effects.proofs.Growing.{row_kept}
+use Rattle.stack_rows.proofs.Growing.{row_kept}
 use Rattle.body_verifier.proofs.Ranks.{first_changes, unreached_changes}
-use Rattle.body_verifier.proofs.StateLemmas.{at_itself}
+use Rattle.stack_states.proofs.StateLemmas.{at_itself}
 use Rattle.body_verifier.proofs.Totals.{products_fall, total_times}
 
 -- what it costs to look at instruction `k` once

@@ -13,18 +13,18 @@ use Rattle.type_hierarchy.specs.Meaning.{IsWithin}
 use Rattle.type_hierarchy.specs.Stack.{Stack}
 use Rattle.type_hierarchy.specs.Tables.{hierarchy_in}
 use Rattle.type_hierarchy.specs.World.{Content, hierarchy, Stays}
-use Rattle.body_verifier.specs.declared.state.State.{State}
-use Rattle.body_verifier.specs.declared.state.State.TheVariants as state
+use Rattle.stack_states.specs.declared.state.State.{State}
+use Rattle.stack_states.specs.declared.state.State.TheVariants as state
 use Rattle.body_verifier.specs.declared.stated.Stated.{Stated}
 use Rattle.code_flow.specs.Edges.{any_object}
 use Rattle.code_flow.specs.Frames.{Frame}
 use Rattle.code_flow.specs.Goings.{found_by, found_in}
 use Rattle.body_verifier.specs.Potential.{IsLow}
-use Rattle.body_verifier.specs.StateMeanings.{state_meant, IsStateWithin}
+use Rattle.stack_states.specs.StateMeanings.{state_meant, IsStateWithin}
 use Rattle.body_verifier.specs.Stating.{IsStack, found_at}
 use Rattle.code_flow.specs.Typings as typings
 use Rattle.body_verifier.specs.Ways.{AreStatedFor}
-use Rattle.stack_effects.proofs.Growing.{stack_within, stack_same}
+use Rattle.stack_rows.proofs.Growing.{stack_within, stack_same}
 use Rattle.stack_effects.proofs.Zips.{zip_weaker, zip_end}
 
 -- ---- as a pool grows

@@ -8,7 +8,7 @@ use Rattle.std.proofs.lemmas.Bool.{cases_eq, cases_lt}
 use Rattle.std.proofs.lemmas.List.Sums.{sum_by-append}
 use Rattle.std.proofs.Math.Nat.{mul-le-mul_right}
 use Rattle.body_verifier.specs.Potential.{total}
-use Rattle.body_verifier.specs.Waiting.{Waiting, has, pushed}
+use Rattle.stack_states.specs.Waiting.{Waiting, has, pushed}
 
 pub total_same : (f g : ℕ → ℕ) (n : ℕ) → ((k : ℕ) → k < n → f k ≡ g k) → total f n ≡ total g n
 unfolding total

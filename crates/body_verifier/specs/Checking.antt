@@ -11,7 +11,7 @@ use Rattle.type_hierarchy.specs.Ancestors.{all_declared}
 use Rattle.type_hierarchy.specs.Hierarchy.{Hierarchy, parent}
 use Rattle.type_hierarchy.specs.Scopes.{Sources}
 use Rattle.code_flow.specs.declared.blocks.Spans.{Spans}
-use Rattle.stack_effects.specs.declared.frame.CodeFrame.{CodeFrame}
+use Rattle.stack_rows.specs.declared.frame.CodeFrame.{CodeFrame}
 use Rattle.body_verifier.specs.declared.report.Broken.{Broken}
 use Rattle.code_flow.specs.BlockTests.{spans_of}
 use Rattle.code_flow.specs.Blocks.{ClausesNest}
@@ -19,7 +19,7 @@ use Rattle.code_flow.specs.Frames.{Frame}
 use Rattle.code_flow.specs.Laws.{IsFormed}
 use Rattle.code_flow.specs.Methods.{Declared, method_at}
 use Rattle.body_verifier.specs.Reports.{Lists, is_uninitialised}
-use Rattle.stack_effects.specs.RowMeanings.{MeansFrame}
+use Rattle.stack_rows.specs.RowMeanings.{MeansFrame}
 use Rattle.body_verifier.specs.StepBound.{height}
 use Rattle.code_flow.specs.Typings.{Typing, IsLeast}
 use Rattle.body_verifier.specs.Ways.{Setup}

@@ -5,11 +5,11 @@ use Rattle.assembly_tree.specs.declared.body.Ins.{Ins}
 use Rattle.sig_pool.specs.declared.node.Node.{Node}
 use Rattle.code_flow.specs.declared.blocks.Spans.{Spans}
 use Rattle.body_verifier.specs.declared.code_marks.CodeMarks.{CodeMarks}
-use Rattle.stack_effects.specs.declared.frame.CodeFrame.{CodeFrame}
+use Rattle.stack_rows.specs.declared.frame.CodeFrame.{CodeFrame}
 use Rattle.code_flow.specs.BlockTests.{spans_of}
 use Rattle.code_flow.specs.Frames.{Frame}
 use Rattle.code_flow.specs.Marks.{HaveMarks, HavePasts, set_mark}
-use Rattle.stack_effects.specs.RowMeanings.{MeansFrame}
+use Rattle.stack_rows.specs.RowMeanings.{MeansFrame}
 use Rattle.body_verifier.specs.Verdicts.{TryBegins}
 
 -- a mark for each instruction, true where a try begins

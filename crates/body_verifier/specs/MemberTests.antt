@@ -5,11 +5,11 @@ use Rattle.type_terms.specs.declared.reference.FieldRef.{FieldRef}
 use Rattle.type_terms.specs.declared.term.SigType.{SigType}
 use Rattle.assembly_tree.specs.declared.members.Field.{Field}
 use Rattle.sig_pool.specs.declared.node.Node.{Node}
-use Rattle.stack_effects.specs.declared.frame.CodeFrame.{CodeFrame}
+use Rattle.stack_rows.specs.declared.frame.CodeFrame.{CodeFrame}
 use Rattle.code_flow.specs.declared.operation.Operation.{Operation}
 use Rattle.code_flow.specs.declared.operation.Operation.TheVariants as does
 use Rattle.code_flow.specs.Methods.{is_static}
-use Rattle.stack_effects.specs.RowMeanings.{type_option}
+use Rattle.stack_rows.specs.RowMeanings.{type_option}
 use Rattle.code_flow.specs.Rules.{is_by_reference}
 
 -- a field with the name and the type of a reference that is static where one of an instance is wanted, or the other way round

@@ -3,10 +3,10 @@ use Rattle.std.specs.Prelude.{◌≡◌, List, length}
 use Rattle.assembly_tree.specs.declared.body.Clause.{Clause}
 use Rattle.sig_pool.specs.declared.node.Node.{Node}
 use Rattle.type_hierarchy.specs.Stack.{Stack}
-use Rattle.body_verifier.specs.declared.state.State.{State}
+use Rattle.stack_states.specs.declared.state.State.{State}
 use Rattle.code_flow.specs.Frames.{Frame}
 use Rattle.code_flow.specs.Goings.{found_by}
-use Rattle.body_verifier.specs.StateMeanings.{state_meant, IsStateWithin}
+use Rattle.stack_states.specs.StateMeanings.{state_meant, IsStateWithin}
 use Rattle.code_flow.specs.Typings as typings
 
 -- a state of the pool that means a stack of these types

@@ -8,7 +8,7 @@ use Rattle.body_verifier.specs.declared.judging.StackBreaks.{StackBreaks}
 use Rattle.body_verifier.specs.declared.judging.CodeBreaks.{CodeBreaks}
 use Rattle.code_flow.specs.declared.operation.Operation.{Operation}
 use Rattle.code_flow.specs.declared.operation.Operation.TheVariants as does
-use Rattle.body_verifier.specs.Asking.{HasWrongOperand, FailsToFit, IsMismatched}
+use Rattle.stack_states.specs.Asking.{HasWrongOperand, FailsToFit, IsMismatched}
 use Rattle.code_flow.specs.CodeRules.{RunsOff, LacksLocal, LacksArgument, ReturnsInside, BranchesAcross, FallsAcross, IsMisplaced, IsUnverified}
 use Rattle.code_flow.specs.Effects.{effect}
 use Rattle.code_flow.specs.Frames.{Frame}

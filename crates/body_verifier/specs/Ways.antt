@@ -10,21 +10,21 @@ use Rattle.type_hierarchy.specs.Stack.{Stack}
 use Rattle.code_flow.specs.declared.goings.Carried.{Carried}
 use Rattle.code_flow.specs.declared.goings.Carried.TheVariants.{Flowing, Nothing, Object, Caught}
 use Rattle.code_flow.specs.declared.goings.Going.{Going}
-use Rattle.stack_effects.specs.declared.row.Row.{Row}
-use Rattle.body_verifier.specs.declared.state.State.{State}
+use Rattle.stack_rows.specs.declared.row.Row.{Row}
+use Rattle.stack_states.specs.declared.state.State.{State}
 use Rattle.body_verifier.specs.declared.stated.Stated.{Stated}
 use Rattle.code_flow.specs.Edges as edges
 use Rattle.code_flow.specs.Effects.{effect}
 use Rattle.code_flow.specs.Frames.{Frame}
 use Rattle.code_flow.specs.Goings.{found_in}
 use Rattle.code_flow.specs.Laws.{AreMonotone}
-use Rattle.body_verifier.specs.Meetings.{IsNewMeeting, IsMeeting}
+use Rattle.stack_states.specs.Meetings.{IsNewMeeting, IsMeeting}
 use Rattle.body_verifier.specs.Potential.{IsLow, reached, potential, potential_at}
-use Rattle.stack_effects.specs.RowMeanings.{row_meant, IsRowWithin}
+use Rattle.stack_rows.specs.RowMeanings.{row_meant, IsRowWithin}
 use Rattle.code_flow.specs.Rows as rows
-use Rattle.body_verifier.specs.StateMeanings.{state_meant, IsStateWithin, typing_of}
+use Rattle.stack_states.specs.StateMeanings.{state_meant, IsStateWithin, typing_of}
 use Rattle.code_flow.specs.Typings as typings
-use Rattle.body_verifier.specs.Waiting.{Waiting, has, pushed}
+use Rattle.stack_states.specs.Waiting.{Waiting, has, pushed}
 
 -- ---- typings on the way
 

@@ -15,8 +15,8 @@ ghost use Rattle.code_flow.specs.Frames.{Frame, frame};
 ghost use Rattle.code_flow.specs.Methods.{Declared};
 ghost use Rattle.code_flow.specs.Paths.{NeverWrong};
 ghost use Rattle.body_verifier.specs.Reports.{Fails, Lists, Reports, is_uninitialised};
-ghost use Rattle.stack_effects.specs.RowMeanings.{IsFrameWithin, IsRowWithin};
-ghost use Rattle.body_verifier.specs.StateMeanings.{IsStateWithin, typing_of};
+ghost use Rattle.stack_rows.specs.RowMeanings.{IsFrameWithin, IsRowWithin};
+ghost use Rattle.stack_states.specs.StateMeanings.{IsStateWithin, typing_of};
 ghost use Rattle.body_verifier.specs.StepBound.{AreEdges, height, step_bound};
 ghost use Rattle.body_verifier.specs.Ways.{AreRows, FlowsApart, IsDepth, IsSetUp, IsSolved, Setup};
 ghost use Rattle.body_verifier.specs.declared.report.Failure.{Failure as TheFailure};
@@ -27,17 +27,17 @@ use crate::laws::{a_body_has_one_least_typing, instructions_are_monotone, paths_
 use crate::report::{Broken, Report, report_of};
 use crate::rows::rows_of;
 use crate::solving::least_typing;
-use crate::state::State;
 use crate::stated::stated_of;
 use crate::verdicts::verdict;
 use assembly_tree::{Assembly, Body, Method, MethodPath};
-use code_flow::blocks::{Spans, all_spans, nest};
+use code_flow::clauses::{Clauses, nest};
 use code_flow::goings::goings_of;
 use il_base::Steps;
 use il_lists::{Items, NoMemory};
-use stack_effects::frame::CodeFrame;
 use stack_effects::framing::frame_of;
-use stack_effects::row::Row;
+use stack_rows::frame::CodeFrame;
+use stack_rows::row::Row;
+use stack_states::state::State;
 use std::alloc::Global;
 use type_order::types::World;
 use type_order::{joins_are_least_upper_bounds, keys_keep_their_types};
@@ -66,7 +66,7 @@ fn nested_rule(method: &Method, body: &Body) -> Option<u8>
 }
 
 /// The rule that a whole body breaks, if it does: its clauses don't nest (V16), or one of those. Takes no memory.
-fn whole_rule(method: &Method, body: &Body, clauses: &[Spans]) -> Option<u8>
+fn whole_rule(method: &Method, body: &Body, clauses: &Clauses) -> Option<u8>
     requires spans { clauses.now ≡ map spans_of body.now.clauses }
     requires forward { IsTrue (list_all is_forward body.now.clauses) }
     ensures { IsWholeRule method.now body.now result }
@@ -92,7 +92,7 @@ fn broken_by(
     a: &Assembly,
     frame: &CodeFrame,
     body: &Body,
-    clauses: &[Spans],
+    clauses: &Clauses,
     rows: &Items<Row>,
     states: &Items<State>,
 ) -> Result<Items<Broken>, NoMemory>
@@ -107,7 +107,7 @@ fn broken_by(
     ensures stays { Stays w.old w.new }
 {
     let code = body.code.as_slice();
-    let marks = code_marks(alloc, code, clauses)?;
+    let marks = code_marks(alloc, code, clauses.as_slice())?;
     let mut broken = Items::new(alloc);
     let count = code.len() as u32;
     for k in 0..count {
@@ -138,7 +138,7 @@ fn states_of(
     w: &mut World,
     rows: &Items<Row>,
     body: &Body,
-    clauses: &[Spans],
+    clauses: &Clauses,
     steps: &mut Steps,
 ) -> Result<Items<State>, NoMemory>
     ghost at: { Setup }
@@ -168,7 +168,7 @@ fn broken_instructions(
     parameters: u32,
     method: &Method,
     body: &Body,
-    clauses: &[Spans],
+    clauses: &Clauses,
     steps: &mut Steps,
 ) -> Result<Items<Broken>, NoMemory>
     ghost at: { Setup }
@@ -215,15 +215,16 @@ fn broken_in(
 {
     joins_are_least_upper_bounds();
     instructions_are_monotone();
-    let clauses = all_spans(alloc, body.clauses.as_slice())?;
-    let clauses = clauses.as_slice();
-    match whole_rule(method, body, clauses) {
+    let clauses = Clauses::of(alloc, body.clauses.as_slice())?;
+    match whole_rule(method, body, &clauses) {
         Some(rule) => alone(alloc, rule),
         None => {
             let places = at.types.as_slice();
             let path = path_by(alloc, a, places)?;
             let parameters = parameters_by(a, places);
-            broken_instructions(alloc, a, w, &path, parameters, method, body, clauses, steps)
+            broken_instructions(
+                alloc, a, w, &path, parameters, method, body, &clauses, steps,
+            )
         }
     }
 }

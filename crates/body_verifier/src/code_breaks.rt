@@ -4,22 +4,22 @@ ghost use Rattle.type_hierarchy.specs.Indexed.{KnowsTypes};
 ghost use Rattle.type_hierarchy.specs.World.{hierarchy};
 ghost use Rattle.body_verifier.specs.CodeMarks.{AreAsMany, IsBody};
 ghost use Rattle.code_flow.specs.Frames.{Frame};
-ghost use Rattle.stack_effects.specs.RowMeanings.{IsFrameWithin};
+ghost use Rattle.stack_rows.specs.RowMeanings.{IsFrameWithin};
 ghost use Rattle.body_verifier.specs.Verdicts.{AreCodeBreaks};
 
 use crate::code_marks::CodeMarks;
 use crate::judging::CodeBreaks;
 use crate::naming_rules::{misfits, points_to_reference};
 use assembly_tree::{Assembly, Ins};
-use code_flow::blocks::Spans;
+use code_flow::clauses::Clauses;
 use code_flow::code_rules::{
     branches_across, falls_across, is_misplaced, is_unverified, returns_inside, runs_off,
 };
 use code_flow::prefixes::is_stray;
 use code_flow::variable_rules::{lacks_argument, lacks_local};
 use il_lists::NoMemory;
-use stack_effects::frame::CodeFrame;
 use stack_effects::variables::variable_number;
+use stack_rows::frame::CodeFrame;
 use type_order::types::World;
 
 /// What instruction `k` of a body breaks whatever the stack is.
@@ -30,7 +30,7 @@ pub(crate) fn code_breaks(
     a: &Assembly,
     frame: &CodeFrame,
     code: &[Ins],
-    clauses: &[Spans],
+    clauses: &Clauses,
     marks: &CodeMarks,
     k: u32,
 ) -> Result<CodeBreaks, NoMemory>

@@ -7,17 +7,17 @@ ghost use Rattle.code_flow.specs.Effects.{effect};
 ghost use Rattle.code_flow.specs.Frames.{Frame};
 ghost use Rattle.code_flow.specs.Operations.{operation};
 ghost use Rattle.code_flow.specs.Rows.{row_of};
-ghost use Rattle.stack_effects.specs.RowMeanings.{row_meant, stack_meant, IsRowWithin, IsStackWithin};
+ghost use Rattle.stack_rows.specs.RowMeanings.{row_meant, stack_meant, IsRowWithin, IsStackWithin};
 ghost use Rattle.code_flow.specs.Typings as typings;
 ghost use Rattle.body_verifier.specs.Verdicts.{AreStackBreaks, AreCodeBreaks, is_return, is_filter_end, tests_of, IsFirst, Judges};
 
-use crate::asking::{
-    fails_to_fit, gets_too_deep, has_more, has_too_few, has_wrong_operand, is_mismatched,
-};
-use crate::stack::Stack;
 use code_flow::operation::Operation;
 use il_lists::NoMemory;
-use stack_effects::row::Row;
+use stack_rows::row::Row;
+use stack_states::asking::{
+    fails_to_fit, gets_too_deep, has_more, has_too_few, has_wrong_operand, is_mismatched,
+};
+use stack_states::stack::Stack;
 use std::alloc::Global;
 use type_order::keys_keep_their_types;
 use type_order::types::World;

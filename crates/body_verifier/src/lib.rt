@@ -5,33 +5,24 @@
 //! the rows of instructions, the least typing by the instructions that wait, and the rules.
 #![tactic(auto)]
 
-mod alike;
-mod asking;
 mod checking;
 mod code_breaks;
 mod code_marks;
-mod effect;
 mod finding;
 mod judging;
 mod laws;
-mod meeting;
 mod naming_rules;
-mod operands;
-mod pairs;
 mod report;
 mod rows;
 mod rule;
 mod sizes;
 mod solving;
-mod stack;
-mod state;
 mod stated;
 mod verdicts;
-mod worklist;
 
 pub use checking::check_method;
 pub use finding::has_body;
 pub use laws::{a_body_has_one_least_typing, instructions_are_monotone, paths_are_right};
 pub use report::{Failure, Report};
 pub use rule::rule_text;
-pub use worklist::Worklist;
+pub use stack_states::worklist::Worklist;

@@ -3,7 +3,7 @@ ghost use Rattle.std.specs.Prelude.{◌≡◌, ◌<◌, ℕ, length, slice_get, 
 ghost use Rattle.assembly_tree.specs.declared.body.Ins.{Ins as Instruction};
 ghost use Rattle.type_hierarchy.specs.World.{hierarchy, Stays};
 ghost use Rattle.code_flow.specs.Frames.{Frame};
-ghost use Rattle.stack_effects.specs.RowMeanings.{IsFrameWithin, framed, type_option, MeansFrame, MeansRow};
+ghost use Rattle.stack_rows.specs.RowMeanings.{IsFrameWithin, framed, type_option, MeansFrame, MeansRow};
 ghost use Rattle.code_flow.specs.Rows.{row_by, constraint_by};
 ghost use Rattle.body_verifier.specs.Ways.{AreRows};
 
@@ -14,19 +14,19 @@ use stack_effects::calls::{call_row, new_row, return_row};
 use stack_effects::fields::{
     field_address, load_field, load_static, static_address, store_field, store_static,
 };
-use stack_effects::frame::CodeFrame;
-use stack_effects::making::{emptying, pair, plain, storing};
-use stack_effects::naming::named_key;
-use stack_effects::primitive_rows::{
+use stack_effects::variables::{address_row, load_row, store_row, variable_key};
+use stack_rows::frame::CodeFrame;
+use stack_rows::making::{emptying, pair, plain, storing};
+use stack_rows::naming::named_key;
+use stack_rows::primitive_rows::{
     load_element_of, load_indirect, load_string, load_token, number_type, store_element_of,
     store_indirect,
 };
-use stack_effects::row::{Demand, Pairing, Pushed, Row};
-use stack_effects::type_rows::{
+use stack_rows::row::{Demand, Pairing, Pushed, Row};
+use stack_rows::type_rows::{
     box_value, cast, copy_object, element_address, init_object, load_element, load_object,
     new_array, store_element, store_object, unbox, unbox_any,
 };
-use stack_effects::variables::{address_row, load_row, store_row, variable_key};
 use std::alloc::Global;
 use type_order::types::World;
 use type_order::{StackType, TypeKey};

@@ -9,11 +9,11 @@ ghost use Rattle.code_flow.specs.Goings.{found_by};
 ghost use Rattle.body_verifier.specs.Stating.{IsStack, found_at};
 ghost use Rattle.body_verifier.specs.Ways.{brought, AreStatedFor};
 
-use crate::stack::Stack;
-use crate::state::State;
 use assembly_tree::{Clause, ClauseKind};
 use code_flow::goings::Carried;
 use il_lists::{Items, NoMemory};
+use stack_states::stack::Stack;
+use stack_states::state::State;
 use std::alloc::Global;
 use type_order::types::World;
 use type_order::{StackType, boxed_of, owner_key, primitive_key};

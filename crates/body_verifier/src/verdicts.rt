@@ -5,22 +5,22 @@ ghost use Rattle.type_hierarchy.specs.Indexed.{KnowsTypes};
 ghost use Rattle.type_hierarchy.specs.World.{hierarchy, Stays};
 ghost use Rattle.body_verifier.specs.CodeMarks.{AreAsMany, IsBody};
 ghost use Rattle.code_flow.specs.Frames.{Frame};
-ghost use Rattle.stack_effects.specs.RowMeanings.{row_meant, IsRowWithin, IsFrameWithin};
+ghost use Rattle.stack_rows.specs.RowMeanings.{row_meant, IsRowWithin, IsFrameWithin};
 ghost use Rattle.code_flow.specs.Rows.{row_of};
-ghost use Rattle.body_verifier.specs.StateMeanings.{state_meant, IsStateWithin};
+ghost use Rattle.stack_states.specs.StateMeanings.{state_meant, IsStateWithin};
 ghost use Rattle.code_flow.specs.Typings.{Typing};
 ghost use Rattle.body_verifier.specs.Verdicts.{Judges};
 
 use crate::code_breaks::code_breaks;
 use crate::code_marks::CodeMarks;
 use crate::judging::judge;
-use crate::state::State;
 use assembly_tree::{Assembly, Ins};
-use code_flow::blocks::Spans;
+use code_flow::clauses::Clauses;
 use code_flow::operation::operation_of;
 use il_lists::NoMemory;
-use stack_effects::frame::CodeFrame;
-use stack_effects::row::Row;
+use stack_rows::frame::CodeFrame;
+use stack_rows::row::Row;
+use stack_states::state::State;
 use std::alloc::Global;
 use type_order::types::World;
 
@@ -32,7 +32,7 @@ pub(crate) fn verdict(
     a: &Assembly,
     frame: &CodeFrame,
     code: &[Ins],
-    clauses: &[Spans],
+    clauses: &Clauses,
     marks: &CodeMarks,
     bound: u16,
     k: u32,

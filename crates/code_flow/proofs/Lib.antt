@@ -1,5 +1,6 @@
 pub mod CodeLemmas
 pub mod Crossing
+pub mod ExitLemmas
 pub mod Grown
 pub mod Guards
 pub mod Handlers
@@ -9,10 +10,12 @@ pub mod Levels
 pub mod Listed
 pub mod Marking
 pub mod Members
+pub mod NearLemmas
 pub mod Nesting
 pub mod Once
 pub mod PairLemmas
 pub mod Placing
 pub mod Prefixed
+pub mod RegionLemmas
 pub mod Targets
 pub mod VariableLemmas

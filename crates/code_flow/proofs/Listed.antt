@@ -122,18 +122,24 @@ module _ (f : Frame) (formed : IsFormed f) (nest : ClausesNest f.clauses) (k : �
     abbrev Flows : List Going
     Flows = map (going carries.Flowing) has.flows
 
+    abbrev Mine : List Going
+    Mine = has.own
+
+    mine_by : (g : Going) → Contains Mine g → (g.carries ≡ carries.Nothing) × Edge f k g.to (stated [])
+    mine_by g m = own_by (operation i.op) refl g ((has.same g).0 m)
+
     abbrev Guards : List Going
     Guards = guards_from k 0 (map spans_of f.clauses)
 
-    each : (g : Going) → Contains (Flows ++ (Own ++ Guards)) g → (g.to < length f.code) × Edge f k g.to (carries_of f g.carries)
-    each g m = elim (of_append Flows (Own ++ Guards) g m) [
+    each : (g : Going) → Contains (Flows ++ (Mine ++ Guards)) g → (g.to < length f.code) × Edge f k g.to (carries_of f g.carries)
+    each g m = elim (of_append Flows (Mine ++ Guards) g m) [
       | inl a ↦
           let q = of_map (going carries.Flowing) has.flows g a in
           let r = flow_edge q.0 ((has.are.same q.0).0 q.1) in
           subst (λ (z : Going). (z.to < length f.code) × Edge f k z.to (carries_of f z.carries)) q.2 r
-      | inr b ↦ elim (of_append Own Guards g b) [
+      | inr b ↦ elim (of_append Mine Guards g b) [
         | inl c ↦
-            let r = own_by (operation i.op) refl g c in (
+            let r = mine_by g c in (
               stated_within f formed k g.to (stated []) r.1 (λ e. let z : ⊥ = cc in z),
               subst (λ (z : Carried). Edge f k g.to (carries_of f z)) (sym r.0) r.1,
             )
@@ -145,12 +151,12 @@ module _ (f : Frame) (formed : IsFormed f) (nest : ClausesNest f.clauses) (k : �
 
     -- an edge is among them
     abbrev Listed : ℕ → Carries → Type 0
-    Listed t c = (g : Going) × Contains (Flows ++ (Own ++ Guards)) g × (g.to ≡ t) × (carries_of f g.carries ≡ c)
+    Listed t c = (g : Going) × Contains (Flows ++ (Mine ++ Guards)) g × (g.to ≡ t) × (carries_of f g.carries ≡ c)
 
     flow_listed : (t : ℕ) → Contains (flow_targets (length f.code) k i) t → Listed t flowing
     flow_listed t m = (
       going carries.Flowing t,
-      Contains-append_left Flows (Own ++ Guards) (going carries.Flowing t) (in_map (going carries.Flowing) has.flows t ((has.are.same t).1 m)),
+      Contains-append_left Flows (Mine ++ Guards) (going carries.Flowing t) (in_map (going carries.Flowing) has.flows t ((has.are.same t).1 m)),
       refl,
       refl,
     )
@@ -158,13 +164,13 @@ module _ (f : Frame) (formed : IsFormed f) (nest : ClausesNest f.clauses) (k : �
     own_listed : (t u : ℕ) → Contains Own (going carries.Nothing u) → u ≡ t → Listed t (stated [])
     own_listed t u m e = (
       going carries.Nothing u,
-      Contains-append_right Flows (Own ++ Guards) (going carries.Nothing u) (Contains-append_left Own Guards (going carries.Nothing u) m),
+      Contains-append_right Flows (Mine ++ Guards) (going carries.Nothing u) (Contains-append_left Mine Guards (going carries.Nothing u) ((has.same (going carries.Nothing u)).1 m)),
       e,
       refl,
     )
 
     guard_listed : (t : ℕ) (c : Carries) (g : Going) → Contains Guards g → g.to ≡ t → carries_of f g.carries ≡ c → Listed t c
-    guard_listed t c g m e h = (g, Contains-append_right Flows (Own ++ Guards) g (Contains-append_right Own Guards g m), e, h)
+    guard_listed t c g m e h = (g, Contains-append_right Flows (Mine ++ Guards) g (Contains-append_right Mine Guards g m), e, h)
 
     does_is : (o : Operation) (j : Ins) → Does f k o j → (i ≡ j) × (operation i.op ≡ o)
     does_is o j d =
@@ -215,24 +221,24 @@ module _ (f : Frame) (formed : IsFormed f) (nest : ClausesNest f.clauses) (k : �
 
     -- ---- at most one of a kind
 
-    own_nothing : Every (λ (g : Going). g.carries ≡ carries.Nothing) Own
-    own_nothing = to_every (λ (g : Going). g.carries ≡ carries.Nothing) Own (λ g m. (own_by (operation i.op) refl g m).0)
+    own_nothing : Every (λ (g : Going). g.carries ≡ carries.Nothing) Mine
+    own_nothing = to_every (λ (g : Going). g.carries ≡ carries.Nothing) Mine (λ g m. (mine_by g m).0)
 
-    own_states : Every (λ (g : Going). g.carries ≡ carries.Flowing → ⊥) Own
-    own_states = to_every (λ (g : Going). g.carries ≡ carries.Flowing → ⊥) Own (λ g m e. let h = (own_by (operation i.op) refl g m).0 in let z : ⊥ = cc in z)
+    own_states : Every (λ (g : Going). g.carries ≡ carries.Flowing → ⊥) Mine
+    own_states = to_every (λ (g : Going). g.carries ≡ carries.Flowing → ⊥) Mine (λ g m e. let h = (mine_by g m).0 in let z : ⊥ = cc in z)
 
     guards_state : Every (λ (g : Going). g.carries ≡ carries.Flowing → ⊥) Guards
     guards_state = to_every (λ (g : Going). g.carries ≡ carries.Flowing → ⊥) Guards (λ g m. guard_states k f.clauses g m)
 
-    flow_once : Pairs (λ (g h : Going). FlowTogether g h → ⊥) (Flows ++ (Own ++ Guards))
+    flow_once : Pairs (λ (g h : Going). FlowTogether g h → ⊥) (Flows ++ (Mine ++ Guards))
     flow_once =
-        let states = every_append (λ (g : Going). g.carries ≡ carries.Flowing → ⊥) Own Guards own_states guards_state in
-        pairs_append (λ (g h : Going). FlowTogether g h → ⊥) Flows (Own ++ Guards)
+        let states = every_append (λ (g : Going). g.carries ≡ carries.Flowing → ⊥) Mine Guards own_states guards_state in
+        pairs_append (λ (g h : Going). FlowTogether g h → ⊥) Flows (Mine ++ Guards)
         (pairs_mapped (λ (g h : Going). FlowTogether g h → ⊥) (going carries.Flowing) has.flows
         (pairs_weak (λ (s t : ℕ). s ≡ t → ⊥) (λ (s t : ℕ). FlowTogether (going carries.Flowing s) (going carries.Flowing t) → ⊥) has.flows (λ s t n b. n b.to)
         (pairs_of (λ (s t : ℕ). s ≡ t → ⊥) has.flows has.are.once)))
-        (pairs_second (λ (g h : Going). FlowTogether g h → ⊥) (λ (g : Going). g.carries ≡ carries.Flowing → ⊥) (Own ++ Guards) (λ g h n b. n b.second) states)
-        (cross_second (λ (g h : Going). FlowTogether g h → ⊥) (λ (g : Going). g.carries ≡ carries.Flowing → ⊥) Flows (Own ++ Guards) (λ g h n b. n b.second) states)
+        (pairs_second (λ (g h : Going). FlowTogether g h → ⊥) (λ (g : Going). g.carries ≡ carries.Flowing → ⊥) (Mine ++ Guards) (λ g h n b. n b.second) states)
+        (cross_second (λ (g h : Going). FlowTogether g h → ⊥) (λ (g : Going). g.carries ≡ carries.Flowing → ⊥) Flows (Mine ++ Guards) (λ g h n b. n b.second) states)
 
     flow_quiet : (t : ℕ) → BringsObject (going carries.Flowing t).carries → ⊥
     flow_quiet t b = quiet carries.Flowing b (λ e. let z : ⊥ = cc in z) (λ p e. let z : ⊥ = cc in z)
@@ -242,27 +248,27 @@ module _ (f : Frame) (formed : IsFormed f) (nest : ClausesNest f.clauses) (k : �
         let q = of_map (going carries.Flowing) has.flows g m in
         subst (λ (z : Going). BringsObject z.carries → ⊥) q.2 (flow_quiet q.0))
 
-    owns_quiet : Every (λ (g : Going). BringsObject g.carries → ⊥) Own
-    owns_quiet = to_every (λ (g : Going). BringsObject g.carries → ⊥) Own (λ g m b.
-        let h = (own_by (operation i.op) refl g m).0 in
+    owns_quiet : Every (λ (g : Going). BringsObject g.carries → ⊥) Mine
+    owns_quiet = to_every (λ (g : Going). BringsObject g.carries → ⊥) Mine (λ g m b.
+        let h = (mine_by g m).0 in
         quiet g.carries b (λ e. let z : ⊥ = cc in z) (λ p e. let z : ⊥ = cc in z))
 
-    bring_once : Pairs (λ (g h : Going). BringTogether g h → ⊥) (Flows ++ (Own ++ Guards))
+    bring_once : Pairs (λ (g h : Going). BringTogether g h → ⊥) (Flows ++ (Mine ++ Guards))
     bring_once =
-        pairs_append (λ (g h : Going). BringTogether g h → ⊥) Flows (Own ++ Guards)
+        pairs_append (λ (g h : Going). BringTogether g h → ⊥) Flows (Mine ++ Guards)
         (pairs_first (λ (g h : Going). BringTogether g h → ⊥) (λ (g : Going). BringsObject g.carries → ⊥) Flows (λ g h n b. n b.first) flows_quiet)
-        (pairs_append (λ (g h : Going). BringTogether g h → ⊥) Own Guards
-        (pairs_first (λ (g h : Going). BringTogether g h → ⊥) (λ (g : Going). BringsObject g.carries → ⊥) Own (λ g h n b. n b.first) owns_quiet)
+        (pairs_append (λ (g h : Going). BringTogether g h → ⊥) Mine Guards
+        (pairs_first (λ (g h : Going). BringTogether g h → ⊥) (λ (g : Going). BringsObject g.carries → ⊥) Mine (λ g h n b. n b.first) owns_quiet)
         (guards_apart k f.clauses nest forward)
-        (cross_first (λ (g h : Going). BringTogether g h → ⊥) (λ (g : Going). BringsObject g.carries → ⊥) Own Guards (λ g h n b. n b.first) owns_quiet))
-        (cross_first (λ (g h : Going). BringTogether g h → ⊥) (λ (g : Going). BringsObject g.carries → ⊥) Flows (Own ++ Guards) (λ g h n b. n b.first) flows_quiet)
+        (cross_first (λ (g h : Going). BringTogether g h → ⊥) (λ (g : Going). BringsObject g.carries → ⊥) Mine Guards (λ g h n b. n b.first) owns_quiet))
+        (cross_first (λ (g h : Going). BringTogether g h → ⊥) (λ (g : Going). BringsObject g.carries → ⊥) Flows (Mine ++ Guards) (λ g h n b. n b.first) flows_quiet)
 
-    these : AreGoings f k (Flows ++ (Own ++ Guards))
+    these : AreGoings f k (Flows ++ (Mine ++ Guards))
     these = record {
       each = each;
       all = all;
-      flow_once = all_pairs (λ (g h : Going). FlowTogether g h → ⊥) (Flows ++ (Own ++ Guards)) flow_once;
-      bring_once = all_pairs (λ (g h : Going). BringTogether g h → ⊥) (Flows ++ (Own ++ Guards)) bring_once;
+      flow_once = all_pairs (λ (g h : Going). FlowTogether g h → ⊥) (Flows ++ (Mine ++ Guards)) flow_once;
+      bring_once = all_pairs (λ (g h : Going). BringTogether g h → ⊥) (Flows ++ (Mine ++ Guards)) bring_once;
     }
 
     pub are_goings : AreGoings f k goings

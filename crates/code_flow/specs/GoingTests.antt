@@ -1,5 +1,5 @@
 -- The lists of a body's edges as they are found from its instructions and the blocks of its clauses.
-use Rattle.std.specs.Prelude.{◌≡◌, ℕ, ◌+◌, Bool, true, false, not, ◌&&◌, nat_lt, if◌then◌else◌, List, [], ◌∷◌, ◌++◌, map, length, slice_get, Option, None, Some, ◌↔◌}
+use Rattle.std.specs.Prelude.{◌≡◌, ℕ, ◌+◌, Bool, true, false, not, ◌&&◌, nat_lt, if◌then◌else◌, List, [], ◌∷◌, ◌++◌, drop, map, length, slice_get, Option, None, Some, ◌↔◌}
 use Rattle.std.specs.List.{Contains, AllPairs, flat_map}
 use Rattle.assembly_tree.specs.declared.body.Ins.{Ins}
 use Rattle.code_flow.specs.declared.blocks.Handling.{Handling}
@@ -36,6 +36,12 @@ flow_targets count k i = branched (branches (operation i.op)) (targets i.operand
 pub record AreFlows (count k : ℕ) (i : Ins) (ts : List ℕ) : Type 0 where
   pub same : (t : ℕ) → Contains ts t ↔ Contains (flow_targets count k i) t
   pub once : AllPairs (λ (s t : ℕ). s ≡ t → ⊥) ts
+
+-- edges added to others: those along which what the instruction leaves goes
+pub record AddsFlows (count k : ℕ) (i : Ins) (old new : List Going) : Type 0 where
+  pub flows : List ℕ
+  pub are : AreFlows count k i flows
+  pub is : new ≡ old ++ map (going carries.Flowing) flows
 
 -- ---- leaving through finally clauses
 
@@ -86,6 +92,20 @@ abbrev pub ends_from : List Spans → List Leave → ℕ → List Spans → List
 ends_from all leaves k [] = []
 ends_from all leaves k (s ∷ ss) = ended_of all leaves k s ss ++ ends_from all leaves k ss
 
+-- the targets to which the leaves that cross a clause, which stands at a place, go on from it
+abbrev pub on_behind : List Spans → ℕ → Spans → Leave → List ℕ
+on_behind all place s l = if is_crossed l.at l.to s then goes_through l.at l.to (drop (place + 1) all) ∷ [] else []
+
+-- those to which each of the leaves goes on, in any number
+abbrev pub AreExits : List Spans → List Leave → ℕ → Spans → List ℕ → Type 0
+AreExits all leaves place s ts = (t : ℕ) → Contains ts t ↔ Contains (flat_map (on_behind all place s) leaves) t
+
+-- edges added to others, which are those of a list
+pub record AddsSame (old new gs : List Going) : Type 0 where
+  pub more : List Going
+  pub is : new ≡ old ++ more
+  pub same : (g : Going) → Contains more g ↔ Contains gs g
+
 -- ---- handlers
 
 abbrev pub filter_going : Option Span → List Going
@@ -117,10 +137,16 @@ own_goings all leaves k ts does.Leave = map (λ t. going carries.Nothing (goes_t
 own_goings all leaves k ts does.EndFinally = ends_from all leaves k all
 own_goings all leaves k ts o = []
 
+-- the same edges
+abbrev pub HaveSame : List Going → List Going → Type 0
+HaveSame gs hs = (g : Going) → Contains gs g ↔ Contains hs g
+
 pub record HasGoings (count : ℕ) (all : List Spans) (leaves : List Leave) (k : ℕ) (i : Ins) (goings : List Going) : Type 0 where
   pub flows : List ℕ
   pub are : AreFlows count k i flows
-  pub is : goings ≡ map (going carries.Flowing) flows ++ (own_goings all leaves k (targets i.operand) (operation i.op) ++ guards_from k 0 all)
+  pub own : List Going
+  pub same : HaveSame own (own_goings all leaves k (targets i.operand) (operation i.op))
+  pub is : goings ≡ map (going carries.Flowing) flows ++ (own ++ guards_from k 0 all)
 
 -- of each instruction of the code
 pub record HaveGoings (code : List Ins) (all : List Spans) (goings : List (List Going)) : Type 0 where

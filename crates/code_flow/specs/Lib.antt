@@ -9,12 +9,14 @@ pub mod Frames
 pub mod GoingTests
 pub mod Goings
 pub mod Laws
+pub mod Leaving
 pub mod Marks
 pub mod Methods
 pub mod Operations
 pub mod Paths
 pub mod PlaceTests
 pub mod Prefixes
+pub mod Regions
 pub mod Rows
 pub mod Rules
 pub mod Stacks

@@ -1,9 +1,8 @@
 ghost use Rattle.std.specs.Prelude.{◌≡◌, ◌↔◌, List, map, IfOk, IsTrue};
 ghost use Rattle.std.specs.List.{list_all};
 ghost use Rattle.assembly_tree.specs.declared.body.Clause.{Clause};
-ghost use Rattle.assembly_tree.specs.WellFormedBodies.{is_forward};
-ghost use Rattle.code_flow.specs.Blocks.{IsLevel, ClausesNest};
-ghost use Rattle.code_flow.specs.BlockTests.{spans_of, is_held, keeps, admits, is_clause_level, is_level_test, are_apart, is_within, lie_in, handling_all, handling_any, blocks_all, blocks_any, is_handling_apart, is_all_apart, has_same_try, is_apart, is_nested, are_nested};
+ghost use Rattle.code_flow.specs.Blocks.{IsLevel};
+ghost use Rattle.code_flow.specs.BlockTests.{spans_of, is_held, keeps, admits, is_clause_level, is_level_test, are_apart, is_within, lie_in, handling_all, handling_any, blocks_all, blocks_any, is_handling_apart, is_all_apart, has_same_try, is_apart, is_nested};
 
 use assembly_tree::{Clause, ClauseKind};
 use il_lists::{Items, NoMemory};
@@ -199,7 +198,7 @@ impl Spans {
     }
 
     /// Whether the blocks are apart from each other.
-    fn is_apart(&self) -> bool
+    pub fn is_apart(&self) -> bool
         ensures { result ≡ is_apart self.now }
     {
         self.is_handling_apart_from(self.guarded)
@@ -246,28 +245,8 @@ pub fn is_level(clauses: &[Spans], k: u32, t: u32) -> bool
 }
 
 /// Whether a clause nests with each of those behind it.
-fn nests_with_all(first: &Spans, rest: &[Spans]) -> bool
+pub fn nests_with_all(first: &Spans, rest: &[Spans]) -> bool
     ensures { result ≡ list_all (is_nested first.now) rest.now }
 {
     rest.iter().all(|later| first.is_nested(later))
-}
-
-fn all_nest(clauses: &[Spans]) -> bool
-    ensures { result ≡ are_nested clauses.now }
-{
-    let mut clauses = clauses;
-    while let [first, rest @ ..] = clauses {
-        if !first.is_apart() || !nests_with_all(first, rest) {
-            return false;
-        }
-        clauses = rest;
-    }
-    true
-}
-
-/// Whether the clauses nest (ECMA-335 I.12.4.2.7).
-pub fn nest(clauses: &[Spans]) -> bool
-    ensures { (cs : List Clause) → clauses.now ≡ map spans_of cs → IsTrue (list_all is_forward cs) → (IsTrue result ↔ ClausesNest cs) }
-{
-    all_nest(clauses)
 }

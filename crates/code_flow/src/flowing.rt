@@ -1,7 +1,7 @@
 ghost use Rattle.std.specs.Prelude.{◌≡◌, ◌<◌, ◌^◌, ◌++◌, ◌↔◌, ℕ, map, length, IfOk, OnOk};
 ghost use Rattle.std.specs.List.{Contains, AllPairs};
 ghost use Rattle.code_flow.specs.Edges.{falls, branches, targets};
-ghost use Rattle.code_flow.specs.GoingTests.{going, branched, fallen, flow_targets, AreFlows};
+ghost use Rattle.code_flow.specs.GoingTests.{going, branched, fallen, flow_targets, AddsFlows, AreFlows};
 ghost use Rattle.code_flow.specs.declared.goings.Carried.TheVariants as carries;
 
 use crate::goings::{Carried, Going};
@@ -78,7 +78,7 @@ fn flow_targets(alloc: Global, count: u32, k: u32, ins: &Ins) -> Result<Vec<u32>
 }
 
 /// The same numbers, each once.
-fn each_once(numbers: Vec<u32>) -> Vec<u32>
+pub fn each_once(numbers: Vec<u32>) -> Vec<u32>
     ensures same { (t : ℕ) → Contains result.items t ↔ Contains numbers.items t }
     ensures once { AllPairs (λ (s t : ℕ). s ≡ t → ⊥) result.items }
 {
@@ -89,7 +89,7 @@ fn each_once(numbers: Vec<u32>) -> Vec<u32>
 }
 
 /// Where what instruction `k` of `count` leaves on the stack goes, each place once.
-pub fn flows(alloc: Global, count: u32, k: u32, ins: &Ins) -> Result<Vec<u32>, NoMemory>
+fn flows(alloc: Global, count: u32, k: u32, ins: &Ins) -> Result<Vec<u32>, NoMemory>
     requires { k < count }
     ensures { IfOk result (λ ts. AreFlows count k ins.now ts.items) }
 {
@@ -97,7 +97,7 @@ pub fn flows(alloc: Global, count: u32, k: u32, ins: &Ins) -> Result<Vec<u32>, N
     Ok(each_once(all))
 }
 
-pub fn add_flows(goings: &mut Items<Going>, flows: &[u32]) -> Result<(), NoMemory>
+fn add_flows(goings: &mut Items<Going>, flows: &[u32]) -> Result<(), NoMemory>
     ensures { OnOk result (goings.new ≡ goings.old ++ map (going carries.Flowing) flows.now) }
 {
     for to in flows {
@@ -107,4 +107,37 @@ pub fn add_flows(goings: &mut Items<Going>, flows: &[u32]) -> Result<(), NoMemor
         })?;
     }
     Ok(())
+}
+
+/// Adds the edge to the next of `count` instructions, where control falls to it.
+fn add_next(goings: &mut Items<Going>, count: u32, k: u32, falls: bool) -> Result<(), NoMemory>
+    requires { k < count }
+    ensures { OnOk result (goings.new ≡ goings.old ++ map (going carries.Flowing) (fallen count k falls)) }
+{
+    if falls && k + 1 < count {
+        goings.push(Going {
+            to: k + 1,
+            carries: Carried::Flowing,
+        })?;
+    }
+    Ok(())
+}
+
+/// Adds the edges along which what instruction `k` of `count` leaves on the stack goes.
+pub fn add_flowing(
+    alloc: Global,
+    goings: &mut Items<Going>,
+    count: u32,
+    k: u32,
+    ins: &Ins,
+) -> Result<(), NoMemory>
+    requires { k < count }
+    ensures { OnOk result (AddsFlows count k ins.now goings.old goings.new) }
+{
+    let does = operation_of(ins.op);
+    if !does.branches() {
+        return add_next(goings, count, k, does.falls());
+    }
+    let flows = flows(alloc, count, k, ins)?;
+    add_flows(goings, flows.as_slice())
 }

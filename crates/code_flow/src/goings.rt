@@ -6,12 +6,14 @@ ghost use Rattle.code_flow.specs.Goings.{IsGoings};
 ghost use Rattle.code_flow.specs.Laws.{IsFormed};
 ghost use Rattle.code_flow.specs.Edges.{targets};
 ghost use Rattle.code_flow.specs.Operations.{operation};
-ghost use Rattle.code_flow.specs.GoingTests.{own_goings, guards_from, HasGoings, leaves_from, HaveGoings};
+ghost use Rattle.code_flow.specs.GoingTests.{AddsSame, own_goings, guards_from, HasGoings, HaveGoings};
+ghost use Rattle.code_flow.specs.Leaving.{HaveExits};
+ghost use Rattle.code_flow.specs.declared.leaving.Leave.{Leave as TheLeave};
 
-use crate::blocks::Spans;
-use crate::flowing::{add_flows, flows};
+use crate::clauses::Clauses;
+use crate::flowing::add_flowing;
 use crate::guarding::{bounds_of, guards_at};
-use crate::leaving::{Leave, add_ended, add_left, leaves_of, targets_of};
+use crate::leaving::{Exits, add_ended, add_left, exits_of, leaves_of, targets_of};
 use crate::operation::{Operation, operation_of};
 use assembly_tree::Ins;
 use il_lists::{Items, NoMemory};
@@ -43,16 +45,16 @@ pub type Goings = Items<Items<Going>>;
 /// Adds the edges that instruction `k` itself states.
 fn add_own(
     goings: &mut Items<Going>,
-    clauses: &[Spans],
-    leaves: &[Leave],
+    clauses: &Clauses,
+    exits: &Exits,
     k: u32,
     ins: &Ins,
 ) -> Result<(), NoMemory>
-    ensures { OnOk result (goings.new ≡ goings.old ++ own_goings clauses.now leaves.now k (targets ins.now.operand) (operation ins.now.op)) }
+    ensures { (leaves : List TheLeave) → HaveExits clauses.now leaves exits.now → OnOk result (AddsSame goings.old goings.new (own_goings clauses.now leaves k (targets ins.now.operand) (operation ins.now.op))) }
 {
     match operation_of(ins.op) {
         Operation::Leave => add_left(goings, clauses, k, targets_of(&ins.operand)),
-        Operation::EndFinally => add_ended(goings, leaves, clauses, k),
+        Operation::EndFinally => add_ended(goings, clauses, exits, k),
         _ => Ok(()),
     }
 }
@@ -61,33 +63,32 @@ fn add_own(
 fn goings_at(
     alloc: Global,
     count: u32,
-    clauses: &[Spans],
-    leaves: &[Leave],
+    clauses: &Clauses,
+    exits: &Exits,
     guards: &[Going],
     k: u32,
     ins: &Ins,
 ) -> Result<Items<Going>, NoMemory>
     requires below { k < count }
     requires guards { guards.now ≡ guards_from k 0 clauses.now }
-    ensures { IfOk result (HasGoings count clauses.now leaves.now k ins.now) }
+    ensures { (leaves : List TheLeave) → HaveExits clauses.now leaves exits.now → IfOk result (HasGoings count clauses.now leaves k ins.now) }
 {
-    let flows = flows(alloc, count, k, ins)?;
     let mut goings = Items::new(alloc);
-    add_flows(&mut goings, flows.as_slice())?;
-    add_own(&mut goings, clauses, leaves, k, ins)?;
+    add_flowing(alloc, &mut goings, count, k, ins)?;
+    add_own(&mut goings, clauses, exits, k, ins)?;
     goings.extend(guards)?;
     Ok(goings)
 }
 
 /// The edges from each instruction, found by the blocks of the clauses.
-fn all_goings(alloc: Global, code: &[Ins], clauses: &[Spans]) -> Result<Goings, NoMemory>
+fn all_goings(alloc: Global, code: &[Ins], clauses: &Clauses) -> Result<Goings, NoMemory>
     requires code { length code.now < 2 ^ 32 }
     requires few { length clauses.now < 2 ^ 32 }
     ensures { IfOk result (HaveGoings code.now clauses.now) }
 {
     let leaves = leaves_of(alloc, code)?;
-    let leaves = leaves.as_slice();
-    let bounds = bounds_of(alloc, code.len(), clauses)?;
+    let exits = exits_of(alloc, clauses, &leaves)?;
+    let bounds = bounds_of(alloc, code.len(), clauses.as_slice())?;
     let bounds = bounds.as_slice();
     let mut all = Items::with_capacity(alloc, code.len())?;
     let mut guards = Items::new(alloc);
@@ -98,7 +99,7 @@ fn all_goings(alloc: Global, code: &[Ins], clauses: &[Spans]) -> Result<Goings, 
             alloc,
             count,
             clauses,
-            leaves,
+            &exits,
             guards.as_slice(),
             k,
             &code[k as usize],
@@ -111,7 +112,7 @@ fn all_goings(alloc: Global, code: &[Ins], clauses: &[Spans]) -> Result<Goings, 
 /// The edges of a body whose clauses nest (ECMA-335 III.1.7, I.12.4.2.8): for each instruction those to
 /// instructions. Of those that lead to one at most one brings what the instruction leaves, and at most one an
 /// object.
-pub fn goings_of(alloc: Global, code: &[Ins], clauses: &[Spans]) -> Result<Goings, NoMemory>
+pub fn goings_of(alloc: Global, code: &[Ins], clauses: &Clauses) -> Result<Goings, NoMemory>
     requires code { length code.now < 2 ^ 32 }
     requires few { length clauses.now < 2 ^ 32 }
     ensures { IfOk result (λ goings. (f : Frame) → f.code ≡ code.now → clauses.now ≡ map spans_of f.clauses → IsFormed f → ClausesNest f.clauses → IsGoings f goings) }

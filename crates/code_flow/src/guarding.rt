@@ -1,8 +1,10 @@
-ghost use Rattle.std.specs.Prelude.{◌≡◌, ◌<◌, ◌+◌, ◌^◌, ◌++◌, ℕ, false, length, replicate, IfOk, OnOk};
+ghost use Rattle.std.specs.Prelude.{◌≡◌, ◌<◌, ◌+◌, ◌++◌, ℕ, false, length, replicate, IfOk, OnOk};
 ghost use Rattle.code_flow.specs.GoingTests.{filter_going, handled, guarded_by, guards_from};
 ghost use Rattle.code_flow.specs.Marks.{marked_bounds};
+ghost use Rattle.code_flow.specs.Regions.{guards_among};
 
 use crate::blocks::{Handling, Span, Spans};
+use crate::clauses::{Clauses, Placed};
 use crate::goings::{Carried, Going};
 use crate::marks::mark;
 use il_lists::{Items, NoMemory};
@@ -60,17 +62,23 @@ fn add_guarded(
     }
 }
 
-/// Adds the edges from instruction `k` to the handlers and filters of the clauses whose tries hold it.
-fn add_guards(goings: &mut Items<Going>, clauses: &[Spans], k: u32) -> Result<(), NoMemory>
-    requires { length clauses.now < 2 ^ 32 }
-    ensures { OnOk result (goings.new ≡ goings.old ++ guards_from k 0 clauses.now) }
+/// Adds the edges from instruction `k` to the handlers and filters of those of these clauses whose tries hold it.
+fn add_guards(goings: &mut Items<Going>, placed: &[Placed], k: u32) -> Result<(), NoMemory>
+    ensures { OnOk result (goings.new ≡ goings.old ++ guards_among k placed.now) }
 {
-    let mut place = 0u32;
-    for clause in clauses {
-        add_guarded(goings, clause, place, k)?;
-        place += 1;
+    for clause in placed {
+        add_guarded(goings, &clause.spans, clause.place, k)?;
     }
     Ok(())
+}
+
+/// The edges from instruction `k` to handlers and filters.
+fn guards_near(alloc: Global, clauses: &Clauses, k: u32) -> Result<Items<Going>, NoMemory>
+    ensures { IfOk result (λ guards. guards ≡ guards_from k 0 clauses.now) }
+{
+    let mut guards = Items::new(alloc);
+    add_guards(&mut guards, clauses.near(k).placed.as_slice(), k)?;
+    Ok(guards)
 }
 
 fn mark_bounds(marks: &mut Vec<bool>, clauses: &[Spans])
@@ -95,12 +103,11 @@ pub fn bounds_of(alloc: Global, count: usize, clauses: &[Spans]) -> Result<Vec<b
 /// try begins or ends.
 pub fn guards_at(
     alloc: Global,
-    clauses: &[Spans],
+    clauses: &Clauses,
     bounds: &[bool],
     k: u32,
     before: Items<Going>,
 ) -> Result<Items<Going>, NoMemory>
-    requires few { length clauses.now < 2 ^ 32 }
     requires bounds { bounds.now ≡ marked_bounds (replicate (length bounds.now) false) clauses.now }
     requires k { k < length bounds.now }
     requires before { (j : ℕ) → j + 1 ≡ k → before ≡ guards_from j 0 clauses.now }
@@ -109,7 +116,5 @@ pub fn guards_at(
     if 0 < k && !bounds[k as usize] {
         return Ok(before);
     }
-    let mut guards = Items::new(alloc);
-    add_guards(&mut guards, clauses, k)?;
-    Ok(guards)
+    guards_near(alloc, clauses, k)
 }

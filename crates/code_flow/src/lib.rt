@@ -4,6 +4,7 @@
 #![tactic(auto)]
 
 pub mod blocks;
+pub mod clauses;
 pub mod code_rules;
 pub mod flowing;
 pub mod goings;

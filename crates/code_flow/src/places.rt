@@ -1,4 +1,4 @@
-ghost use Rattle.std.specs.Prelude.{◌≡◌, ◌<◌, ◌-◌, ◌^◌, ◌↔◌, map, IsTrue};
+ghost use Rattle.std.specs.Prelude.{◌≡◌, ◌<◌, ◌-◌, ◌^◌, ◌↔◌, ◌&&◌, map, IsTrue};
 ghost use Rattle.std.specs.List.{list_all};
 ghost use Rattle.code_flow.specs.Frames.{Frame};
 ghost use Rattle.code_flow.specs.Rules.{MayLeave, MayRethrow, MayEndFinally, MayEndFilter};
@@ -6,6 +6,7 @@ ghost use Rattle.code_flow.specs.BlockTests.{spans_of, blocks_all, handling_all}
 ghost use Rattle.code_flow.specs.PlaceTests.{catches, opens, releases, clause_releases, may_leave_test, encloses, is_innermost_range, is_innermost_handling, rethrows_in, may_rethrow_test, ends_finally_in, may_end_finally_test, is_last_of, ends_filter_in, may_end_filter_test};
 
 use crate::blocks::{Handling, Span, Spans};
+use crate::clauses::Clauses;
 
 impl Handling {
     /// Whether it is that of a catch or filter clause.
@@ -100,6 +101,13 @@ pub fn is_innermost(clauses: &[Spans], k: u32, range: Span) -> bool
     range.holds(k) && all_enclose(clauses, k, range)
 }
 
+/// The same, by a look at the clauses near `k`.
+pub fn is_innermost_near(clauses: &Clauses, k: u32, range: Span) -> bool
+    ensures { result ≡ is_innermost_range clauses.now k range }
+{
+    is_innermost(clauses.near(k).spans.as_slice(), k, range)
+}
+
 /// The same of handlers and filters.
 fn is_innermost_handler(clauses: &[Spans], k: u32, range: Span) -> bool
     ensures { result ≡ is_innermost_handling clauses.now k range }
@@ -129,19 +137,25 @@ fn ends_filter_in(clauses: &[Spans], k: u32, clause: &Spans) -> bool
     }
 }
 
-pub fn all_release(clauses: &[Spans], k: u32, t: u32) -> bool
+pub fn both(a: bool, b: bool) -> bool
+    ensures { result ≡ (a && b) }
+{
+    a && b
+}
+
+fn all_release_among(clauses: &[Spans], k: u32, t: u32) -> bool
     ensures { result ≡ may_leave_test clauses.now k t }
 {
     clauses.iter().all(|clause| clause.releases(k, t))
 }
 
-pub fn any_rethrows(clauses: &[Spans], k: u32) -> bool
+fn any_rethrows_among(clauses: &[Spans], k: u32) -> bool
     ensures { result ≡ may_rethrow_test clauses.now k }
 {
     clauses.iter().any(|clause| rethrows_in(clauses, k, clause))
 }
 
-pub fn any_ends_finally(clauses: &[Spans], k: u32) -> bool
+fn any_ends_finally_among(clauses: &[Spans], k: u32) -> bool
     ensures { result ≡ may_end_finally_test clauses.now k }
 {
     clauses
@@ -149,7 +163,7 @@ pub fn any_ends_finally(clauses: &[Spans], k: u32) -> bool
         .any(|clause| ends_finally_in(clauses, k, clause))
 }
 
-pub fn any_ends_filter(clauses: &[Spans], k: u32) -> bool
+fn any_ends_filter_among(clauses: &[Spans], k: u32) -> bool
     requires { k < 2 ^ 32 - 1 }
     ensures { result ≡ may_end_filter_test clauses.now k }
 {
@@ -158,29 +172,56 @@ pub fn any_ends_filter(clauses: &[Spans], k: u32) -> bool
         .any(|clause| ends_filter_in(clauses, k, clause))
 }
 
+pub fn all_release(clauses: &Clauses, k: u32, t: u32) -> bool
+    ensures { result ≡ may_leave_test clauses.now k t }
+{
+    let around = all_release_among(clauses.near(k).spans.as_slice(), k, t);
+    let beyond = all_release_among(clauses.near(t).spans.as_slice(), k, t);
+    both(around, beyond)
+}
+
+pub fn any_rethrows(clauses: &Clauses, k: u32) -> bool
+    ensures { result ≡ may_rethrow_test clauses.now k }
+{
+    any_rethrows_among(clauses.near(k).spans.as_slice(), k)
+}
+
+pub fn any_ends_finally(clauses: &Clauses, k: u32) -> bool
+    ensures { result ≡ may_end_finally_test clauses.now k }
+{
+    any_ends_finally_among(clauses.near(k).spans.as_slice(), k)
+}
+
+pub fn any_ends_filter(clauses: &Clauses, k: u32) -> bool
+    requires { k < 2 ^ 32 - 1 }
+    ensures { result ≡ may_end_filter_test clauses.now k }
+{
+    any_ends_filter_among(clauses.near(k).spans.as_slice(), k)
+}
+
 /// Whether a `leave` may go from `k` to `t` (ECMA-335 III.3.46).
-pub fn may_leave(clauses: &[Spans], k: u32, t: u32) -> bool
+pub fn may_leave(clauses: &Clauses, k: u32, t: u32) -> bool
     ensures { (f : Frame) → clauses.now ≡ map spans_of f.clauses → (IsTrue result ↔ MayLeave f k t) }
 {
     all_release(clauses, k, t)
 }
 
 /// Whether `rethrow` may stand at `k` (III.4.24).
-pub fn may_rethrow(clauses: &[Spans], k: u32) -> bool
+pub fn may_rethrow(clauses: &Clauses, k: u32) -> bool
     ensures { (f : Frame) → clauses.now ≡ map spans_of f.clauses → (IsTrue result ↔ MayRethrow f k) }
 {
     any_rethrows(clauses, k)
 }
 
 /// Whether `endfinally` may stand at `k` (III.3.35).
-pub fn may_end_finally(clauses: &[Spans], k: u32) -> bool
+pub fn may_end_finally(clauses: &Clauses, k: u32) -> bool
     ensures { (f : Frame) → clauses.now ≡ map spans_of f.clauses → (IsTrue result ↔ MayEndFinally f k) }
 {
     any_ends_finally(clauses, k)
 }
 
 /// Whether `endfilter` may stand at `k` (III.3.34).
-pub fn may_end_filter(clauses: &[Spans], k: u32) -> bool
+pub fn may_end_filter(clauses: &Clauses, k: u32) -> bool
     requires { k < 2 ^ 32 - 1 }
     ensures { (f : Frame) → clauses.now ≡ map spans_of f.clauses → (IsTrue result ↔ MayEndFilter f k) }
 {

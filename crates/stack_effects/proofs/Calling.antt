@@ -21,19 +21,20 @@ use Rattle.type_hierarchy.specs.Stack.{stack_of}
 use Rattle.type_hierarchy.specs.Tables.{hierarchy_in}
 use Rattle.type_hierarchy.specs.World.{Content, hierarchy, Stays}
 use Rattle.stack_effects.specs.declared.calls.CallParts.{CallParts}
-use Rattle.stack_effects.specs.declared.row.Demand.{Demand}
-use Rattle.stack_effects.specs.declared.row.Demand.TheVariants.{To}
-use Rattle.stack_effects.specs.declared.row.Pushed.{Pushed}
-use Rattle.stack_effects.specs.declared.row.Pushed.TheVariants.{Always}
-use Rattle.stack_effects.specs.declared.row.Row.{Row}
+use Rattle.stack_rows.specs.declared.row.Demand.{Demand}
+use Rattle.stack_rows.specs.declared.row.Demand.TheVariants.{To}
+use Rattle.stack_rows.specs.declared.row.Pushed.{Pushed}
+use Rattle.stack_rows.specs.declared.row.Pushed.TheVariants.{Always}
+use Rattle.stack_rows.specs.declared.row.Row.{Row}
 use Rattle.code_flow.specs.Demands as demands
 use Rattle.code_flow.specs.Frames.{owner_in, type_in, types_in, method_arguments, member_type}
 use Rattle.code_flow.specs.Rows as rows
 use Rattle.code_flow.specs.Rows.{layer_result, result, pushes, demand_of, return_demands, parameter_demand, parameter_demands}
-use Rattle.stack_effects.specs.RowMeanings.{type_option, MeansCall, IsCallWithin, MeansDemand, MeansPushed, MeansResult, MeansRow}
-use Rattle.stack_effects.specs.TypeKinds.{is_void, layer_is_void}
-use Rattle.stack_effects.proofs.Growing.{extends_long, all_kept, has_kept, demand_within, demand_kept}
-use Rattle.stack_effects.proofs.RowParts.{to_means, always_means, option_same}
+use Rattle.stack_rows.specs.RowMeanings.{type_option, MeansDemand, MeansPushed, MeansRow}
+use Rattle.stack_effects.specs.MemberMeanings.{MeansCall, IsCallWithin, MeansResult}
+use Rattle.stack_rows.specs.TypeKinds.{is_void, layer_is_void}
+use Rattle.stack_rows.proofs.Growing.{extends_long, all_kept, has_kept, demand_within, demand_kept}
+use Rattle.stack_rows.proofs.RowParts.{to_means, always_means, option_same}
 use Rattle.stack_effects.proofs.Zips.{zip_weaker, zip_end}
 
 -- ---- results

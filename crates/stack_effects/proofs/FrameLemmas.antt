@@ -17,12 +17,12 @@ use Rattle.type_hierarchy.specs.Normal.{Reading, normal, normal_step, normal_own
 use Rattle.type_hierarchy.specs.Stack.{is_reference}
 use Rattle.type_hierarchy.specs.Tables.{hierarchy_in}
 use Rattle.type_hierarchy.specs.World.{Content, hierarchy, Stays}
-use Rattle.stack_effects.specs.declared.frame.CodeFrame.{CodeFrame}
+use Rattle.stack_rows.specs.declared.frame.CodeFrame.{CodeFrame}
 use Rattle.type_order.specs.OwnTypes.{variables, own_class}
 use Rattle.code_flow.specs.Frames.{type_in, types_in, as_this, this_argument, frame}
 use Rattle.code_flow.specs.Methods.{Declared}
-use Rattle.stack_effects.specs.RowMeanings.{MeansFrame, IsFrameWithin}
-use Rattle.stack_effects.proofs.Growing.{all_kept}
+use Rattle.stack_rows.specs.RowMeanings.{MeansFrame, IsFrameWithin}
+use Rattle.stack_rows.proofs.Growing.{all_kept}
 
 -- ---- argument 0
 

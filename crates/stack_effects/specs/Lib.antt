@@ -1,2 +1,1 @@
-pub mod RowMeanings
-pub mod TypeKinds
+pub mod MemberMeanings

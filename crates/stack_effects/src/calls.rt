@@ -9,16 +9,17 @@ ghost use Rattle.type_hierarchy.specs.World.{hierarchy, Stays};
 ghost use Rattle.code_flow.specs.declared.operation.Operation.TheVariants as does;
 ghost use Rattle.code_flow.specs.Demands as demands;
 ghost use Rattle.code_flow.specs.Frames.{types_in, method_arguments, member_type};
-ghost use Rattle.stack_effects.specs.RowMeanings.{type_option, method_in, method_row_by, MeansCall, IsCallWithin, MeansDemand, MeansPushed, MeansResult, MeansRow};
+ghost use Rattle.stack_rows.specs.RowMeanings.{type_option, MeansDemand, MeansPushed, MeansRow};
+ghost use Rattle.stack_effects.specs.MemberMeanings.{method_in, method_row_by, MeansCall, IsCallWithin, MeansResult};
 ghost use Rattle.code_flow.specs.Rows as rows;
 ghost use Rattle.code_flow.specs.Rows.{parameter_demand, return_demands};
 
 use crate::fields::object_demand;
-use crate::making::{made, plain};
-use crate::row::{Demand, Pushed, Row};
-use crate::type_kinds::is_void;
 use assembly_tree::Operand;
 use il_lists::{Items, NoMemory};
+use stack_rows::making::{made, plain};
+use stack_rows::row::{Demand, Pushed, Row};
+use stack_rows::type_kinds::is_void;
 use std::alloc::Global;
 use type_order::types::World;
 use type_order::{

@@ -6,13 +6,13 @@ ghost use Rattle.type_hierarchy.specs.World.{hierarchy, Stays};
 ghost use Rattle.type_order.specs.OwnTypes.{own_class};
 ghost use Rattle.code_flow.specs.Frames.{type_in, types_in, as_this, this_argument, frame};
 ghost use Rattle.code_flow.specs.Methods.{Declared};
-ghost use Rattle.stack_effects.specs.RowMeanings.{MeansFrame, IsFrameWithin};
+ghost use Rattle.stack_rows.specs.RowMeanings.{MeansFrame, IsFrameWithin};
 
 use crate::calls::type_keys;
-use crate::frame::CodeFrame;
-use crate::type_kinds::is_reference;
 use assembly_tree::{Body, Method};
 use il_lists::{Items, NoMemory};
+use stack_rows::frame::CodeFrame;
+use stack_rows::type_kinds::is_reference;
 use std::alloc::Global;
 use type_order::types::World;
 use type_order::{TypeKey, TypeKeys, id_of, own_keys, type_key};

@@ -1,16 +1,8 @@
-//! What each instruction asks of the evaluation stack and leaves there, as rows (ECMA-335 III.1.8, III.3, III.4): the kinds of
-//! types, and the rows of calls, fields, types, variables and primitives, with the frame of a method.
+//! What calls, returns, and instructions on fields, arguments and locals ask of the evaluation stack and leave there, as rows
+//! (ECMA-335 III.3, III.4), with the types that a method's body is checked against.
 #![tactic(auto)]
 
 pub mod calls;
 pub mod fields;
-pub mod frame;
 pub mod framing;
-pub mod kinds;
-pub mod making;
-pub mod naming;
-pub mod primitive_rows;
-pub mod row;
-pub mod type_kinds;
-pub mod type_rows;
 pub mod variables;

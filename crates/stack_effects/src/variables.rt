@@ -3,15 +3,15 @@ ghost use Rattle.std.specs.Prelude.{◌≡◌, ◌<◌, ℕ, length, slice_get, 
 ghost use Rattle.sig_pool.specs.Terms.{AllBelow};
 ghost use Rattle.type_hierarchy.specs.Meaning.{Means};
 ghost use Rattle.type_hierarchy.specs.World.{hierarchy, Stays};
-ghost use Rattle.stack_effects.specs.RowMeanings.{type_option, MeansRow};
+ghost use Rattle.stack_rows.specs.RowMeanings.{type_option, MeansRow};
 ghost use Rattle.code_flow.specs.Rows.{operand_variable, variable_by, variable, load_row, store_row, address_of, address_row};
 
-use crate::making::plain;
-use crate::row::{Demand, Pushed, Row};
-use crate::type_kinds::is_by_reference;
 use assembly_tree::{Ins, Operand};
 use il_lists::NoMemory;
 use opcode_table::Op;
+use stack_rows::making::plain;
+use stack_rows::row::{Demand, Pushed, Row};
+use stack_rows::type_kinds::is_by_reference;
 use std::alloc::Global;
 use type_order::types::World;
 use type_order::{StackType, TypeKey, TypeKeys, id_of, pointer_to, st_of};

@@ -1,6 +1,6 @@
 //! Fields with data: too little of it, or no stated size.
 
-ghost use Rattle.source_syntax.specs.Walk.{IsForest};
+ghost use Rattle.source_nodes.specs.Walk.{IsForest};
 
 use check_data::mapped_fields::{DataFaults, data_faults};
 use check_names::class_rules::collect_classes;
@@ -9,8 +9,8 @@ use il_lexer::types::Tokens;
 use il_lexer::{end_place, spans_of, tokens};
 use ilasm_grammar::parse;
 use source_model::derivations_are_forests;
+use source_nodes::reader::Reader;
 use source_syntax::name_lists::{Naming, collect};
-use source_syntax::reader::Reader;
 use std::alloc::{AllocError, Global};
 use std::test::Fail;
 

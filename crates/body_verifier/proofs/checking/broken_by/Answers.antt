@@ -2,9 +2,9 @@ use Rattle.std.proofs.Common.{◌≡◌, ◌<◌, ◌≤◌, ◌∙◌, sym, ap,
 use Rattle.body_verifier.specs.declared.report.Broken.{Broken}
 use Rattle.body_verifier.specs.Checking.{broken_at}
 use Rattle.body_verifier.specs.Reports.{Lists}
-use Rattle.body_verifier.specs.StateMeanings.{typing_of}
+use Rattle.stack_states.specs.StateMeanings.{typing_of}
 use Rattle.body_verifier.proofs.Checked.{known_on, row_still, state_still, judged_at, one_judged, all_judged}
-use Rattle.stack_effects.proofs.Growing.{stays_on}
+use Rattle.stack_rows.proofs.Growing.{stays_on}
 use Rattle.body_verifier.proofs.checking.broken_by.Goals as goal
 
 pub verdict-requires-clause-known : goal.verdict-requires-clause-known
@@ -25,7 +25,7 @@ loop-k-preserved c = record {
       let below : c.loop-k.k < length c.args.body.now.code = omega (arith, ap length c.as_slice-code.ensures) in
       let judged = judged_at c.args.w.now c.loop-k.w f c.args.a.now c.args.frame.now c.args.body.now c.as_slice-code.result.now c.args.clauses.now c.in_ok-marks.marks c.args.rows.now c.args.states.now c.loop-k.k
       c.at-row.result.now c.at-state.result.now c.in_ok-rule.rule (c.keys_keep_their_types.ensures.keys c.args.w.now c.loop-k.w c.loop-k.invariant.stays) c.loop-k.invariant.stays types is rows c.requires.rows c.requires.states
-      c.as_slice-code.ensures below c.at-row.ensures c.at-state.ensures c.in_ok-marks.ensures.are c.in_ok-rule.ensures.ok in
+      c.as_slice-code.ensures below c.at-row.ensures c.at-state.ensures (λ f e s. c.in_ok-marks.ensures.are f e (c.as_slice.ensures ∙ s)) c.in_ok-rule.ensures.ok in
       let P : List Broken → Type 0 = λ (xs : List Broken). Lists f typing 0 (xs ++ more) in
       subst P (sym c.in_ok-add_broken.ensures)
       (one_judged f typing c.loop-k.k c.in_ok-rule.rule c.loop-k.broken more (omega (arith, below, ap length is.code)) judged (λ rest g. c.loop-k.invariant.lists f rest types is rows g) h);

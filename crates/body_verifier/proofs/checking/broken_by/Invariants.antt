@@ -4,7 +4,7 @@ use Rattle.body_verifier.specs.declared.report.Broken.{Broken}
 use Rattle.body_verifier.specs.Checking.{IsFrameOf}
 use Rattle.code_flow.specs.Frames.{Frame}
 use Rattle.body_verifier.specs.Reports.{Lists}
-use Rattle.body_verifier.specs.StateMeanings.{typing_of}
+use Rattle.stack_states.specs.StateMeanings.{typing_of}
 use Rattle.body_verifier.specs.Ways.{AreRows}
 use Rattle.body_verifier.proofs.checking.broken_by.Given as goal
 

@@ -1,4 +1,4 @@
-use Rattle.std.proofs.Common.{◌≡◌, ◌∙◌, refl, sym, ap, subst, ℕ, ◌+◌, ◌≤◌, List, [], ◌∷◌, length, map, arith}
+use Rattle.std.proofs.Common.{◌≡◌, ◌∙◌, refl, sym, ap, subst, ℕ, ◌+◌, ◌<◌, ◌≤◌, ◌^◌, List, [], ◌∷◌, length, map, arith}
 use Rattle.std.specs.Prelude.{IfOk}
 use Rattle.std.proofs.lemmas.Result.{IfOk-weaker}
 use Rattle.type_hierarchy.specs.World.{hierarchy}
@@ -11,7 +11,16 @@ use Rattle.code_flow.specs.Methods.{Declared}
 use Rattle.body_verifier.specs.Reports.{Fails}
 use Rattle.body_verifier.specs.StepBound.{AreEdges, height, step_bound}
 use Rattle.body_verifier.proofs.Checked.{known_in, light_in, few_in, forward_all, whole_fails, same_method, set_up_body, ready, fails_all, rises_all, same_edges, same_declared, code_of_frame, bound_of_frame}
+use Rattle.body_verifier.proofs.Weighing.{few_clauses}
 use Rattle.body_verifier.proofs.checking.broken_in.Goals as goal
+
+pub of-requires : goal.of-requires
+of-requires g c =
+    let light = light_in g.sources c.args.w.now c.args.a.now c.args.at.now c.requires.1.1.0.0 c.args.body.now c.requires.1.0 c.requires.0 c.requires.1.1.0.1 in
+    let few : length c.args.body.now.clauses ≤ 2 ^ 20 = few_clauses c.args.body.now light in
+    let e = ap length c.as_slice.ensures in
+    let less : length c.as_slice.result.now < 2 ^ 32 = omega (arith, few, e) in
+    less
 
 pub whole_rule-requires-clause-forward : goal.whole_rule-requires-clause-forward
 whole_rule-requires-clause-forward g c = forward_all (length c.args.body.now.code) c.args.body.now.clauses
@@ -39,7 +48,7 @@ broken_instructions-requires g c =
     let d : Declared = record { path = c.in_ok-path-in-None.path; parameters = c.parameters_by-parameters.result; method = c.args.method.now } in
     let light = light_in g.sources c.args.w.now c.args.a.now c.args.at.now c.requires.1.1.0.0 c.args.body.now c.requires.1.0 c.requires.0 c.requires.1.1.0.1 in (
       set_up_body c.args.a.now d c.args.body.now g.sources c.args.w.now light c.requires.1.0 c.joins_are_least_upper_bounds.ensures.order c.instructions_are_monotone.ensures,
-      (ready c.args.a.now (hierarchy c.args.w.now) d c.args.body.now g.sources c.args.w.now c.as_slice-clauses.result.now light c.in-None.ensures.nest (c.as_slice-clauses.ensures ∙ c.in_ok-clauses.ensures ∙ ap (map spans_of) c.as_slice.ensures) c.requires.1.0, (refl, (c.requires.1.1.1, known_in g.sources c.args.w.now c.args.a.now c.requires.0 c.requires.1.0))),
+      (ready c.args.a.now (hierarchy c.args.w.now) d c.args.body.now g.sources c.args.w.now c.in_ok-clauses.clauses light c.in-None.ensures.nest (c.in_ok-clauses.ensures ∙ ap (map spans_of) c.as_slice.ensures) c.requires.1.0, (refl, (c.requires.1.1.1, known_in g.sources c.args.w.now c.args.a.now c.requires.0 c.requires.1.0))),
     )
 
 pub returns-clause-ok : goal.returns-clause-ok

@@ -7,12 +7,12 @@ use Rattle.body_verifier.specs.Checking.{AreBroken}
 use Rattle.code_flow.specs.Frames.{Frame, frame}
 use Rattle.code_flow.specs.Methods.{Declared}
 use Rattle.body_verifier.specs.Reports.{Lists}
-use Rattle.stack_effects.specs.RowMeanings.{MeansFrame}
-use Rattle.body_verifier.specs.StateMeanings.{typing_of}
+use Rattle.stack_rows.specs.RowMeanings.{MeansFrame}
+use Rattle.stack_states.specs.StateMeanings.{typing_of}
 use Rattle.body_verifier.specs.StepBound.{step_bound}
 use Rattle.body_verifier.proofs.Breaking.{quiet_all}
 use Rattle.body_verifier.proofs.Checked.{known_on, rows_still, is_frame_of, forward_all}
-use Rattle.stack_effects.proofs.Growing.{stays_on, frame_kept}
+use Rattle.stack_rows.proofs.Growing.{stays_on, frame_kept}
 use Rattle.body_verifier.proofs.Shallow.{deep_enough, flows_apart}
 use Rattle.body_verifier.proofs.checking.broken_instructions.Goals as goal
 

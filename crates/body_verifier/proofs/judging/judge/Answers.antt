@@ -2,7 +2,7 @@ use Rattle.std.proofs.Common.{sym, subst, ℕ}
 use Rattle.type_hierarchy.specs.Hierarchy.{Hierarchy}
 use Rattle.type_hierarchy.specs.World.{hierarchy}
 use Rattle.code_flow.specs.Rows.{Row, row_of}
-use Rattle.stack_effects.specs.RowMeanings.{stack_meant}
+use Rattle.stack_rows.specs.RowMeanings.{stack_meant}
 use Rattle.body_verifier.specs.Verdicts.{AreStackBreaks}
 use Rattle.body_verifier.proofs.VerdictLemmas.{judged}
 use Rattle.body_verifier.proofs.judging.judge.Goals as goal

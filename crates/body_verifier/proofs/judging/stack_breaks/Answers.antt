@@ -3,22 +3,22 @@ use Rattle.type_hierarchy.specs.Hierarchy.{Hierarchy}
 use Rattle.type_hierarchy.specs.Stack.{Stack}
 use Rattle.type_hierarchy.specs.Tables.{hierarchy_in}
 use Rattle.type_hierarchy.specs.World.{hierarchy}
-use Rattle.body_verifier.specs.Asking.{FailsToFit}
+use Rattle.stack_states.specs.Asking.{FailsToFit}
 use Rattle.code_flow.specs.Rows.{Row}
-use Rattle.stack_effects.specs.RowMeanings.{row_meant, stack_meant, IsStackWithin}
-use Rattle.stack_effects.proofs.Growing.{row_same, stack_same, stack_within}
-use Rattle.body_verifier.proofs.Topmost.{top_taken, top_within, wrong_same, fit_same, mismatch_same}
+use Rattle.stack_rows.specs.RowMeanings.{row_meant, stack_meant, IsStackWithin}
+use Rattle.stack_rows.proofs.Growing.{row_same, stack_same, stack_within}
+use Rattle.stack_states.proofs.Topmost.{top_taken, top_within, wrong_same, fit_same, mismatch_same}
 use Rattle.body_verifier.proofs.judging.stack_breaks.Goals as goal
 
 pub has_wrong_operand-requires-clause-stack : goal.has_wrong_operand-requires-clause-stack
 has_wrong_operand-requires-clause-stack c =
-    top_within _ _ c.args.stack.now c.as_slice-operands.result.now (c.as_slice-operands.ensures.value ∙ c.in_ok-operands.ensures) c.requires.stack
+    top_within _ _ c.args.stack.now c.as_slice-operands.result.now (c.as_slice-operands.ensures ∙ c.in_ok-operands.ensures) c.requires.stack
 
 pub fails_to_fit-requires-clause-stack : goal.fails_to_fit-requires-clause-stack
 fails_to_fit-requires-clause-stack c =
     let top = c.as_slice-operands.result.now in
     stack_within c.args.w.now.nodes c.has_wrong_operand.new.w.nodes top c.in_ok-wrong.ensures.stays.nodes
-    (top_within _ _ c.args.stack.now top (c.as_slice-operands.ensures.value ∙ c.in_ok-operands.ensures) c.requires.stack)
+    (top_within _ _ c.args.stack.now top (c.as_slice-operands.ensures ∙ c.in_ok-operands.ensures) c.requires.stack)
 
 pub returns-clause-ok : goal.returns-clause-ok
 returns-clause-ok c =
@@ -29,7 +29,7 @@ returns-clause-ok c =
     let s = c.args.stack.now in
     let top = c.as_slice-operands.result.now in
     let is : top ≡ drop (length s - length r.operands) s =
-    c.as_slice-operands.ensures.value ∙ c.in_ok-operands.ensures ∙ ap (λ n. drop (length s - n) s) c.len.ensures in
+    c.as_slice-operands.ensures ∙ c.in_ok-operands.ensures ∙ ap (λ n. drop (length s - n) s) c.len.ensures in
     let in_top : IsStackWithin (length w.nodes) top = top_within _ _ s top is c.requires.stack in
     let same = top_taken w.nodes r s top is in
     let row : Row = row_meant w.nodes r in

@@ -2,9 +2,9 @@ use Rattle.std.proofs.Common.{[], ◌∷◌, IfOk, refl, sym, subst}
 use Rattle.type_hierarchy.specs.World.{hierarchy}
 use Rattle.code_flow.specs.declared.operation.Operation.{Operation}
 use Rattle.code_flow.specs.Demands as demands
-use Rattle.stack_effects.specs.RowMeanings.{framed, type_option, MeansRow}
+use Rattle.stack_rows.specs.RowMeanings.{framed, type_option, MeansRow}
 use Rattle.code_flow.specs.Rows.{row_by, number_type, pushes}
-use Rattle.stack_effects.proofs.RowParts.{always_means}
+use Rattle.stack_rows.proofs.RowParts.{always_means}
 use Rattle.body_verifier.proofs.rows.row_by_operation.Goals as goal
 
 pub returns-in-LoadNumber-clause-ok : goal.returns-in-LoadNumber-clause-ok

@@ -1,5 +1,5 @@
 use Rattle.std.proofs.Common.{arith}
-use Rattle.stack_effects.proofs.Growing.{stays_on, stays_still}
+use Rattle.stack_rows.proofs.Growing.{stays_on, stays_still}
 use Rattle.body_verifier.proofs.RowLists.{no_rows, constraint_none, rows_more, constraint_more, rows_done}
 use Rattle.body_verifier.proofs.rows.rows_of.Goals as goal
 

@@ -2,7 +2,7 @@ use Rattle.std.proofs.Common.{◌≡◌, ◌<◌, length}
 use Rattle.std.specs.Prelude.{IfSome}
 use Rattle.type_hierarchy.specs.World.{hierarchy, Stays}
 use Rattle.code_flow.specs.Frames.{Frame}
-use Rattle.stack_effects.specs.RowMeanings.{type_option, MeansFrame}
+use Rattle.stack_rows.specs.RowMeanings.{type_option, MeansFrame}
 use Rattle.code_flow.specs.Rows.{constraint}
 use Rattle.body_verifier.proofs.RowLists.{RowsTo}
 use Rattle.body_verifier.proofs.rows.rows_of.Given as goal

@@ -1,5 +1,5 @@
 use Rattle.std.proofs.Common.{◌≡◌, ◌-◌, ◌≤◌, [], ◌∷◌, replicate}
-use Rattle.body_verifier.specs.declared.state.State.TheVariants.{Unreached, Stack}
+use Rattle.stack_states.specs.declared.state.State.TheVariants.{Unreached, Stack}
 use Rattle.body_verifier.proofs.solving.first_states.Given as goal
 
 abbrev pub invariant-loop : goal.invariant-loop

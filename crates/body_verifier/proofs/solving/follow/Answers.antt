@@ -1,6 +1,6 @@
 use Rattle.std.proofs.Common.{◌≡◌, ◌∙◌, ◌∷◌, ◌<◌, sym, ap, subst, ℕ, arith, length, List}
-use Rattle.body_verifier.specs.declared.state.State.{State}
-use Rattle.body_verifier.specs.StateMeanings.{state_depth, typing_of, IsStateWithin}
+use Rattle.stack_states.specs.declared.state.State.{State}
+use Rattle.stack_states.specs.StateMeanings.{state_depth, typing_of, IsStateWithin}
 use Rattle.code_flow.specs.Typings as typings
 use Rattle.body_verifier.specs.Ways.{Raises}
 use Rattle.type_hierarchy.specs.World.{hierarchy}

@@ -1,8 +1,8 @@
 use Rattle.std.proofs.Common.{◌≡◌, ℕ, ◌+◌, ◌*◌, ◌≤◌, List, length, arith}
 use Rattle.std.proofs.lemmas.Result.{IfOk-at_ok}
-use Rattle.body_verifier.specs.declared.state.State.{State}
+use Rattle.stack_states.specs.declared.state.State.{State}
 use Rattle.body_verifier.specs.Potential.{total}
-use Rattle.body_verifier.specs.StateMeanings.{typing_of}
+use Rattle.stack_states.specs.StateMeanings.{typing_of}
 use Rattle.body_verifier.specs.StepBound.{step_bound}
 use Rattle.body_verifier.specs.Ways.{IsSolved}
 use Rattle.body_verifier.proofs.EdgeCounts.{budget_bound}

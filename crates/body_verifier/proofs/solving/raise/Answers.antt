@@ -1,7 +1,7 @@
 use Rattle.std.proofs.Common.{Option, None, Some, subst}
 use Rattle.type_hierarchy.specs.World.{hierarchy}
-use Rattle.body_verifier.specs.declared.state.State.{State}
-use Rattle.body_verifier.specs.StateMeanings.{MeetsAs}
+use Rattle.stack_states.specs.declared.state.State.{State}
+use Rattle.stack_states.specs.StateMeanings.{MeetsAs}
 use Rattle.body_verifier.proofs.RaiseLemmas.{raised}
 use Rattle.body_verifier.proofs.solving.raise.Goals as goal
 

@@ -2,9 +2,9 @@ use Rattle.std.proofs.Common.{◌≡◌, ◌∙◌, ◌∷◌, [], ◌<◌, ◌�
 use Rattle.type_hierarchy.specs.World.{hierarchy}
 use Rattle.body_verifier.specs.Potential.{potential, potential_at, total}
 use Rattle.code_flow.specs.Typings as typings
-use Rattle.body_verifier.specs.StateMeanings.{typing_of}
+use Rattle.stack_states.specs.StateMeanings.{typing_of}
 use Rattle.code_flow.specs.declared.goings.Going.{Going}
-use Rattle.body_verifier.specs.Waiting.{Waiting}
+use Rattle.stack_states.specs.Waiting.{Waiting}
 use Rattle.body_verifier.specs.Ways.{IsUnderWay, AreWays, charge, depth_charges, step_budget}
 use Rattle.body_verifier.proofs.EdgeStart.{setup_kept, stated_kept, stays_itself}
 use Rattle.body_verifier.proofs.SolveLemmas.{cost_of, set_out, set_out_budget, set_out_less, taken_less, goings_at, row_ready, ways_ready, charge_is, first_pushed, taken_budget}

@@ -1,7 +1,7 @@
 use Rattle.std.proofs.Common.{◌≡◌, ◌+◌, ◌*◌, ◌≤◌, length, ℕ}
 use Rattle.type_hierarchy.specs.World.{Stays}
 use Rattle.body_verifier.specs.Potential.{potential, potential_at, total}
-use Rattle.body_verifier.specs.StateMeanings.{typing_of}
+use Rattle.stack_states.specs.StateMeanings.{typing_of}
 use Rattle.body_verifier.specs.Ways.{IsCost, IsDepth, IsUnderWay, step_budget}
 use Rattle.body_verifier.proofs.SolveLemmas.{cost_of}
 use Rattle.body_verifier.proofs.solving.solve.Given as goal

@@ -1,4 +1,4 @@
-use Rattle.stack_effects.proofs.Growing.{stays_on}
+use Rattle.stack_rows.proofs.Growing.{stays_on}
 use Rattle.body_verifier.proofs.StatedLemmas.{caught_more}
 use Rattle.body_verifier.proofs.stated.all_caught.Goals as goal
 

@@ -1,6 +1,6 @@
 use Rattle.std.proofs.Common.{◌∙◌, ap, sym}
 use Rattle.type_hierarchy.specs.Tables.{hierarchy_in}
-use Rattle.body_verifier.specs.declared.state.State.TheVariants.{Stack}
+use Rattle.stack_states.specs.declared.state.State.TheVariants.{Stack}
 use Rattle.body_verifier.proofs.StatedLemmas.{stays_stack, stated_are}
 use Rattle.body_verifier.proofs.stated.stated_of.Goals as goal
 

@@ -2,9 +2,9 @@ use Rattle.std.proofs.Common.{◌≡◌, sym, ◌∙◌, ap, subst, refl, List, 
 use Rattle.std.specs.Prelude.{slice_get}
 use Rattle.std.proofs.lemmas.Option.{slice_get_read}
 use Rattle.assembly_tree.specs.declared.body.Ins.{Ins}
-use Rattle.body_verifier.specs.declared.state.State.{State}
+use Rattle.stack_states.specs.declared.state.State.{State}
 use Rattle.code_flow.specs.Operations.{operation}
-use Rattle.body_verifier.specs.StateMeanings.{state_meant}
+use Rattle.stack_states.specs.StateMeanings.{state_meant}
 use Rattle.code_flow.proofs.PairLemmas.{one_item}
 use Rattle.body_verifier.proofs.RuleLemmas.{breaks_at_clash}
 use Rattle.body_verifier.proofs.verdicts.verdict.Goals as goal

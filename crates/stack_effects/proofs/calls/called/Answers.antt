@@ -1,5 +1,5 @@
 use Rattle.stack_effects.proofs.Calling.{call_row_means}
-use Rattle.stack_effects.proofs.Growing.{stays_on}
+use Rattle.stack_rows.proofs.Growing.{stays_on}
 use Rattle.stack_effects.proofs.calls.called.Goals as goal
 
 pub returns-in_err-pushed-clause-stays : goal.returns-in_err-pushed-clause-stays

@@ -1,8 +1,8 @@
 use Rattle.std.proofs.Common.{[], sym, subst}
 use Rattle.std.specs.List.{AllZip}
-use Rattle.stack_effects.specs.RowMeanings.{MeansDemand}
+use Rattle.stack_rows.specs.RowMeanings.{MeansDemand}
 use Rattle.stack_effects.proofs.Calling.{new_row_means}
-use Rattle.stack_effects.proofs.Growing.{stays_on}
+use Rattle.stack_rows.proofs.Growing.{stays_on}
 use Rattle.stack_effects.proofs.calls.created.Goals as goal
 
 pub returns-clause-ok : goal.returns-clause-ok

@@ -1,5 +1,5 @@
 use Rattle.stack_effects.proofs.Calling.{keys_more}
-use Rattle.stack_effects.proofs.Growing.{stays_on}
+use Rattle.stack_rows.proofs.Growing.{stays_on}
 use Rattle.stack_effects.proofs.calls.type_keys.Goals as goal
 
 pub loop-t-preserved : goal.loop-t-preserved

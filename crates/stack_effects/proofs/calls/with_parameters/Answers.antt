@@ -1,5 +1,5 @@
 use Rattle.stack_effects.proofs.Calling.{parameter_more}
-use Rattle.stack_effects.proofs.Growing.{below_kept, stays_on}
+use Rattle.stack_rows.proofs.Growing.{below_kept, stays_on}
 use Rattle.stack_effects.proofs.calls.with_parameters.Goals as goal
 
 pub key_of-requires-clause-class_args : goal.key_of-requires-clause-class_args

@@ -3,7 +3,8 @@ use Rattle.std.specs.List.{AllZip}
 use Rattle.type_terms.specs.declared.reference.MethodRef.{MethodRef}
 use Rattle.type_hierarchy.specs.World.{hierarchy, Stays}
 use Rattle.code_flow.specs.Demands.{Demand}
-use Rattle.stack_effects.specs.RowMeanings.{MeansCall, MeansDemand}
+use Rattle.stack_rows.specs.RowMeanings.{MeansDemand}
+use Rattle.stack_effects.specs.MemberMeanings.{MeansCall}
 use Rattle.code_flow.specs.Rows.{parameter_demand}
 use Rattle.stack_effects.proofs.calls.with_parameters.Given as goal
 

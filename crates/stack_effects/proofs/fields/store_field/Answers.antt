@@ -2,10 +2,11 @@ use Rattle.std.proofs.Common.{Option, IfOk, subst}
 use Rattle.type_terms.specs.declared.reference.FieldRef.{FieldRef}
 use Rattle.type_hierarchy.specs.World.{hierarchy}
 use Rattle.code_flow.specs.declared.operation.Operation.TheVariants as does
-use Rattle.stack_effects.specs.RowMeanings.{type_option, field_row_by, MeansRow}
+use Rattle.stack_rows.specs.RowMeanings.{type_option, MeansRow}
+use Rattle.stack_effects.specs.MemberMeanings.{field_row_by}
 use Rattle.code_flow.specs.Rows.{object_demand}
-use Rattle.stack_effects.proofs.Growing.{means_kept}
-use Rattle.stack_effects.proofs.RowParts.{to_means, object_same}
+use Rattle.stack_rows.proofs.Growing.{means_kept}
+use Rattle.stack_rows.proofs.RowParts.{to_means, object_same}
 use Rattle.stack_effects.proofs.fields.store_field.Goals as goal
 
 pub returns-in_ok-object-in-Some-clause-ok : goal.returns-in_ok-object-in-Some-clause-ok

@@ -2,7 +2,7 @@ use Rattle.std.proofs.Common.{◌≡◌, sym, ap, ◌∙◌, subst, None, Option
 use Rattle.std.specs.Prelude.{unwrap_or}
 use Rattle.std.proofs.lemmas.Option.{unwrap_or-slice_get}
 use Rattle.code_flow.specs.declared.goings.Carried.{Carried}
-use Rattle.body_verifier.specs.declared.state.State.{State}
+use Rattle.stack_states.specs.declared.state.State.{State}
 use Rattle.body_verifier.specs.Ways.{brought}
 use Rattle.body_verifier.proofs.stated.Stated.along.Goals as goal
 

@@ -1,7 +1,0 @@
-use Rattle.std.proofs.Common.{◌∙◌, ap, drop}
-use Rattle.std.proofs.lemmas.List.{drop-drop}
-use Rattle.body_verifier.specs.Chains.{values_of}
-use Rattle.body_verifier.proofs.stack.below.Goals as goal
-
-pub loop-preserved : goal.loop-preserved
-loop-preserved c = c.next-rest.ensures ∙ ap (drop 1) c.loop.invariant ∙ drop-drop 1 c.loop.counter (values_of c.args.link.now)

@@ -1,6 +1,0 @@
-use Rattle.std.proofs.Common.{◌≡◌, drop}
-use Rattle.body_verifier.specs.Chains.{values_of}
-use Rattle.body_verifier.proofs.stack.below.Given as goal
-
-abbrev pub invariant-loop : goal.invariant-loop
-invariant-loop l = values_of l.rest ≡ drop l.counter (values_of l.link)

@@ -1,8 +1,0 @@
-use Rattle.std.proofs.Common.{◌+◌, ◌≤◌}
-use Rattle.type_hierarchy.specs.World.{hierarchy, Stays}
-use Rattle.body_verifier.proofs.StackLemmas.{AreJoined}
-use Rattle.body_verifier.proofs.state.joins.Given as goal
-
-abbrev pub invariant-loop-k : goal.invariant-loop-k
-invariant-loop-k l =
-    Stays l.initial.w l.w × AreJoined (hierarchy l.initial.w) l.initial.w.nodes l.s l.t l.w.nodes l.joins l.k × (l.steps ≤ l.initial.steps + l.k)

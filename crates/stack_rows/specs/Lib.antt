@@ -1,0 +1,2 @@
+pub mod RowMeanings
+pub mod TypeKinds

@@ -1,0 +1,10 @@
+pub mod Answering
+pub mod Asks
+pub mod ChainLemmas
+pub mod LinkLemmas
+pub mod Pushing
+pub mod Sharing
+pub mod StackLemmas
+pub mod StateLemmas
+pub mod Taking
+pub mod Topmost
