@@ -1,20 +1,24 @@
 //! What is said of the bodies of an image's methods.
 
 ghost use Rattle.std.specs.Prelude.{◌≤◌, ◌^◌, length};
+ghost use Rattle.method_states.specs.States.{AreStates};
 
 use crate::fault::Fault;
 use body_demands::first_unmet;
 use body_tokens::first_unknown;
 use image_model::Place;
 use image_streams::{Image, Unmet};
-use method_states::look_at_bodies;
+use method_states::BodyState;
 
 /// The first of the demands I17 to I20 that the methods of an image fail.
-pub fn first_of_bodies(rt: &HostRuntime, image: &Image<'_>) -> Result<Option<Unmet>, Fault>
-    requires { length image.now ≤ 2 ^ 26 }
+pub fn first_of_bodies(
+    rt: &HostRuntime,
+    image: &Image<'_>,
+    states: &[BodyState],
+) -> Result<Option<Unmet>, Fault>
+    requires small { length image.now ≤ 2 ^ 26 }
+    requires states { AreStates image.now states.now }
 {
-    let bodies = look_at_bodies(rt.alloc(), image)?;
-    let states = bodies.states.as_slice();
     if let Some(unmet) = first_unmet(image, states) {
         return Ok(Some(unmet));
     }

@@ -129,7 +129,7 @@ pub(crate) fn accessors_of(image: &Image<'_>, index: u64) -> Rows
 
 /// The type that has an event, by the row of EventMap in whose run it lies.
 #[tactic(auto, unfolding(metadata_tables::specs::Schema::schema))]
-fn event_type(image: &Image<'_>, row: u32) -> u32
+pub fn event_type(image: &Image<'_>, row: u32) -> u32
     requires there { HasRow image.now 0x14 row }
     requires meets { MeetStructure image.now }
     ensures { IsOwnedBy image.now (events_of image.now) row result }
@@ -140,7 +140,7 @@ fn event_type(image: &Image<'_>, row: u32) -> u32
 
 /// The type that has a property, by the row of PropertyMap in whose run it lies.
 #[tactic(auto, unfolding(metadata_tables::specs::Schema::schema))]
-fn property_type(image: &Image<'_>, row: u32) -> u32
+pub fn property_type(image: &Image<'_>, row: u32) -> u32
     requires there { HasRow image.now 0x17 row }
     requires meets { MeetStructure image.now }
     ensures { IsOwnedBy image.now (properties_of image.now) row result }

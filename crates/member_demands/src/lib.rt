@@ -11,7 +11,7 @@ mod layouts;
 mod standing;
 mod values;
 
-pub use accessors::Accessors;
+pub use accessors::{Accessors, event_type, property_type};
 pub use bases::Bases;
 pub use constants::{field_has_constants, param_has_constants, property_has_constants};
 pub use generics::{method_has_generics, type_has_generics};

@@ -1,0 +1,8 @@
+//! The constant that an element type and a value are (ECMA-335 II.22.9, II.23.1.16).
+#![tactic(auto)]
+
+mod constant;
+mod integers;
+mod units;
+
+pub use constant::constant_of;

@@ -1,0 +1,4 @@
+pub mod Spreading
+pub mod Telling
+pub mod Going
+pub mod Ending

@@ -1,0 +1,13 @@
+use Rattle.std.proofs.Common.{inl, inr, refl}
+use Rattle.image_model.specs.Used.{IsUsed}
+use Rattle.method_states.specs.Marks.{IsKept}
+use Rattle.signature_demands.proofs.Rows.{used_by, unused_by, type_used, type_unused}
+use Rattle.signature_demands.proofs.references.meets_type.Goals as goal
+
+pub returns-then-is_used : goal.returns-then-is_used
+returns-then-is_used g c =
+    type_used c.args.all.now.image.now (g.O.Owners.facts c.args.all.now.owners.now) c.args.row c.has_type.result (rw c.requires.image at (used_by (IsKept 0x1B) (IsUsed c.args.used.now 0x1B c.args.row) c.is_used.result c.is_used.ensures c.if-is_used.true)) c.has_type.ensures
+
+pub returns : goal.returns
+returns g c =
+    type_unused c.args.all.now.image.now (g.O.Owners.facts c.args.all.now.owners.now) c.args.row (rw c.requires.image at (unused_by (IsKept 0x1B) (IsUsed c.args.used.now 0x1B c.args.row) c.is_used.result c.is_used.ensures c.if-is_used.false (inr (inr (inl refl)))))
