@@ -36,7 +36,7 @@ use Rattle.listing_reading.specs.Laws.{SearchesPass}
 use Rattle.listing_reading.specs.Numbered.{numbered, Agrees}
 use Rattle.listing_terms.specs.Laws.{PathsAreRead, TermsAreRead}
 use Rattle.listing_terms.specs.Readable as may
-use Rattle.listing_terms.specs.Readable.{KnowsAssemblies, is_id_named, is_path_named, is_scope_named, is_name_readable, is_type_readable, is_owner_readable}
+use Rattle.listing_terms.specs.Readable.{KnowsAssemblies, is_id_named, is_path_named, is_name_readable, is_type_readable, is_owner_readable}
 use Rattle.listing_values.specs.Laws.{NamesAreRead}
 use Rattle.listing_references.specs.Laws.{is_field_readable, FieldsAreRead}
 use Rattle.listing_references.proofs.Searched.{typed_outside_types, scoped_outside_types, typed_outside_scoped, typed_outside_named, scoped_outside_named, Ends, leaf_ends, after_leaf, after_branch, in_branch, owner_cases, module_is}
@@ -111,28 +111,28 @@ pub record TargetReads (s : Source) (a : Around) (i : Item) (u : Owner) (text : 
   pub name_is : (at : ℕ) → Agrees s at i.below → name_text s (token at) ≡ text
 
 -- the first type where one stands at the front
-the_first : (s : Source) (a : Around) (tree after : f.Forest) → the_type s a (f.branch p.TYPE tree after) ≡ read_type s a tree
+pub the_first : (s : Source) (a : Around) (tree after : f.Forest) → the_type s a (f.branch p.TYPE tree after) ≡ read_type s a tree
 unfolding types_in
 the_first s a tree after = refl
 
-no_length : nat_lt 0 0 ≡ true → ⊥
+pub no_length : nat_lt 0 0 ≡ true → ⊥
 no_length h = false≢true h
 
-both : (x y : Bool) → x ≡ true → y ≡ true → (x && y) ≡ true
+pub both : (x y : Bool) → x ≡ true → y ≡ true → (x && y) ≡ true
 both true y h k = k
 both false y h k = h
 
 some_id : (id : TypeId) (ids : List TypeId) → nat_lt 0 (length (id ∷ ids)) ≡ true
 some_id id ids = grind arith
 
-path_is : (id : TypeId) (ids : List TypeId) → list_all is_id_named (id ∷ ids) ≡ true → is_path_named (id ∷ ids) ≡ true
+pub path_is : (id : TypeId) (ids : List TypeId) → list_all is_id_named (id ∷ ids) ≡ true → is_path_named (id ∷ ids) ≡ true
 path_is id ids h = both (nat_lt 0 (length (id ∷ ids))) (list_all is_id_named (id ∷ ids)) (some_id id ids) h
 
 -- `::` and a name end with the name
 end_ends : (text : List ℕ) (from : ℕ) → Ends (f.leaf from (f.leaf (suc from) f.none)) (suc from)
 end_ends text from = after_leaf (suc from) from (f.leaf (suc from) f.none) (leaf_ends (suc from))
 
-abbrev of_name : scope.Scope → List TypeId → TypeName
+abbrev pub of_name : scope.Scope → List TypeId → TypeName
 of_name sc ids = record { scope = sc; path = ids }
 
 module _ (names : NamesAreRead) (paths : PathsAreRead) (terms : TermsAreRead) (searches : SearchesPass) (s : Source) (a : Around) (externs : List ExternAssembly) (knows : KnowsAssemblies s externs) (r : FieldRef) (named : is_name r.name ≡ true) where

@@ -2,3 +2,4 @@ mod Searched
 mod Fields
 mod Arguments
 mod Heads
+mod Methods

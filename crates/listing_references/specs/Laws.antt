@@ -3,6 +3,7 @@ use Rattle.std.specs.Prelude.{ℕ, ◌≡◌, ◌&&◌, Bool, true, List, [], �
 use Rattle.std.specs.List.{list_all}
 use Rattle.ilasm_grammar.specs.declared.productions.TheConstants as p
 use Rattle.type_terms.specs.declared.reference.FieldRef.{FieldRef}
+use Rattle.type_terms.specs.declared.reference.MethodRef.{MethodRef}
 use Rattle.type_terms.specs.declared.reference.MethodSig.{MethodSig}
 use Rattle.type_terms.specs.declared.term.SigType.{SigType}
 use Rattle.assembly_tree.specs.WellFormedTerms.{is_explicit_with_this, is_sentinel_inside, is_count, are_arguments}
@@ -11,7 +12,7 @@ use Rattle.source_model.specs.Forest as f
 use Rattle.source_model.specs.Nodes.{Around}
 use Rattle.source_model.specs.References as read
 use Rattle.source_model.specs.Source.{Source}
-use Rattle.listing_growth.specs.Standing.{field_stands, args_stand}
+use Rattle.listing_growth.specs.Standing.{field_stands, method_stands, args_stand}
 use Rattle.listing_leaves.specs.Laws.{is_name}
 use Rattle.listing_model.specs.References as written
 use Rattle.listing_model.specs.Shown.{Shown, none, optional}
@@ -68,3 +69,22 @@ FieldsAreRead =
     (s : Source) (around : Around) (externs : List ExternAssembly) → KnowsAssemblies s externs → (r : FieldRef) →
     is_field_readable externs r ≡ true → field_stands r ≡ true → (at : ℕ) → Agrees s at (written.field_ref externs r).below →
     read.field_ref s around (numbered at (written.field_ref externs r).below) ≡ r
+
+-- a reference to a method that a listing can hold, as it is read back
+pub record IsMethodReadable (externs : List ExternAssembly) (r : MethodRef) : Type 0 where
+  pub called : is_name r.name ≡ true
+  pub owned : is_owner_readable externs r.owner ≡ true
+  pub returned : is_type_readable externs r.sig.ret ≡ true
+  pub parameters : are_types_readable externs r.sig.params ≡ true
+  pub explicit : is_explicit_with_this r.sig ≡ true
+  pub inside : is_sentinel_inside r.sig ≡ true
+  pub counted : is_count r.sig.generic ≡ true
+  pub many : are_arguments r.sig.generic r.args ≡ true
+  pub arguments : option_all_readable externs r.args ≡ true
+
+-- a reference to a method, in any source that has it and knows the assemblies
+abbrev pub MethodsAreRead : Type 0
+MethodsAreRead =
+    (s : Source) (around : Around) (externs : List ExternAssembly) → KnowsAssemblies s externs → (r : MethodRef) →
+    IsMethodReadable externs r → method_stands r ≡ true → (at : ℕ) → Agrees s at (written.method_ref externs r).below →
+    read.method_ref s around (numbered at (written.method_ref externs r).below) ≡ r

@@ -1,5 +1,5 @@
 //! What the references of a listing are read as: laws, each as the contract of a function that does nothing when it is called.
-ghost use Rattle.listing_references.specs.Laws.{ArgumentsAreRead, ConventionsAreRead, FieldsAreRead, GenericsAreRead, MethodNamesAreRead};
+ghost use Rattle.listing_references.specs.Laws.{ArgumentsAreRead, ConventionsAreRead, FieldsAreRead, GenericsAreRead, MethodNamesAreRead, MethodsAreRead};
 
 use listing_growth::laws::{references_stand, terms_stand};
 use listing_reading::laws::searches_pass;
@@ -45,5 +45,20 @@ pub fn fields_are_read()
     terms_are_read();
     searches_pass();
     terms_stand();
+    references_stand();
+}
+
+/// A reference to a method is read as this, in a source that knows the other assemblies (ECMA-335 II.15.3, II.15.4).
+pub fn methods_are_read()
+    ensures { MethodsAreRead }
+{
+    names_are_read();
+    conventions_are_read();
+    arguments_are_read();
+    method_names_are_read();
+    generics_are_read();
+    paths_are_read();
+    terms_are_read();
+    searches_pass();
     references_stand();
 }

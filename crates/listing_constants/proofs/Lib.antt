@@ -1,0 +1,5 @@
+mod Integers
+mod Strings
+mod Constants
+mod Attributes
+mod Labels

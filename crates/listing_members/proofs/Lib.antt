@@ -1,0 +1,5 @@
+mod Fields
+mod Owners
+mod Typars
+mod Accessors
+mod Properties

@@ -1,0 +1,5 @@
+mod Segments
+mod Options
+mod Walks
+mod Filtered
+mod Pieces

@@ -1,0 +1,2 @@
+mod ExternRows
+mod ManifestRows

@@ -1,0 +1,3 @@
+pub mod FlagRows
+pub mod Rows
+pub mod Steps

@@ -1,0 +1,8 @@
+use Rattle.ilasm_grammar.specs.declared.nonterminals.TheConstants as n
+use Rattle.ilasm_grammar.specs.declared.productions.TheConstants as p
+use Rattle.listing_model.specs.Flags.{field_words}
+use Rattle.print_members.proofs.FlagRows.{kind_done}
+use Rattle.print_members.proofs.flags.write_field_flags.Goals as goal
+
+pub returns : goal.returns
+returns c = kind_done n.FIELD_ATTR p.FIELD_ATTR_FLAGS field_words c.args.flags c.args.paper.now _ c.in_ok-write_flags.ensures

@@ -1,0 +1,8 @@
+use Rattle.ilasm_grammar.specs.declared.nonterminals.TheConstants as n
+use Rattle.ilasm_grammar.specs.declared.productions.TheConstants as p
+use Rattle.listing_model.specs.Flags.{implementation_words}
+use Rattle.print_members.proofs.FlagRows.{kind_done}
+use Rattle.print_members.proofs.flags.write_implementation_flags.Goals as goal
+
+pub returns : goal.returns
+returns c = kind_done n.IMPL_ATTR p.IMPL_ATTR_FLAGS implementation_words c.args.flags c.args.paper.now _ c.in_ok-write_flags.ensures

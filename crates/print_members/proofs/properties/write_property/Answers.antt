@@ -1,0 +1,7 @@
+use Rattle.print_members.proofs.Rows.{property_done}
+use Rattle.print_members.proofs.properties.write_property.Goals as goal
+
+pub returns : goal.returns
+returns c =
+    property_done c.args.externs.now c.args.path.now c.args.methods.now c.args.paper.now _ _ c.args.x.now _ _ c.as_slice-accessors.ensures c.as_slice-attributes.ensures
+    c.in_ok-write_property_head.ensures c.in_ok-write_inner.ensures
