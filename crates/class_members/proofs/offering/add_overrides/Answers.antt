@@ -1,0 +1,25 @@
+use Rattle.std.proofs.Common.{subst, List}
+use Rattle.sig_pool.specs.Replaced.{terms_at}
+use Rattle.type_hierarchy.specs.World.{hierarchy, type_at}
+use Rattle.class_members.specs.Facts.{Adds}
+use Rattle.class_members.specs.Offers.{Offer}
+use Rattle.class_members.proofs.Adding.{adds_none, overrides_are, overrides_none}
+use Rattle.class_members.proofs.Worlds.{on_ok_more}
+use Rattle.class_members.proofs.offering.add_overrides.Goals as goal
+
+pub returns-in-Some-clause-ok : goal.returns-in-Some-clause-ok
+returns-in-Some-clause-ok c =
+    let w = c.args.w.now in
+    let t = type_at w c.args.face.now in
+    let d = rw c.in-Some.is at c.in_ok-declared.ensures in
+    on_ok_more c.add_all_overrides.result
+    (λ h. subst (λ (l : List Offer). Adds c.add_all_overrides.new.w.nodes c.args.at.now l c.args.facts.now c.add_all_overrides.new.facts)
+    (overrides_are c.args.a.now (hierarchy w) t c.in-Some.of.now c.as_slice.result.now (terms_at w.nodes c.in_ok-args.args) d c.as_slice.ensures c.in_ok-args.ensures.terms) h)
+    c.add_all_overrides.ensures.ok
+
+pub returns-clause-ok : goal.returns-clause-ok
+returns-clause-ok c =
+    let w = c.args.w.now in
+    let t = type_at w c.args.face.now in
+    let d = rw c.in-None.is at c.in_ok-declared.ensures in
+    subst (λ (l : List Offer). Adds w.nodes c.args.at.now l c.args.facts.now c.args.facts.now) (overrides_none c.args.a.now (hierarchy w) t d) (adds_none w.nodes c.args.at.now c.args.facts.now)
