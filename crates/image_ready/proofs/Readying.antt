@@ -1,5 +1,5 @@
 -- All that is asked before parts are read is there, where no demand fails.
-use Rattle.std.proofs.Common.{◌≡◌, ◌≢◌, ℕ, ◌^◌, ◌<◌, ◌≤◌, ◌⊎◌, inl, inr, Bool, true, false, List, Contains, length, Option, Some, None, refl, sym, ◌∙◌, ap, subst, arith, get_or}
+use Rattle.std.proofs.Common.{◌≡◌, ◌≢◌, ℕ, ◌^◌, ◌<◌, ◌⊎◌, inl, inr, Bool, true, false, List, Contains, length, Option, Some, None, refl, subst, arith, get_or}
 use Rattle.std.specs.Prelude.{All}
 use Rattle.metadata_tables.specs.Schema.{schema, columns_of}
 use Rattle.metadata_tables.specs.Stream.{cell, column_of}
@@ -15,7 +15,7 @@ use Rattle.image_model.specs.Columns.{attribute_type, bound_type, data_field, ev
 use Rattle.image_model.specs.Faults.{indexes, entries, manifest, runs, order, signatures, header, clauses, values, attributes, accessors}
 use Rattle.image_model.specs.Members.{semantics_of}
 use Rattle.image_model.specs.Naming.{IsToken}
-use Rattle.image_model.specs.Reading.{OwnerIs, BodyIs}
+use Rattle.image_model.specs.Reading.{BodyIs}
 use Rattle.image_model.specs.Rows.{HasRow, Names, token_of, methods_of, events_of, properties_of}
 use Rattle.image_model.specs.Streams.{blobs_of, tables_of}
 use Rattle.image_namings.specs.Laws.{HangOnTokens, BodiesHangOnTokens}

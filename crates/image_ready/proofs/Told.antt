@@ -1,17 +1,15 @@
 -- What is kept tells the same of what is named as the maps that tell all.
-use Rattle.std.proofs.Common.{◌≡◌, ℕ, ◌/◌, ◌%◌, ◌^◌, ◌<◌, inl, inr, List, Contains, Option, Some, None, refl, sym, ◌∙◌, ap, subst, arith}
-use Rattle.sig_codec.specs.Signature as signature
+use Rattle.std.proofs.Common.{◌≡◌, ℕ, ◌/◌, ◌%◌, ◌^◌, inl, inr, List, Option, Some, None, refl, sym, subst}
 use Rattle.type_terms.specs.declared.reference.MethodSig.{MethodSig}
 use Rattle.type_terms.specs.declared.term.Owner.{Owner}
 use Rattle.type_terms.specs.declared.term.SigType.{SigType}
 use Rattle.body_codec.specs.Names.{NameMap}
-use Rattle.image_model.specs.Columns.{field_signature, method_signature, property_signature}
 use Rattle.image_model.specs.Naming.{RowOwner, IsToken, NamesOwner}
 use Rattle.image_model.specs.Namings.{AreNamings}
 use Rattle.image_model.specs.Rows.{HasRow}
 use Rattle.image_model.specs.Terms.{FieldHas, MethodHas, PropertyHas}
-use Rattle.image_model.specs.Tokens.{InType, InField, InMethod, InProperty, SignatureNames}
-use Rattle.image_model.specs.Used.{IsReference, IsUsed, RowNames}
+use Rattle.image_model.specs.Tokens.{SignatureNames}
+use Rattle.image_model.specs.Used.{IsUsed, RowNames}
 use Rattle.image_namings.specs.Laws.{AgreeAt, HangOnTokens}
 use Rattle.image_namings.proofs.Indexes.{no_reference}
 use Rattle.image_namings.proofs.Owners.{table_is, row_is, as_token}

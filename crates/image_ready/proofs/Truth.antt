@@ -1,13 +1,11 @@
 -- What is read of what is kept is what the image gives (II.22).
-use Rattle.std.proofs.Common.{◌≡◌, ◌≢◌, ℕ, zero, suc, ◌<◌, ◌⊎◌, inl, inr, ◌↔◌, Bool, true, false, List, [], ◌∷◌, Contains, length, Option, Some, None, refl, sym, ◌∙◌, ap, subst, arith}
+use Rattle.std.proofs.Common.{◌≡◌, ℕ, ◌<◌, inl, inr, Bool, true, false, List, [], ◌∷◌, Contains, length, Option, Some, None, refl, sym, arith}
 use Rattle.std.specs.List.{AllZip}
 use Rattle.metadata_tables.specs.Schema.{schema, columns_of}
 use Rattle.metadata_tables.specs.Stream.{cell, column_of}
-use Rattle.metadata_tables.specs.declared.coded.Coded.TheVariants.{TypeDefOrRef, MethodDefOrRef, HasCustomAttribute, TypeOrMethodDef}
+use Rattle.metadata_tables.specs.declared.coded.Coded.TheVariants.{TypeDefOrRef, HasCustomAttribute, TypeOrMethodDef}
 use Rattle.metadata_tables.specs.declared.schema.Column.TheVariants.{Tagged}
 use Rattle.type_terms.specs.declared.term.Owner.{Owner}
-use Rattle.type_terms.specs.declared.term.SigType.{SigType}
-use Rattle.type_terms.specs.declared.reference.MethodRef.{MethodRef}
 use Rattle.assembly_tree.specs.declared.assembly.Assembly.{Assembly}
 use Rattle.assembly_tree.specs.declared.body.Body.{Body}
 use Rattle.assembly_tree.specs.declared.members.Attribute.{Attribute}
@@ -21,11 +19,11 @@ use Rattle.assembly_tree.specs.declared.typedef.TypeDef.{TypeDef}
 use Rattle.assembly_tree.specs.declared.typedef.TypeDef.TheOpen.{TypeDef-F}
 use Rattle.assembly_tree.specs.declared.typedef.TypeDef.TheViews.{out-TypeDef}
 use Rattle.body_codec.specs.Names.{NameMap}
-use Rattle.image_model.specs.Bodies.{BodyNames, IsBody, body_of}
-use Rattle.image_model.specs.Columns.{attribute_parent, bound_parameter, bound_type, event_type, generic_owner, interface_class, interface_type, method_rva, override_body, override_declaration, type_extends}
+use Rattle.image_model.specs.Bodies.{BodyNames, body_of}
+use Rattle.image_model.specs.Columns.{attribute_parent, bound_parameter, bound_type, generic_owner, interface_class, method_rva, override_declaration, type_extends}
 use Rattle.image_model.specs.Faults.{header, clauses, manifest}
-use Rattle.image_model.specs.Reading.{OwnerIs, MethodIs, IsAttribute, AttributesAre, IsGeneric, GenericsAre, IsField, IsParam, overrides_of, BodyIs, IsMethod, IsProperty, IsEvent, ExtendsIs, AreInterfaces, IsTypeButNested, IsType, AreTypes, IsManifest, IsAssembly}
-use Rattle.image_model.specs.Rows.{HasRow, rows_with, index_of, token_of, fields_of, methods_of, params_of, events_of, properties_of, types_in}
+use Rattle.image_model.specs.Reading.{OwnerIs, MethodIs, IsAttribute, AttributesAre, IsGeneric, GenericsAre, IsField, IsParam, overrides_of, BodyIs, IsMethod, IsProperty, IsEvent, ExtendsIs, AreInterfaces, IsTypeButNested, IsType, AreTypes, IsAssembly}
+use Rattle.image_model.specs.Rows.{HasRow, rows_with, index_of, token_of, fields_of, methods_of, params_of, events_of, properties_of}
 use Rattle.image_model.specs.Streams.{tables_of}
 use Rattle.image_namings.specs.Laws.{HangOnTokens, BodiesHangOnTokens}
 use Rattle.image_namings.proofs.Among.{Among, from_among}

@@ -1,5 +1,5 @@
 -- Where no demand on an image fails, its parts can be read of what is kept.
-use Rattle.std.specs.Prelude.{◌≡◌, ℕ, ◌^◌, ◌≤◌, List, length, slice_index}
+use Rattle.std.specs.Prelude.{ℕ, ◌^◌, ◌≤◌, List, length, slice_index}
 use Rattle.pe_layout.specs.FileMap.{readable}
 use Rattle.type_terms.specs.declared.term.SigType.{SigType}
 use Rattle.assembly_tree.specs.declared.assembly.Assembly.{Assembly}

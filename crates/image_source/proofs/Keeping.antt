@@ -1,5 +1,5 @@
 -- What an index names is kept.
-use Rattle.std.proofs.Common.{◌≡◌, ℕ, ◌⊎◌, inl, inr, List, Option, Some, None, Result, Ok, Err, refl, sym, ◌∙◌, ap, subst}
+use Rattle.std.proofs.Common.{◌≡◌, ℕ, inl, inr, List, Option, Some, None, Result, Ok, Err, sym, ◌∙◌, ap, subst}
 use Rattle.metadata_tables.specs.declared.coded.Coded.{Coded}
 use Rattle.metadata_tables.specs.declared.coded.Coded.TheVariants.{TypeDefOrRef}
 use Rattle.type_terms.specs.declared.reference.MethodRef.{MethodRef}
@@ -12,7 +12,7 @@ use Rattle.image_model.specs.Rows.{Names, token_of}
 use Rattle.image_model.specs.Naming.{RowOwner}
 use Rattle.image_model.specs.Reading.{OwnerIs}
 use Rattle.image_source.specs.Names.{names_of, owner_of_row}
-use Rattle.image_source.specs.Ready.{HasKeptOwner, KeepsOwner, HasKeptMethod, KeepsMethod}
+use Rattle.image_source.specs.Ready.{HasKeptOwner, KeepsOwner, HasKeptMethod}
 use Rattle.kept_names.specs.declared.names.KeptNames.{KeptNames}
 
 abbrev value_or : {X : Type 0} → X → Option X → X

@@ -1,5 +1,5 @@
 -- Lists of parts, one for each row.
-use Rattle.std.proofs.Common.{◌≡◌, ℕ, zero, suc, ◌+◌, List, [], ◌∷◌, ◌++◌, refl, sym, ◌∙◌, ap, subst, arith, Result, Ok, Err, IfOk, Option, Some, None}
+use Rattle.std.proofs.Common.{◌≡◌, ℕ, zero, suc, ◌+◌, List, [], ◌∷◌, ◌++◌, sym, ◌∙◌, ap, subst, arith, Result, Ok, Err, IfOk, Some, None}
 use Rattle.std.specs.List.{AllZip, range_with_len}
 use Rattle.image_model.specs.Reading.{IsGiven}
 

@@ -1,7 +1,6 @@
 use Rattle.std.proofs.Common.{◌≡◌, ℕ, sym, ◌∙◌, ap, subst}
 use Rattle.metadata_tables.specs.Stream.{cell}
 use Rattle.metadata_tables.specs.declared.coded.Coded.TheVariants.{CustomAttributeType}
-use Rattle.heaps.specs.Content.{HasBlob}
 use Rattle.image_model.specs.Columns.{attribute_type, attribute_value}
 use Rattle.image_model.specs.Reading.{BlobIs}
 use Rattle.image_model.specs.Rows.{Names}

@@ -1,7 +1,6 @@
-use Rattle.std.proofs.Common.{◌≡◌, ℕ, ◌+◌, ◌*◌, sym, ◌∙◌, ap, subst}
+use Rattle.std.proofs.Common.{ℕ, ◌+◌, ◌*◌, sym, ◌∙◌, ap, subst}
 use Rattle.std.specs.List.{AllZip}
-use Rattle.metadata_tables.specs.Stream.{cell}
-use Rattle.image_model.specs.Columns.{attribute_parent, bound_type, bound_parameter, generic_flags, generic_name}
+use Rattle.image_model.specs.Columns.{attribute_parent, bound_type, bound_parameter, generic_name}
 use Rattle.image_model.specs.Reading.{TextIs, OwnerIs, IsAttribute}
 use Rattle.image_model.specs.Rows.{rows_with}
 use Rattle.image_source.specs.Names.{names_of}

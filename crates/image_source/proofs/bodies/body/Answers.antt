@@ -1,7 +1,6 @@
 use Rattle.std.proofs.Common.{◌≡◌, ℕ, List, sym, ◌∙◌, ap, subst}
 use Rattle.metadata_tables.specs.Stream.{cell}
 use Rattle.pe_layout.specs.FileMap.{readable}
-use Rattle.assembly_tree.specs.declared.body.Body.{Body}
 use Rattle.image_model.specs.Bodies.{IsBody}
 use Rattle.image_model.specs.Columns.{method_rva}
 use Rattle.image_source.specs.Names.{names_of}

@@ -1,4 +1,3 @@
-use Rattle.std.proofs.Common.{◌≡◌}
 use Rattle.heaps.specs.Content.{HasText}
 use Rattle.metadata_tables.specs.Stream.{cell}
 use Rattle.image_model.specs.Streams.{tables_of, strings_of}

@@ -1,4 +1,4 @@
-use Rattle.std.proofs.Common.{◌≡◌, ℕ, zero, ◌+◌, ◌<◌, sym, subst, IfOk, arith}
+use Rattle.std.proofs.Common.{◌≡◌, ◌+◌, ◌<◌, sym, subst, IfOk, arith}
 use Rattle.image_model.specs.Reading.{IsGiven}
 use Rattle.image_model.specs.Rows.{rows_with}
 use Rattle.row_groups.specs.Ranges.{cell_of}

@@ -1,4 +1,4 @@
-use Rattle.std.proofs.Common.{ℕ, ◌+◌, sym, subst}
+use Rattle.std.proofs.Common.{◌+◌, sym, subst}
 use Rattle.std.specs.List.{AllZip, range_with_len}
 use Rattle.row_parts.proofs.Zips.{zip_range}
 use Rattle.row_parts.proofs.part.read_all.Goals as goal

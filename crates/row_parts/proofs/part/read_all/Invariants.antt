@@ -1,4 +1,3 @@
-use Rattle.std.proofs.Common.{ℕ, ◌+◌}
 use Rattle.std.specs.List.{AllZip, range_with_len}
 use Rattle.row_parts.proofs.part.read_all.Given as goal
 

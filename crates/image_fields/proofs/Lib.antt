@@ -1,0 +1,2 @@
+pub mod RowsOfFields
+pub mod StoredData

@@ -1,0 +1,2 @@
+pub mod InterfaceSets
+pub mod MemberRuns
