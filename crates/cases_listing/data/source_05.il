@@ -1,0 +1,3 @@
+.assembly extern mscorlib { }
+.assembly A { }
+.class C { .field [8] public int32 F }

@@ -1,0 +1,3 @@
+.assembly extern mscorlib { }
+.assembly A { }
+.class C { .class nested public D<T> { .class nested famandassem E { } } .class F { } }

@@ -1,0 +1,3 @@
+.assembly extern mscorlib { }
+.assembly A { }
+.method static void 'add'() cil managed { ret }

@@ -1,0 +1,3 @@
+.assembly extern mscorlib { }
+.assembly A { }
+.class C extends [A]D { } .class D { }

@@ -1,0 +1,1 @@
+.assembly extern mscorlib { } .assembly extern A { } .assembly A { } .class C extends [A]D { }

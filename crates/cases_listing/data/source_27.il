@@ -1,0 +1,1 @@
+.assembly extern X as mscorlib { } .assembly extern netstandard { } .assembly extern mscorlib as Y { } .assembly A { } .class C { }

@@ -1,0 +1,3 @@
+.assembly extern mscorlib { }
+.assembly A { }
+.class import serializable autochar C { }

@@ -1,0 +1,6 @@
+mod Opcodes
+mod Operands
+mod Labels
+mod Clauses
+mod CodeLines
+mod Whole

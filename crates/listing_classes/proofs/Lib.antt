@@ -1,0 +1,4 @@
+mod Apart
+mod Bodies
+mod Layouts
+mod Members

@@ -1,0 +1,4 @@
+mod Keys
+mod Externs
+mod Assemblies
+mod Headers

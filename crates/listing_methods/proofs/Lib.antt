@@ -1,0 +1,3 @@
+mod Params
+mod Items
+mod Whole
