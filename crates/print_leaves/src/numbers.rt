@@ -87,8 +87,8 @@ impl Paper {
         Ok(())
     }
 
-    /// Decimal digits.
-    pub(crate) fn add_decimal(&mut self, number: u64) -> Result<(), NoMemory>
+    /// Adds decimal digits, and nothing before them.
+    pub fn add_decimal(&mut self, number: u64) -> Result<(), NoMemory>
         ensures { OnOk result (self.new ≡ added self.old (decimal number)) }
     {
         if number < 10 {
@@ -113,8 +113,8 @@ impl Paper {
         Ok(())
     }
 
-    // At least so many hexadecimal digits, with capital letters where `upper` is set.
-    fn add_hex(&mut self, upper: bool, width: u32, number: u64) -> Result<(), NoMemory>
+    /// Adds at least so many hexadecimal digits, with capital letters where `upper` is set, and nothing before them.
+    pub fn add_hex(&mut self, upper: bool, width: u32, number: u64) -> Result<(), NoMemory>
         ensures { OnOk result (self.new ≡ added self.old (at_least width (digits 16 upper number))) }
     {
         if width <= 1 && number < 16 {

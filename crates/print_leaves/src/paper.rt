@@ -108,8 +108,8 @@ impl Paper {
         Ok(())
     }
 
-    /// More of the last token.
-    pub(crate) fn add(&mut self, more: &str) -> Result<(), NoMemory>
+    /// Adds a text as it is, and nothing before it: more of the last token, or a text that is no listing.
+    pub fn add(&mut self, more: &str) -> Result<(), NoMemory>
         ensures { OnOk result (self.new ≡ added self.old more.now) }
     {
         self.text.push_str(more)?;
