@@ -6,6 +6,6 @@ mod places;
 mod whole;
 
 pub use lines::{print_reference, print_type};
-pub use places::print_method;
+pub use places::{method_by, print_method};
 pub use print_terms::{ExternKeys, reference_by, type_by};
 pub use whole::print;

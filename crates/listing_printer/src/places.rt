@@ -1,5 +1,6 @@
 //! References to declared methods by their places.
 ghost use Rattle.std.specs.Prelude.{◌≡◌, ◌∷◌, [], IfOk, OnOk, IsTrue, Some, is_some, option_map};
+ghost use Rattle.assembly_tree.specs.declared.assembly.Assembly.{Assembly as Tree};
 ghost use Rattle.listing_model.specs.Canon.{methods_at, module_path, reference_at, reference_line};
 ghost use Rattle.listing_model.specs.Members.{own_reference};
 ghost use Rattle.listing_printer.specs.Ways.{onward};
@@ -20,10 +21,30 @@ pub fn print_method(alloc: Global, a: &Assembly, at: &MethodPath) -> Result<Text
     requires { IsTrue (is_some (reference_at a.now at.now)) }
     ensures { IfOk result (λ text. option_map (reference_line a.now) (reference_at a.now at.now) ≡ Some text) }
 {
+    let externs = ExternKeys::new(alloc, a.externs.as_slice())?;
+    let text = method_by(alloc, &externs, a, at)?;
+    Ok(text)
+}
+
+/// The same, for a caller that prints many: these are the keys of the assemblies that the assembly names.
+///
+/// # Errors
+///
+/// There was no memory.
+pub fn method_by(
+    alloc: Global,
+    externs: &ExternKeys<'_>,
+    a: &Assembly,
+    at: &MethodPath,
+) -> Result<Text, NoMemory>
+    requires there { IsTrue (is_some (reference_at a.now at.now)) }
+    requires same { externs.now ≡ a.now.externs }
+    ensures { IfOk result (λ text. option_map (reference_line a.now) (reference_at a.now at.now) ≡ Some text) }
+{
     let mut path = Items::new(alloc);
     let methods = methods_at(alloc, a, at.types.as_slice(), &mut path)?;
     let method = &methods[at.method as usize];
-    let text = method_line(alloc, a, path.as_slice(), method)?;
+    let text = method_line(alloc, externs, path.as_slice(), method)?;
     Ok(text)
 }
 
@@ -31,14 +52,13 @@ pub fn print_method(alloc: Global, a: &Assembly, at: &MethodPath) -> Result<Text
 #[tactic(auto, unfolding(listing_model::specs::Canon::reference_line))]
 fn method_line(
     alloc: Global,
-    a: &Assembly,
+    externs: &ExternKeys<'_>,
     path: &[TypeId],
     method: &Method,
 ) -> Result<Text, NoMemory>
-    ensures { IfOk result (λ text. text ≡ reference_line a.now (own_reference path.now method.now)) }
+    ensures { (a : Tree) → externs.now ≡ a.externs → IfOk result (λ text. text ≡ reference_line a (own_reference path.now method.now)) }
 {
-    let externs = ExternKeys::new(alloc, a.externs.as_slice())?;
-    let text = own_reference_by(alloc, &externs, path, method.name.as_str(), &method.sig)?;
+    let text = own_reference_by(alloc, externs, path, method.name.as_str(), &method.sig)?;
     let text = Text::from_string(alloc, text)?;
     Ok(text)
 }
