@@ -1,5 +1,5 @@
 //! Images that are looked at: `cases_images FILE..` reads files of lines and prints of each image that they name, or change, the
-//! first of the demands I1 to I14 that it fails, with its place and text, or where it meets them the first of I17 to I20.
+//! first of the demands I1 to I23 that it fails, with its place and text.
 //!
 //! `image NAME HEX` names an image by its bytes. `at N HEX` is the image named last with these bytes in place from byte N on,
 //! `cut N` the same cut to N bytes. A line that begins with `#` is passed over.
@@ -9,11 +9,9 @@
 #![tactic(auto)]
 
 mod answers;
-mod bodies;
 mod bytes;
 mod fault;
 mod lines;
-mod signatures;
 
 use crate::lines::answer_file;
 use std::env;

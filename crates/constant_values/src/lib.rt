@@ -6,3 +6,4 @@ mod integers;
 mod units;
 
 pub use constant::constant_of;
+pub use units::units_of;

@@ -4,9 +4,9 @@ ghost use Rattle.image_model.specs.Units.{units_of};
 use il_base::{Items, NoMemory, Units};
 use std::alloc::Global;
 
-#[tactic(auto, using(crate::proofs::UnitSteps::unit_next))]
 /// The UTF-16 units of some bytes, the low byte of each first, or None where a byte is left over (II.24.2.4).
-pub(crate) fn units_of(alloc: Global, bytes: &[u8]) -> Result<Option<Units>, NoMemory>
+#[tactic(auto, using(crate::proofs::UnitSteps::unit_next))]
+pub fn units_of(alloc: Global, bytes: &[u8]) -> Result<Option<Units>, NoMemory>
     ensures { IfOk result (λ units. units ≡ units_of bytes.now) }
 {
     let mut units = Items::with_capacity(alloc, bytes.len() / 2)?;

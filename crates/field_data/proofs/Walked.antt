@@ -12,7 +12,7 @@ use Rattle.image_model.specs.Members.{HasDataSize}
 use Rattle.sig_codec.specs.declared.element.Element.{Element}
 use Rattle.sig_codec.specs.declared.element.Element.TheVariants as element
 use Rattle.sig_codec.specs.Reading as whole
-use Rattle.sig_codec.specs.Reading.{◌>>=◌, Step, Read, TypeStep, byte_at, number_at, element_of, name_of, is_declared, after_owner}
+use Rattle.sig_codec.specs.Reading.{◌>>=◌, TypeStep, byte_at, number_at, element_of, name_of, is_declared, after_owner}
 use Rattle.sig_codec.specs.Signature.{IsField, max_depth, max_nodes}
 use Rattle.sig_codec.specs.Tokens.{token_of_coded}
 use Rattle.sig_codec.proofs.Numbers.{some_is, bind_some}

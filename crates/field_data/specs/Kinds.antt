@@ -1,5 +1,5 @@
 -- What decides how many bytes a value of a type has in data (II.16.3).
-use Rattle.std.specs.Prelude.{◌≡◌, ◌↔◌, ℕ, ◌<◌, ◌≤◌, List, Option, Some, Contains}
+use Rattle.std.specs.Prelude.{◌≡◌, ◌↔◌, ℕ, ◌<◌, List, Option, Some, Contains}
 use Rattle.type_terms.specs.declared.name.Scope.TheVariants.{Here}
 use Rattle.type_terms.specs.declared.name.TypeId.{TypeId}
 use Rattle.type_terms.specs.declared.name.TypeName.{TypeName}
@@ -32,10 +32,6 @@ IsOfKind image owners t (kind.Value token) =
     (name : TypeName) × (owners token ≡ Some (owner.Name name)) × ((size : ℕ) → HasDataSize image t size ↔ HasLayoutSize image name size)
 IsOfKind image owners t kind.Sizeless = (size : ℕ) → HasDataSize image t size → ⊥
 
--- a layout has a class size above 0 that is at most so many bytes
-abbrev pub SizeIsUpTo : List ℕ → (layout most : ℕ) → Type 0
-SizeIsUpTo image layout most = (0 < layout_size image layout) × (layout_size image layout ≤ most)
-
--- a type has such a layout
-abbrev pub HasLayoutUpTo : List ℕ → (type most : ℕ) → Type 0
-HasLayoutUpTo image type most = (layout : ℕ) × Contains (layouts_of image type) layout × SizeIsUpTo image layout most
+-- a type has a layout with this class size, which is above 0
+abbrev pub HasClassSize : List ℕ → (type size : ℕ) → Type 0
+HasClassSize image type size = (layout : ℕ) × Contains (layouts_of image type) layout × (layout_size image layout ≡ size) × (0 < size)

@@ -1,18 +1,24 @@
-ghost use Rattle.std.specs.Prelude.{◌≤◌, ◌<◌, ◌+◌, ◌^◌, ◌↔◌, ℕ, IsTrue};
-ghost use Rattle.image_model.specs.Rows.{count_of};
+ghost use Rattle.std.specs.Prelude.{◌≡◌, ◌≤◌, ◌<◌, ◌↔◌, ℕ, length};
+ghost use Rattle.image_model.specs.Members.{layouts_of};
 ghost use Rattle.row_demands.specs.Structured.{MeetStructure};
 ghost use Rattle.member_demands.specs.Groups.{StandTogether};
-ghost use Rattle.field_data.specs.Kinds.{HasLayoutUpTo, SizeIsUpTo};
+ghost use Rattle.field_data.specs.Kinds.{HasClassSize};
 
 use image_streams::Image;
 use row_groups::{Rows, owned_rows};
 
-/// Whether a type has a layout with a class size above 0 that is at most so many bytes (II.22.8).
-pub fn has_layout_up_to(image: &Image<'_>, row: u32, most: u64) -> bool
+/// The class size of the layout of a type that has one layout at most (II.22.8); 0 where it has none, or one without a size.
+#[tactic(auto, unfolding(metadata_tables::specs::Schema::schema))]
+pub fn class_size(image: &Image<'_>, row: u32) -> u32
     requires meets { MeetStructure image.now }
-    ensures { IsTrue result ↔ HasLayoutUpTo image.now row most }
+    requires one { length (layouts_of image.now row) ≤ 1 }
+    ensures { (size : ℕ) → HasClassSize image.now row size ↔ ((size ≡ result) × (0 < size)) }
 {
-    any_up_to(image, layouts_of(image, row), most)
+    let layouts = layouts_of(image, row);
+    if layouts.count == 0 {
+        return 0;
+    }
+    image.tables().cell(0x0F, layouts.first as u32, 1)
 }
 
 /// The layouts of a type.
@@ -22,32 +28,4 @@ fn layouts_of(image: &Image<'_>, row: u32) -> Rows
     ensures { StandTogether image.now 0x0F 2 row result.first result.count }
 {
     owned_rows(image, 0x0F, 2, u64::from(row))
-}
-
-/// Whether one of these layouts has such a size.
-fn any_up_to(image: &Image<'_>, rows: Rows, most: u64) -> bool
-    requires some { 0 < rows.first }
-    requires within { rows.first + rows.count ≤ count_of image.now 0x0F + 1 }
-    requires few { rows.first + rows.count ≤ 2 ^ 32 }
-    ensures { IsTrue result ↔ ((k : ℕ) × (rows.first ≤ k) × (k < rows.first + rows.count) × SizeIsUpTo image.now k most) }
-{
-    let end = rows.first + rows.count;
-    for k in rows.first..end {
-        if is_up_to(image, k, most) {
-            return true;
-        }
-    }
-    false
-}
-
-/// Whether a layout has such a size.
-#[tactic(auto, unfolding(metadata_tables::specs::Schema::schema))]
-fn is_up_to(image: &Image<'_>, k: u64, most: u64) -> bool
-    requires some { 0 < k }
-    requires within { k ≤ count_of image.now 0x0F }
-    requires few { k < 2 ^ 32 }
-    ensures { IsTrue result ↔ SizeIsUpTo image.now k most }
-{
-    let size = u64::from(image.tables().cell(0x0F, k as u32, 1));
-    0 < size && size <= most
 }

@@ -8,4 +8,4 @@ mod layouts;
 
 pub use fields::data_kind;
 pub use kinds::DataKind;
-pub use layouts::has_layout_up_to;
+pub use layouts::class_size;

@@ -1,3 +1,4 @@
 pub mod Told
 pub mod Readying
 pub mod Truth
+pub mod Uses

@@ -1,5 +1,5 @@
 -- What is kept tells the same of what is named as the maps that tell all.
-use Rattle.std.proofs.Common.{◌≡◌, ℕ, ◌/◌, ◌%◌, ◌^◌, inl, inr, List, Option, Some, None, refl, sym, subst}
+use Rattle.std.proofs.Common.{◌≡◌, ℕ, ◌/◌, ◌%◌, ◌^◌, List, Option, Some, None, refl, sym, subst, arith}
 use Rattle.type_terms.specs.declared.reference.MethodSig.{MethodSig}
 use Rattle.type_terms.specs.declared.term.Owner.{Owner}
 use Rattle.type_terms.specs.declared.term.SigType.{SigType}
@@ -9,12 +9,13 @@ use Rattle.image_model.specs.Namings.{AreNamings}
 use Rattle.image_model.specs.Rows.{HasRow}
 use Rattle.image_model.specs.Terms.{FieldHas, MethodHas, PropertyHas}
 use Rattle.image_model.specs.Tokens.{SignatureNames}
-use Rattle.image_model.specs.Used.{IsUsed, RowNames}
+use Rattle.image_model.specs.Used.{RowNames}
 use Rattle.image_namings.specs.Laws.{AgreeAt, HangOnTokens}
 use Rattle.image_namings.proofs.Indexes.{no_reference}
 use Rattle.image_namings.proofs.Owners.{table_is, row_is, as_token}
 use Rattle.image_source.specs.Names.{names_of, owner_of_row}
 use Rattle.image_ready.specs.Keeping.{IsNamed, Keeps}
+use Rattle.image_ready.proofs.Uses.{spec_used}
 use Rattle.kept_names.specs.declared.names.KeptNames.{KeptNames}
 
 one_option : {X : Type 0} (o p : Option X) → ((x : X) → o ≡ Some x → p ≡ Some x) → ((x : X) → p ≡ Some x → o ≡ Some x) → o ≡ p
@@ -34,7 +35,7 @@ module _ (image : List ℕ) (names : NameMap) (kept : KeptNames) (named : AreNam
   pub owners_agree : (token : ℕ) → IsNamed image (token / 2 ^ 24) (token % 2 ^ 24) → names.owners token ≡ (names_of kept).owners token
   owners_agree token n = one_option (names.owners token) ((names_of kept).owners token)
       (λ o e. owner_there token o n ((named.owners token o).0 e))
-      (λ o e. (named.owners token o).1 (NamesOwner.by_row (token_of_parts token) (keeps.true_owners (token / 2 ^ 24) (token % 2 ^ 24) o e)))
+      (λ o e. (named.owners token o).1 (NamesOwner.by_row (token_of_parts token) (keeps.true_owners (token / 2 ^ 24) (token % 2 ^ 24) o (omega arith) e)))
 
   pub all_agree : (token : ℕ) → IsNamed image (token / 2 ^ 24) (token % 2 ^ 24) → AgreeAt names (names_of kept) token
   all_agree token n = record {
@@ -60,18 +61,12 @@ module _ (image : List ℕ) (names : NameMap) (kept : KeptNames) (named : AreNam
     property_kept row sig there h =
         (h.0, h.1, hang.property names.owners (names_of kept).owners h.0 sig (λ token has. owners_agree token (IsNamed.by_row (no_reference 0x17 refl) there (RowNames.by_signature (SignatureNames.of_property refl h.1 has) (token_of_parts token)))) h.2)
 
-    -- a TypeSpec that is named is in use
-    spec_used : (table row : ℕ) → table ≡ 0x1B → HasRow image 0x1B row → IsNamed image table row → IsUsed image 0x1B row
-    spec_used table row e there (IsNamed.by_row {from_table = ft} {from = fr} n from r) = IsUsed.by_row n from (subst (λ (t : ℕ). RowNames image ft fr t row) e r) (inr (inr (inr (inl refl)))) there
-    spec_used table row e there (IsNamed.by_reference {from_table = ft} {from = fr} u r) = IsUsed.by_reference u (subst (λ (t : ℕ). RowNames image ft fr t row) e r) (inr (inr (inr (inl refl)))) there
-    spec_used table row e there (IsNamed.by_body {token = token} m b k) = IsUsed.by_body m b (subst (λ (t : ℕ). IsToken token t row) e k) (inr (inr (inr (inl refl)))) there
-
     pub type_kept : (table row : ℕ) (o : Owner) → IsNamed image table row → RowOwner image names.owners table row o → RowOwner image (names_of kept).owners table row o
     type_kept table row o n (RowOwner.defined e there path) = RowOwner.defined e there path
     type_kept table row o n (RowOwner.referred e there path) = RowOwner.referred e there path
     type_kept table row o n (RowOwner.specified {bytes = bytes} {term = term} e there blob is) =
         RowOwner.specified e there blob
-        (hang.type_of names.owners (names_of kept).owners bytes term (λ token has. owners_agree token (IsNamed.by_reference (spec_used table row e there n) (RowNames.by_signature (SignatureNames.of_type refl blob has) (token_of_parts token)))) is)
+        (hang.type_of names.owners (names_of kept).owners bytes term (λ token has. owners_agree token (IsNamed.by_reference (spec_used image table row e there n) (RowNames.by_signature (SignatureNames.of_type refl blob has) (token_of_parts token)))) is)
 
     -- ---- back: what is read of what is kept is so
 
@@ -92,4 +87,4 @@ module _ (image : List ℕ) (names : NameMap) (kept : KeptNames) (named : AreNam
     type_told table row o n (RowOwner.referred e there path) = RowOwner.referred e there path
     type_told table row o n (RowOwner.specified {bytes = bytes} {term = term} e there blob is) =
         RowOwner.specified e there blob
-        (hang.type_of (names_of kept).owners names.owners bytes term (λ token has. sym (owners_agree token (IsNamed.by_reference (spec_used table row e there n) (RowNames.by_signature (SignatureNames.of_type refl blob has) (token_of_parts token))))) is)
+        (hang.type_of (names_of kept).owners names.owners bytes term (λ token has. sym (owners_agree token (IsNamed.by_reference (spec_used image table row e there n) (RowNames.by_signature (SignatureNames.of_type refl blob has) (token_of_parts token))))) is)

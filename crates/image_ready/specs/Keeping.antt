@@ -1,5 +1,5 @@
 -- What is kept of an image's tokens: all that its rows and bodies name (II.22, III.1.9), as what it is.
-use Rattle.std.specs.Prelude.{◌≡◌, ℕ, List, Some}
+use Rattle.std.specs.Prelude.{◌≡◌, ℕ, ◌^◌, ◌<◌, List, Some}
 use Rattle.type_terms.specs.declared.reference.FieldRef.{FieldRef}
 use Rattle.type_terms.specs.declared.reference.MethodRef.{MethodRef}
 use Rattle.type_terms.specs.declared.term.Owner.{Owner}
@@ -18,10 +18,10 @@ pub data IsNamed (image : List ℕ) : (table row : ℕ) → Type 0 where
   by_reference : {from_table from table row : ℕ} → IsUsed image from_table from → RowNames image from_table from table row → IsNamed image table row
   by_body : {method token table row : ℕ} → HasRow image 0x06 method → BodyNames image method token → IsToken token table row → IsNamed image table row
 
--- what is named is kept, and what is kept is so
+-- what is named is kept, and what is kept is so; a row's number has four bytes
 pub record Keeps (image : List ℕ) (names : NameMap) (kept : KeptNames) : Type 0 where
   pub owners : (table row : ℕ) (owner : Owner) → IsNamed image table row → RowOwner image names.owners table row owner → owner_of_row kept table row ≡ Some owner
-  pub true_owners : (table row : ℕ) (owner : Owner) → owner_of_row kept table row ≡ Some owner → RowOwner image names.owners table row owner
+  pub true_owners : (table row : ℕ) (owner : Owner) → row < 2 ^ 32 → owner_of_row kept table row ≡ Some owner → RowOwner image names.owners table row owner
   pub methods : (token table row : ℕ) (method : MethodRef) → IsNamed image table row → IsToken token table row → names.methods token ≡ Some method → (names_of kept).methods token ≡ Some method
   pub true_methods : (token : ℕ) (method : MethodRef) → (names_of kept).methods token ≡ Some method → names.methods token ≡ Some method
   pub fields : (token table row : ℕ) (field : FieldRef) → IsNamed image table row → IsToken token table row → names.fields token ≡ Some field → (names_of kept).fields token ≡ Some field

@@ -49,9 +49,9 @@ fn same_number(a: Option<u32>, b: Option<u32>) -> bool
     }
 }
 
-/// The number of a token of a type or a reference.
+/// The number of what a token of TypeDef or TypeRef names (II.22.37, II.22.38); None for other tokens.
 #[tactic(auto, unfolding(crate::specs::Canon::name_number))]
-fn name_number(image: &Image<'_>, names: &TypeNames<'_, '_>, token: u32) -> Option<u32>
+pub fn name_number(image: &Image<'_>, names: &TypeNames<'_, '_>, token: u32) -> Option<u32>
     requires { names.now.image ≡ image.now }
     ensures { result ≡ name_number image.now names.now.named token }
 {

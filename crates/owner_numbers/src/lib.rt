@@ -8,4 +8,5 @@ mod equal;
 mod levels;
 mod numbers;
 
+pub use by_classes::name_number;
 pub use numbers::OwnerNumbers;

@@ -1,0 +1,4 @@
+pub mod Calling
+pub mod Knowing
+pub mod Placing
+pub mod Sizing

@@ -1,0 +1,3 @@
+pub mod MethodBodies
+pub mod Steps
+pub mod Whole

@@ -1,0 +1,16 @@
+pub mod Alike
+pub mod Charging
+pub mod Constants
+pub mod Distinct
+pub mod Firsts
+pub mod Forests
+pub mod Interfaces
+pub mod Overrides
+pub mod Parts
+pub mod Rises
+pub mod RowSums
+pub mod Sizes
+pub mod Sums
+pub mod TextLengths
+pub mod Types
+pub mod Whole

@@ -1,0 +1,8 @@
+use Rattle.row_parts.proofs.Orders.{generics_ascend}
+use Rattle.image_weights.proofs.generic_rows.charge_generics.Goals as goal
+
+pub charge_owned-requires-clause-order : goal.charge_owned-requires-clause-order
+charge_owned-requires-clause-order g c = generics_ascend c.args.source.now.image.now c.requires.meets
+
+pub charge_owned-requires-clause-there : goal.charge_owned-requires-clause-there
+charge_owned-requires-clause-there g c = λ row there e. (there, c.requires.meets)

@@ -1,0 +1,2 @@
+pub mod RowWeights
+pub mod Standing

@@ -1,0 +1,6 @@
+pub mod Elsewhere
+mod Rows
+mod Tests
+mod Externs
+mod Manifests
+mod Globals

@@ -1,0 +1,2 @@
+mod Differ
+mod Known

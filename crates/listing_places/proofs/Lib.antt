@@ -1,0 +1,3 @@
+pub mod Nodes
+mod Places
+mod Sizes

@@ -1,0 +1,5 @@
+mod Rows
+mod Weights
+mod Data
+mod Headers
+mod Whole

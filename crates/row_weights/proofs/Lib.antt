@@ -1,0 +1,4 @@
+pub mod Filling
+pub mod Owning
+pub mod Telling
+pub mod Weighing
