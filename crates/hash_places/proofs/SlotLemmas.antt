@@ -4,14 +4,14 @@ use Rattle.std.specs.Prelude.{true, false, ◌&&◌, slice_get, slice_set, slice
 use Rattle.std.proofs.lemmas.Bool.{cases_Bool, cases_eq, cases_lt, cases_order, eq-eqb, eqb-true, lt-ltb, ltb-true, le-ltb}
 use Rattle.std.proofs.lemmas.Nat.{and_le_r}
 use Rattle.std.proofs.lemmas.Option.{get_or_from_slice_get, same_Some, slice_get_within}
-use Rattle.hash_places.specs.Slots.{AreEmpty, AreOther, AreReached, IsBefore, IsStop, place_in, place_of, start_of, used_in}
+use Rattle.hash_places.specs.Slots.{AreEmpty, AreOther, AreReached, IsBefore, IsStop, place_in, place_of, spread, start_of, used_in}
 use Rattle.hash_places.specs.declared.slots.Slot.{Slot}
 
 -- ---- where a search begins, and which of two slots it comes to first
 
 pub start_within : (count hash : ℕ) → 0 < count → start_of count hash < count
 unfolding start_of
-start_within count hash some = let below = and_le_r (bit_xor hash (hash / 2 ^ 32)) (count - 1) in omega (arith, below)
+start_within count hash some = let below = and_le_r (bit_xor (spread hash) (spread hash / 2 ^ 32)) (count - 1) in omega (arith, below)
 
 one_first : (start j k : ℕ) → (j ≡ k → ⊥) → IsBefore start j k ⊎ IsBefore start k j
 one_first start j k apart = elim (cases_order j k) [

@@ -1,11 +1,15 @@
 -- How hashes are found in slots. A search for a hash begins at a slot that the hash names, goes on to the last slot and then
 -- from the first, and ends at the first slot that is empty or has the hash.
-use Rattle.std.specs.Prelude.{◌≡◌, ℕ, ◌+◌, ◌-◌, ◌/◌, ◌^◌, ◌<◌, ◌≤◌, ◌⊎◌, min, List, [], ◌∷◌, Option, Some, None, ◌&&◌, cond, slice_get, length, nat_eq, nat_lt, bit_and, bit_xor}
+use Rattle.std.specs.Prelude.{◌≡◌, ℕ, ◌+◌, ◌*◌, ◌-◌, ◌/◌, ◌%◌, ◌^◌, ◌<◌, ◌≤◌, ◌⊎◌, min, List, [], ◌∷◌, Option, Some, None, ◌&&◌, cond, slice_get, length, nat_eq, nat_lt, bit_and, bit_xor}
 use Rattle.hash_places.specs.declared.slots.Slot.{Slot}
+
+-- a hash multiplied by 2^64 over the golden ratio, so that numbers that lie side by side are spread
+unfoldable pub spread : ℕ → ℕ
+spread hash = (hash * 11400714819323198485) % 2 ^ 64
 
 -- the slot where a search begins, of so many
 unfoldable pub start_of : ℕ → ℕ → ℕ
-start_of count hash = bit_and (bit_xor hash (hash / 2 ^ 32)) (count - 1)
+start_of count hash = bit_and (bit_xor (spread hash) (spread hash / 2 ^ 32)) (count - 1)
 
 -- a search for a hash goes past a slot that is used for another
 abbrev pub IsOther : ℕ → Slot → Type 0

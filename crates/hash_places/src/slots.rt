@@ -17,14 +17,18 @@ pub struct Slot {
 /// A slot that isn't used.
 pub const EMPTY: Slot = Slot { hash: 0, place: 0 };
 
+/// 2^64 over the golden ratio. Hashes are multiplied by it, so that numbers that lie side by side are spread over the slots.
+const MULTIPLIER: u64 = 0x9E37_79B9_7F4A_7C15;
+
 // The slot where a search for a hash begins.
-#[tactic(auto, unfolding(crate::specs::Slots::start_of), using(crate::proofs::SlotLemmas::start_within))]
+#[tactic(auto, unfolding(crate::specs::Slots::start_of, crate::specs::Slots::spread), using(crate::proofs::SlotLemmas::start_within))]
 fn start_of(count: usize, hash: u64) -> usize
     requires { 0 < count }
     ensures value { result ≡ start_of count hash }
     ensures within { result < count }
 {
-    let mixed = hash ^ (hash >> 32);
+    let spread = hash.wrapping_mul(MULTIPLIER);
+    let mixed = spread ^ (spread >> 32);
     mixed as usize & (count - 1)
 }
 

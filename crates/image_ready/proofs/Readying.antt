@@ -22,7 +22,6 @@ use Rattle.image_namings.specs.Laws.{HangOnTokens, BodiesHangOnTokens}
 use Rattle.image_namings.proofs.BodyTokens.{tokens_of}
 use Rattle.image_namings.proofs.Decided.{OneBlob}
 use Rattle.image_namings.proofs.Indexes.{cell_names, constructor_tables, method_tables, named_row, no_reference, is_reference, row_there, IsMethodTable}
-use Rattle.image_namings.proofs.Owners.{as_token}
 use Rattle.image_namings.proofs.Rows.{few_methods, few_members}
 use Rattle.image_namings.proofs.Standing.{Stands}
 use Rattle.formed_references.proofs.Words.{to_among}
@@ -111,7 +110,7 @@ module _ (image : List â„•) (names : NameMap) (kept : KeptNames) (sizes : List â
                 named = record { header = known.header; pieces = o.0; outline = o.1; all = refl };
                 among = among;
               } in
-              all_agree image names kept meets.named meets.kept_are token (IsNamed.by_body there it (as_token token _ refl))) b.1.1,
+              all_agree image names kept meets.named meets.kept_are row token there it) b.1.1,
         ),
       )
 

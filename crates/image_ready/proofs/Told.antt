@@ -4,6 +4,7 @@ use Rattle.type_terms.specs.declared.reference.MethodSig.{MethodSig}
 use Rattle.type_terms.specs.declared.term.Owner.{Owner}
 use Rattle.type_terms.specs.declared.term.SigType.{SigType}
 use Rattle.body_codec.specs.Names.{NameMap}
+use Rattle.image_model.specs.Bodies.{BodyNames}
 use Rattle.image_model.specs.Naming.{RowOwner, IsToken, NamesOwner}
 use Rattle.image_model.specs.Namings.{AreNamings}
 use Rattle.image_model.specs.Rows.{HasRow}
@@ -37,14 +38,17 @@ module _ (image : List ℕ) (names : NameMap) (kept : KeptNames) (named : AreNam
       (λ o e. owner_there token o n ((named.owners token o).0 e))
       (λ o e. (named.owners token o).1 (NamesOwner.by_row (token_of_parts token) (keeps.true_owners (token / 2 ^ 24) (token % 2 ^ 24) o (omega arith) e)))
 
-  pub all_agree : (token : ℕ) → IsNamed image (token / 2 ^ 24) (token % 2 ^ 24) → AgreeAt names (names_of kept) token
-  all_agree token n = record {
-    owners = owners_agree token n;
-    methods = one_option (names.methods token) ((names_of kept).methods token) (λ m e. keeps.methods token (token / 2 ^ 24) (token % 2 ^ 24) m n (token_of_parts token) e) (λ m e. keeps.true_methods token m e);
-    fields = one_option (names.fields token) ((names_of kept).fields token) (λ m e. keeps.fields token (token / 2 ^ 24) (token % 2 ^ 24) m n (token_of_parts token) e) (λ m e. keeps.true_fields token m e);
-    locals = one_option (names.locals token) ((names_of kept).locals token) (λ m e. keeps.locals token (token / 2 ^ 24) (token % 2 ^ 24) m n (token_of_parts token) e) (λ m e. keeps.true_locals token m e);
-    texts = one_option (names.texts token) ((names_of kept).texts token) (λ m e. keeps.texts token (token / 2 ^ 24) (token % 2 ^ 24) m n (token_of_parts token) e) (λ m e. keeps.true_texts token m e);
-  }
+  -- a token that a body names
+  pub all_agree : (method token : ℕ) → HasRow image 0x06 method → BodyNames image method token → AgreeAt names (names_of kept) token
+  all_agree method token there names_it =
+      let n : IsNamed image (token / 2 ^ 24) (token % 2 ^ 24) = IsNamed.by_body there names_it (token_of_parts token) in
+      record {
+        owners = owners_agree token n;
+        methods = one_option (names.methods token) ((names_of kept).methods token) (λ m e. keeps.methods token (token / 2 ^ 24) (token % 2 ^ 24) m n (token_of_parts token) e) (λ m e. keeps.true_methods token m e);
+        fields = one_option (names.fields token) ((names_of kept).fields token) (λ m e. keeps.fields token (token / 2 ^ 24) (token % 2 ^ 24) m n (token_of_parts token) e) (λ m e. keeps.true_fields token m e);
+        locals = one_option (names.locals token) ((names_of kept).locals token) (λ m e. keeps.locals token (token / 2 ^ 24) (token % 2 ^ 24) m n (token_of_parts token) e) (λ m e. keeps.true_locals token m e);
+        texts = one_option (names.texts token) ((names_of kept).texts token) (λ m e. keeps.texts method token m there names_it e) (λ m e. keeps.true_texts token m e);
+      }
 
   -- ---- signatures
 

@@ -29,7 +29,6 @@ use Rattle.image_namings.specs.Laws.{HangOnTokens, BodiesHangOnTokens}
 use Rattle.image_namings.proofs.Among.{Among, from_among}
 use Rattle.image_namings.proofs.BodyTokens.{tokens_of}
 use Rattle.image_namings.proofs.Indexes.{cell_names, no_reference, is_reference}
-use Rattle.image_namings.proofs.Owners.{as_token}
 use Rattle.image_namings.proofs.Standing.{Stands}
 use Rattle.formed_references.proofs.Words.{of_rows_with, of_types, to_among}
 use Rattle.image_assemblies.proofs.Parts.{stood}
@@ -110,7 +109,7 @@ module _ (image : List â„•) (names : NameMap) (kept : KeptNames) (sizes : List â
                 named = record { header = known.header; pieces = o.0; outline = o.1; all = refl };
                 among = among;
               } in
-              let a = all_agree image names kept meets.named meets.kept_are token (IsNamed.by_body there it (as_token token _ refl)) in
+              let a = all_agree image names kept meets.named meets.kept_are row token there it in
               record { owners = sym a.owners; methods = sym a.methods; fields = sym a.fields; locals = sym a.locals; texts = sym a.texts }) h.1.1,
         ),
       )

@@ -12,7 +12,7 @@ use Rattle.image_model.specs.Used.{IsReference, IsUsed, RowNames}
 use Rattle.image_source.specs.Names.{names_of, owner_of_row}
 use Rattle.kept_names.specs.declared.names.KeptNames.{KeptNames}
 
--- a row that isn't a reference, a reference in use or a body names a row of a table; a user string counts as row of table 0x70
+-- a row that isn't a reference, a reference in use or a body names a row of a table
 pub data IsNamed (image : List ℕ) : (table row : ℕ) → Type 0 where
   by_row : {from_table from table row : ℕ} → (IsReference from_table → ⊥) → HasRow image from_table from → RowNames image from_table from table row → IsNamed image table row
   by_reference : {from_table from table row : ℕ} → IsUsed image from_table from → RowNames image from_table from table row → IsNamed image table row
@@ -28,5 +28,6 @@ pub record Keeps (image : List ℕ) (names : NameMap) (kept : KeptNames) : Type 
   pub true_fields : (token : ℕ) (field : FieldRef) → (names_of kept).fields token ≡ Some field → names.fields token ≡ Some field
   pub locals : (token table row : ℕ) (types : List SigType) → IsNamed image table row → IsToken token table row → names.locals token ≡ Some types → (names_of kept).locals token ≡ Some types
   pub true_locals : (token : ℕ) (types : List SigType) → (names_of kept).locals token ≡ Some types → names.locals token ≡ Some types
-  pub texts : (token table row : ℕ) (units : List ℕ) → IsNamed image table row → IsToken token table row → names.texts token ≡ Some units → (names_of kept).texts token ≡ Some units
+  -- a body alone names user strings
+  pub texts : (method token : ℕ) (units : List ℕ) → HasRow image 0x06 method → BodyNames image method token → names.texts token ≡ Some units → (names_of kept).texts token ≡ Some units
   pub true_texts : (token : ℕ) (units : List ℕ) → (names_of kept).texts token ≡ Some units → names.texts token ≡ Some units
