@@ -1,0 +1,3 @@
+pub mod Adding
+pub mod Found
+pub mod Naming
