@@ -1,0 +1,5 @@
+pub mod Agreeing
+pub mod Ready
+pub mod Members
+pub mod Strings
+pub mod Whole
