@@ -13,7 +13,7 @@ use Rattle.type_terms.specs.declared.term.Owner.TheVariants.{Name, Spec}
 use Rattle.type_terms.specs.declared.term.SigType.{SigType}
 use Rattle.body_codec.specs.Names.{NameMap}
 use Rattle.image_model.specs.Columns.{member_parent, instance_method}
-use Rattle.image_model.specs.Faults.{HasTables, indexes, entries, manifest, runs, order, signatures, attributes}
+use Rattle.image_model.specs.Faults.{HasTables, indexes, entries, manifest, runs, order, signatures}
 use Rattle.image_model.specs.Naming.{here, RowOwner}
 use Rattle.image_model.specs.Rows.{HasRow, Names}
 use Rattle.image_model.specs.Streams.{tables_of}
