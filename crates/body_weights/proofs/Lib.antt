@@ -1,0 +1,4 @@
+pub mod Naming
+pub mod Seeing
+pub mod Telling
+pub mod Weighing
