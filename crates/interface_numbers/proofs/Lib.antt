@@ -1,0 +1,4 @@
+pub mod Knowing
+pub mod Likening
+pub mod Numbering
+pub mod Placing

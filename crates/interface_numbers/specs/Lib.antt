@@ -1,0 +1,4 @@
+pub mod Hashes
+pub mod Known
+pub mod Places
+pub mod Rows
