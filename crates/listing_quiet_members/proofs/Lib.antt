@@ -1,0 +1,2 @@
+mod Data
+mod Fields

@@ -1,0 +1,5 @@
+pub mod Counts
+mod Fields
+mod Methods
+mod Attributes
+mod Whole

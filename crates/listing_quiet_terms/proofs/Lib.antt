@@ -1,0 +1,4 @@
+mod Paths
+mod Shapes
+pub mod Names
+mod Types

@@ -1,0 +1,4 @@
+mod Numbers
+pub mod Flags
+mod Constants
+pub mod Externs
