@@ -1,5 +1,5 @@
 //! The whole listing.
-ghost use Rattle.std.specs.Prelude.{◌≡◌, OnOk, IfOk};
+ghost use Rattle.std.specs.Prelude.{◌≡◌, OnOk, IfOk, IsUtf8};
 ghost use Rattle.listing_model.specs.Canon.{listing, declarations};
 ghost use Rattle.print_terms.specs.Rows.{in_row};
 
@@ -13,13 +13,14 @@ use print_terms::ExternKeys;
 use print_types::{write_class_data, write_classes, write_field_data};
 use std::alloc::Global;
 
-/// The canonical source of an assembly.
+/// The canonical source of an assembly, which is UTF-8.
 ///
 /// # Errors
 ///
 /// There was no memory.
 pub fn print(alloc: Global, a: &Assembly) -> Result<Text, NoMemory>
-    ensures { IfOk result (λ text. text ≡ listing a.now) }
+    ensures spelled { IfOk result (λ text. text ≡ listing a.now) }
+    ensures utf8 { IfOk result (λ text. IsUtf8 (listing a.now)) }
 {
     drawn_is_text();
     let mut paper = Paper::new(alloc);
