@@ -1,0 +1,5 @@
+use Rattle.listing_denotes.proofs.ValuesExterns.{assemblies_break_nothing}
+use Rattle.listing_denotes.proofs.values.assemblies_break_nothing.Goals as goal
+
+pub returns : goal.returns
+returns c = assemblies_break_nothing c.unasked_break_nothing.ensures c.numbers_are_read.ensures c.numbers_alone.ensures c.segments_are_read.ensures c.rows_break_nothing.ensures

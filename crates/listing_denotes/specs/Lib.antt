@@ -1,0 +1,10 @@
+pub mod Denoting
+pub mod Entries
+pub mod Faults
+pub mod Manifests
+pub mod Members
+pub mod Quiet
+pub mod References
+pub mod Terms
+pub mod Values
+pub mod Whole

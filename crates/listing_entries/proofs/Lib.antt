@@ -1,2 +1,0 @@
-mod Methods
-mod Types

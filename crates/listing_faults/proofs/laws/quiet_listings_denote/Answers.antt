@@ -1,5 +1,0 @@
-use Rattle.listing_faults.proofs.Once.{quiet_listings_denote}
-use Rattle.listing_faults.proofs.laws.quiet_listings_denote.Goals as goal
-
-pub returns : goal.returns
-returns c = quiet_listings_denote c.nodes_suffice.ensures c.listings_declare_once.ensures c.faultless_listings_denote.ensures

@@ -1,5 +1,0 @@
-mod Rows
-mod Weights
-mod Data
-mod Headers
-mod Whole

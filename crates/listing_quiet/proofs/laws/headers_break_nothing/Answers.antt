@@ -1,5 +1,0 @@
-use Rattle.listing_quiet.proofs.Headers.{headers_break_nothing}
-use Rattle.listing_quiet.proofs.laws.headers_break_nothing.Goals as goal
-
-pub returns : goal.returns
-returns c = headers_break_nothing c.numbers_are_read.ensures

@@ -1,5 +1,0 @@
-use Rattle.listing_quiet.proofs.Rows.{rows_break_nothing}
-use Rattle.listing_quiet.proofs.laws.rows_break_nothing.Goals as goal
-
-pub returns : goal.returns
-returns c = rows_break_nothing c.unasked_break_nothing.ensures c.searches_pass.ensures

@@ -1,2 +1,0 @@
-mod Data
-mod Fields

@@ -1,5 +1,0 @@
-pub mod Counts
-mod Fields
-mod Methods
-mod Attributes
-mod Whole

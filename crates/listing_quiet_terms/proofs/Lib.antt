@@ -1,4 +1,0 @@
-mod Paths
-mod Shapes
-pub mod Names
-mod Types

@@ -1,4 +1,0 @@
-mod Numbers
-pub mod Flags
-mod Constants
-pub mod Externs

@@ -1,5 +1,0 @@
-use Rattle.listing_quiet_values.proofs.Externs.{assemblies_break_nothing}
-use Rattle.listing_quiet_values.proofs.laws.assemblies_break_nothing.Goals as goal
-
-pub returns : goal.returns
-returns c = assemblies_break_nothing c.unasked_break_nothing.ensures c.numbers_are_read.ensures c.numbers_alone.ensures c.segments_are_read.ensures c.rows_break_nothing.ensures

@@ -1,5 +1,0 @@
-use Rattle.listing_quiet_values.proofs.Constants.{constants_break_nothing}
-use Rattle.listing_quiet_values.proofs.laws.constants_break_nothing.Goals as goal
-
-pub returns : goal.returns
-returns c = constants_break_nothing c.unasked_break_nothing.ensures c.numbers_are_read.ensures c.numbers_alone.ensures c.constants_are_read.ensures

@@ -1,5 +1,0 @@
-use Rattle.listing_whole.proofs.Sources.{listings_are_sources}
-use Rattle.listing_whole.proofs.laws.listings_are_sources.Goals as goal
-
-pub returns : goal.returns
-returns c = listings_are_sources c.canon_is_derived.ensures c.grown_is_derived.ensures c.forests_agree.ensures c.leaves_are_read.ensures
