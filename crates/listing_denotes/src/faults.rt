@@ -1,16 +1,16 @@
 //! Which rules a listing doesn't break: laws, each as the contract of a function that does nothing when it is called.
 ghost use Rattle.listing_denotes.specs.Faults.{ListingsDeclareOnce, QuietListingsDenote};
 
+use crate::entries::listings_enter_once;
+use crate::whole::{faultless_listings_denote, listings_are_read};
 use faultless_nodes::laws::nodes_suffice;
 use listing_data::laws::{contents_are_held, data_are_there};
 use listing_declarations::laws::manifests_are_read;
-use crate::entries::listings_enter_once;
 use listing_growth::laws::canon_is_derived;
 use listing_keys::laws::{keys_are_known, keys_differ};
 use listing_places::laws::places_are_read;
 use listing_reading::laws::searches_pass;
 use listing_values::laws::labels_differ;
-use crate::whole::{faultless_listings_denote, listings_are_read};
 use members_once::laws::members_are_once;
 use type_places::laws::places_differ;
 

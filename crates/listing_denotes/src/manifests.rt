@@ -1,11 +1,11 @@
 //! The manifest of a listing breaks no rule: a law, as the contract of a function that does nothing when it is called.
 ghost use Rattle.listing_denotes.specs.Manifests.{ManifestsBreakNothing};
 
-use faultless_nodes::laws::unasked_break_nothing;
-use listing_declarations::laws::declarations_are_read;
 use crate::quiet::{headers_break_nothing, rows_break_nothing};
 use crate::references::attributes_break_nothing;
 use crate::values::{assemblies_break_nothing, numbers_alone};
+use faultless_nodes::laws::unasked_break_nothing;
+use listing_declarations::laws::declarations_are_read;
 use listing_rows::laws::segments_are_read;
 use listing_values::laws::numbers_are_read;
 

@@ -1,10 +1,10 @@
 //! Which pieces of a listing break no rule: laws, each as the contract of a function that does nothing when it is called.
 ghost use Rattle.listing_denotes.specs.Quiet.{RowsBreakNothing, DataBreakNothing, HeadersBreakNothing, ListingsBreakByDeclarations, DeclarationsDenote};
 
+use crate::faults::quiet_listings_denote;
 use faultless_nodes::laws::unasked_break_nothing;
 use listing_data::laws::contents_are_held;
 use listing_declarations::laws::declarations_are_read;
-use crate::faults::quiet_listings_denote;
 use listing_reading::laws::searches_pass;
 use listing_values::laws::{bytes_are_read, numbers_are_read};
 

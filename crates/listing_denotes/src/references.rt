@@ -1,13 +1,13 @@
 //! Which references and attributes of a listing break no rule: laws, each as the contract of a function that does nothing when it is called.
 ghost use Rattle.listing_denotes.specs.References.{ReferencesBreakNothing, PlainReferencesHaveNone, AttributesBreakNothing};
 
+use crate::quiet::rows_break_nothing;
+use crate::terms::{paths_are_declared, terms_break_nothing};
+use crate::values::numbers_alone;
 use faultless_nodes::laws::unasked_break_nothing;
 use listing_formed::laws::formed_are_readable;
 use listing_growth::laws::{references_stand, terms_stand};
 use listing_keys::laws::keys_are_known;
-use crate::quiet::rows_break_nothing;
-use crate::terms::{paths_are_declared, terms_break_nothing};
-use crate::values::numbers_alone;
 use listing_reading::laws::searches_pass;
 use listing_references::laws::arguments_are_read;
 use listing_rows::laws::{pieces_are_read, segments_are_read};

@@ -1,12 +1,12 @@
 //! Which types and owners of a listing break no rule: laws, each as the contract of a function that does nothing when it is called.
 ghost use Rattle.listing_denotes.specs.Terms.{PathsAreDeclared, TermsBreakNothing};
 
+use crate::quiet::rows_break_nothing;
+use crate::values::numbers_alone;
 use faultless_nodes::laws::unasked_break_nothing;
 use listing_formed::laws::{formed_are_read, formed_are_readable};
 use listing_keys::laws::keys_are_known;
 use listing_places::laws::sizes_are_known;
-use crate::quiet::rows_break_nothing;
-use crate::values::numbers_alone;
 use listing_rows::laws::segments_are_read;
 use listing_terms::laws::paths_are_read;
 use listing_values::laws::{names_are_read, numbers_are_read};

@@ -1,10 +1,10 @@
 //! Which flags, constants and other assemblies of a listing break no rule: laws, each as the contract of a function that does nothing when it is called.
 ghost use Rattle.listing_denotes.specs.Values.{NumbersAlone, FlagsBreakNothing, ConstantsBreakNothing, AssembliesBreakNothing, ExternsBreakNothing};
 
+use crate::quiet::rows_break_nothing;
 use faultless_nodes::laws::unasked_break_nothing;
 use listing_constants::laws::constants_are_read;
 use listing_declarations::laws::declarations_are_read;
-use crate::quiet::rows_break_nothing;
 use listing_rows::laws::segments_are_read;
 use listing_values::laws::numbers_are_read;
 
