@@ -131,11 +131,11 @@ module _ (image : List ℕ) (meets : Meets image) where
 
   -- ---- along equal images
 
-  pub weighed : (named : List ℕ) (told : OwnersFacts) → named ≡ image → (MeetStructure named → ((table row : ℕ) → HasScopes named table row) → (n : NameMap) → AreNamings named n → AreNameFacts weighing n.owners told)
-      → (n : NameMap) → AreNamings image n → AreNameFacts weighing n.owners told
-  weighed named told e h n are =
-      h (subst MeetStructure (sym e) meets.demands.structure) (λ table row. subst (λ (i : List ℕ). HasScopes i table row) (sym e) (meets.demands.scopes table row)) n
-      (subst (λ (i : List ℕ). AreNamings i n) (sym e) are)
+  pub weighed : (i : List ℕ) (w : OwnersFacts) → i ≡ image → (MeetStructure i → ((table row : ℕ) → HasScopes i table row) → (n : NameMap) → AreNamings i n → AreNameFacts weighing n.owners w)
+      → (n : NameMap) → AreNamings image n → AreNameFacts weighing n.owners w
+  weighed i w e h n are =
+      h (subst MeetStructure (sym e) meets.demands.structure) (λ table row. subst (λ (x : List ℕ). HasScopes x table row) (sym e) (meets.demands.scopes table row)) n
+      (subst (λ (x : List ℕ). AreNamings x n) (sym e) are)
 
   pub known_along : (i weights : List ℕ) (facts : OwnersFacts) → i ≡ image → AreWeights image weights → TellWeighed image facts → AreKnown (known i weights facts)
   known_along i weights facts e are tell = subst (λ (x : List ℕ). AreKnown (known x weights facts)) (sym e) (weights_known weights facts are tell)

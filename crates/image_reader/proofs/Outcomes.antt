@@ -1,15 +1,14 @@
 -- What an outcome says of an image, where it has one alone.
-use Rattle.std.proofs.Common.{ℕ, ◌≤◌, ◌<◌, ◌^◌, List, length, refl}
+use Rattle.std.proofs.Common.{◌≡◌, ℕ, ◌≤◌, ◌^◌, Bool, true, List, length, refl}
 use Rattle.std.specs.Prelude.{IsTrue, IfOk, IfErr, Result, Ok, Err}
-use Rattle.assembly_tree.specs.Weight.{weight_of}
 use Rattle.assembly_tree.specs.WellFormed.{is_well_formed}
 use Rattle.assembly_tree.specs.declared.assembly.Assembly.{Assembly}
 use Rattle.formed_images.specs.Laws.{AreBytes, ReadIsFormed}
 use Rattle.image_assemblies.specs.Laws.{HasOneOutcome}
 use Rattle.image_demands.specs.Meeting.{MeetDemands}
+use Rattle.image_lightness.specs.Light.{TellsLight}
 use Rattle.image_model.specs.declared.place.Place.{Place}
-use Rattle.image_model.specs.declared.place.Place.TheVariants.{Whole}
-use Rattle.image_model.specs.Faults.{HasTables, Reads, IsImageFault, too_large}
+use Rattle.image_model.specs.Faults.{HasTables, Reads, IsImageFault}
 use Rattle.image_reader.specs.Outcome.{IsFaultOf, IsAnswer, AnswersAssembly, AnswersFault, IsTreeOf}
 use Rattle.image_reader.specs.declared.fault.ImageFault.{ImageFault}
 use Rattle.image_reader.specs.declared.fault.ImageFault.TheVariants.{Bad, NoMemory}
@@ -40,16 +39,14 @@ module _ (image : List ℕ) where
 
   -- ---- by the weight
 
-  module _ (has : HasTables image) (meets : MeetDemands image) (a : Assembly) (tree : IsTreeOf image a) where
-    pub weighs_too_much : 2 ^ 26 < weight_of a → IsImageFault image 24 Whole
-    weighs_too_much over = too_large {names = meets.named.0} {a = a} has meets.named.1 (meets.rows meets.named.0 meets.named.1) (tree meets.named.0 meets.named.1) over
-
-    pub reads : weight_of a ≤ 2 ^ 26 → Reads image a
-    reads light = record {
+  module _ (has : HasTables image) (meets : MeetDemands image) where
+    -- what it gives isn't too large, as is told by a test
+    pub reads : (a : Assembly) → IsTreeOf image a → (little : Bool) → TellsLight image little → little ≡ true → Reads image a
+    reads a tree little tells is_little = record {
       tables = has;
       names = meets.named.0;
       named = meets.named.1;
       rows = meets.rows meets.named.0 meets.named.1;
       parts = tree meets.named.0 meets.named.1;
-      weight = light;
+      weight = (tells meets.named.0 a meets.named.1 (tree meets.named.0 meets.named.1)).0 is_little;
     }

@@ -3,10 +3,11 @@ ghost use Rattle.formed_images.specs.Laws.{AreBytes};
 ghost use Rattle.image_demands.specs.Meeting.{MeetDemands};
 ghost use Rattle.image_reader.specs.Outcome.{IsOutcome, IsTreeOf, AreKept, AreSizes};
 
-use assembly_tree::{Assembly, weight};
+use assembly_tree::Assembly;
 use field_sizes::data_sizes;
 use il_base::NoMemory;
 use image_demands::Survey;
+use image_lightness::weighs_little;
 use image_model::Place;
 use image_names::keep_names;
 use image_ready::{an_image_is_ready, what_is_read_is_so};
@@ -17,16 +18,14 @@ use kept_names::KeptNames;
 use kept_owners::keep_owners;
 use std::alloc::Global;
 
-/// The greatest weight of an assembly that an image may read as.
-const MAX_WEIGHT: u64 = 1 << 26;
-
-/// The demand of an image whose assembly weighs more.
+/// The demand of an image whose assembly weighs more than 2^26.
 const TOO_LARGE: Unmet = Unmet {
     rule: 24,
     at: Place::Whole,
 };
 
-/// What comes of an image that meets I1 to I23: the assembly that it gives, where that isn't too large (I24).
+/// What comes of an image that meets I1 to I23: the assembly that it gives, where that isn't too large (I24), which is told of its rows
+/// before anything is built.
 pub(crate) fn read_whole(
     alloc: Global,
     image: &Image<'_>,
@@ -39,10 +38,11 @@ pub(crate) fn read_whole(
     ensures { IfOk result (IsOutcome image.now) }
 {
     let _tables = image.tables();
-    let tree = tree_of(alloc, image, survey)?;
-    if weight(&tree) > MAX_WEIGHT {
+    let little = weighs_little(alloc, image, survey)?;
+    if !little {
         return Ok(Err(TOO_LARGE));
     }
+    let tree = tree_of(alloc, image, survey)?;
     Ok(Ok(tree))
 }
 
