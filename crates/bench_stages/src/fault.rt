@@ -1,17 +1,16 @@
-//! Why a source or an image wasn't read as far as was asked for.
+//! Why a source wasn't read as far as was asked for.
 
 use elaborate::NameFault;
 use il_base::NoMemory;
 use il_lexer::LexFault;
-use image_reader::ImageFault;
 use ilasm_grammar::SyntaxFault;
 use thiserror::Error;
 
-/// Why a source wasn't read as far as a stage, or an image.
+/// Why a source wasn't read as far as a stage.
 #[derive(Debug, Clone, Copy, PartialEq, Eq, Drop, Error)]
 pub enum StageFault {
-    /// The source has a fault, or the image fails a demand.
-    #[error("a fault in the file")]
+    /// The source has a fault.
+    #[error("a fault in the source")]
     Faulty,
     /// The file can't be read, or is too long.
     #[error("cannot be read")]
@@ -50,15 +49,6 @@ impl From<NameFault> for StageFault {
         match fault {
             NameFault::Bad { .. } => StageFault::Faulty,
             NameFault::NoMemory => StageFault::NoMemory,
-        }
-    }
-}
-
-impl From<ImageFault> for StageFault {
-    fn from(fault: ImageFault) -> StageFault {
-        match fault {
-            ImageFault::Bad { .. } => StageFault::Faulty,
-            ImageFault::NoMemory => StageFault::NoMemory,
         }
     }
 }

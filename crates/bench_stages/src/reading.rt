@@ -1,4 +1,4 @@
-//! A source, read as far as a stage, or an image.
+//! A source, read as far as a stage.
 
 ghost use Rattle.std.specs.Prelude.{◌≤◌, ◌^◌, length, IfOk};
 ghost use Rattle.il_lexer.specs.Lexing.{IsAccepted, all_placed};
@@ -7,7 +7,6 @@ ghost use Rattle.ilasm_grammar.specs.Parsing.{IsTreeOf};
 use crate::fault::StageFault;
 use check_source::faults::first_fault;
 use elaborate::elaborate_spans;
-use image_reader::read;
 use il_base::{Bytes, DiskShelf, Shelf};
 use il_lexer::spans;
 use il_lexer::types::Spans;
@@ -16,7 +15,7 @@ use source_model::derivations_are_forests;
 use source_nodes::reader::Reader;
 use std::alloc::Global;
 
-/// How far a source is read, or that an image is.
+/// How far a source is read.
 #[derive(Debug, Clone, Copy, PartialEq, Eq, Drop)]
 pub enum Stage {
     /// To its tokens.
@@ -27,19 +26,16 @@ pub enum Stage {
     Rules,
     /// To the assembly that it denotes.
     Assembly,
-    /// An image, to the assembly that it reads as.
-    Image,
 }
 
 impl Stage {
-    /// The stage with this number, from 1 to 5.
+    /// The stage with this number, from 1 to 4.
     pub fn numbered(word: &str) -> Option<Stage> {
         match word {
             "1" => Some(Stage::Tokens),
             "2" => Some(Stage::Derivation),
             "3" => Some(Stage::Rules),
             "4" => Some(Stage::Assembly),
-            "5" => Some(Stage::Image),
             _ => None,
         }
     }
@@ -47,9 +43,6 @@ impl Stage {
 
 // How many bytes a source may have.
 const LIMIT: usize = 0x800_0000;
-
-// How many bytes an image may have.
-const IMAGE_LIMIT: usize = 0x400_0000;
 
 // How many bytes are asked for at a time.
 const PIECE: usize = 0x1_0000;
@@ -78,19 +71,6 @@ pub fn read_file(rt: &HostRuntime, name: &str) -> Result<Bytes, StageFault>
     Err(StageFault::Unread)
 }
 
-/// Reads an image to the assembly that it reads as.
-///
-/// # Errors
-///
-/// It has more than 2^26 bytes, it fails a demand, or there was no memory.
-pub fn read_image(alloc: Global, file: &[u8]) -> Result<(), StageFault> {
-    if file.len() > IMAGE_LIMIT {
-        return Err(StageFault::Unread);
-    }
-    let _ = read(alloc, file)?;
-    Ok(())
-}
-
 /// Reads a source of at most 2^27 bytes as far as a stage.
 ///
 /// # Errors
@@ -105,7 +85,7 @@ pub fn read_source(alloc: Global, source: &[u8], stage: Stage) -> Result<(), Sta
     }
     let tree = parse_spans(alloc, source, &spans)?;
     match stage {
-        Stage::Tokens | Stage::Derivation | Stage::Image => Ok(()),
+        Stage::Tokens | Stage::Derivation => Ok(()),
         Stage::Rules => ask_rules(alloc, source, &spans, &tree),
         Stage::Assembly => {
             let _ = elaborate_spans(alloc, source, &spans, &tree)?;
