@@ -6,4 +6,4 @@ mod kept;
 mod names;
 
 pub use kept::Kept;
-pub use names::KeptNames;
+pub use names::{KeptNames, row_key};
