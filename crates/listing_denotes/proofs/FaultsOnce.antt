@@ -15,7 +15,7 @@ use Rattle.source_model.specs.Nodes.{class_token}
 use Rattle.source_model.specs.Source.{Source}
 use Rattle.source_model.specs.Undeclared.{assembly_undeclared, end_unless_some}
 use Rattle.source_model.specs.Values.{name_text}
-use Rattle.listing_keys.specs.Laws.{keys, KeysDiffer, KeysAreKnown}
+use Rattle.listing_keys.specs.Laws.{KeysDiffer, KeysAreKnown}
 use Rattle.listing_leaves.specs.Numbers.{data_label}
 use Rattle.listing_model.specs.Canon.{contents}
 use Rattle.listing_values.specs.Laws.{LabelsDiffer}
@@ -23,7 +23,7 @@ use Rattle.listing_declarations.specs.Laws.{IsListingOf, ManifestsAreRead}
 use Rattle.listing_data.specs.Laws.{labels, ContentsAreHeld, DataAreThere}
 use Rattle.listing_places.specs.Laws.{place_of, PlacesAreRead}
 use Rattle.type_places.specs.Laws.{is_same_place, module_path, PlacesDiffer}
-use Rattle.type_places.specs.Places.{has_path, places}
+use Rattle.type_places.specs.Places.{has_path}
 use Rattle.listing_growth.specs.Laws.{CanonStands}
 use Rattle.listing_reading.specs.Laws.{SearchesPass}
 use Rattle.faultless_nodes.specs.Laws.{WholeBreaksNothing, NodesSuffice}

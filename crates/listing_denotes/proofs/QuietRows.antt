@@ -1,5 +1,5 @@
 -- A row breaks no rule where none of its items does.
-use Rattle.std.proofs.Common.{◌≡◌, ℕ, zero, suc, ◌+◌, ◌&&◌, ◌||◌, nat_eq, Bool, true, false, if◌then◌else◌, List, [], ◌∷◌, ◌++◌, take, refl, ap, sym, subst, ◌∙◌}
+use Rattle.std.proofs.Common.{◌≡◌, ℕ, zero, suc, ◌+◌, ◌&&◌, nat_eq, Bool, true, false, if◌then◌else◌, List, [], ◌∷◌, ◌++◌, take, refl, ap, sym, subst, ◌∙◌}
 use Rattle.std.proofs.lemmas.Bool.{and_parts, eqb-true, false≢true}
 use Rattle.ilasm_grammar.specs.declared.productions.TheConstants as p
 use Rattle.ilasm_grammar.specs.declared.symbol.Symbol.{Symbol}
@@ -35,13 +35,17 @@ stays s a q b e =
 -- ---- lists of productions
 
 module _ (s : Source) where
-  each_join : (xs ys : List Node) → EachBreaksNothing s xs → EachBreaksNothing s ys → EachBreaksNothing s (xs ++ ys)
+  pub each_join : (xs ys : List Node) → EachBreaksNothing s xs → EachBreaksNothing s ys → EachBreaksNothing s (xs ++ ys)
   each_join [] ys h k = k
   each_join (x ∷ xs) ys h k = (h.0, each_join xs ys h.1 k)
 
-  each_front : (xs ys : List Node) → EachBreaksNothing s (xs ++ ys) → EachBreaksNothing s xs
+  pub each_front : (xs ys : List Node) → EachBreaksNothing s (xs ++ ys) → EachBreaksNothing s xs
   each_front [] ys h = tt
   each_front (x ∷ xs) ys h = (h.0, each_front xs ys h.1)
+
+  pub each_behind : (xs ys : List Node) → EachBreaksNothing s (xs ++ ys) → EachBreaksNothing s ys
+  each_behind [] ys h = h
+  each_behind (x ∷ xs) ys h = each_behind xs ys h.1
 
 module _ (unasked : UnaskedBreakNothing) (s : Source) (a : Around) where
   -- one that isn't asked, what stands below it, and what stands behind it

@@ -186,3 +186,12 @@ no_second_dots searches terms pieces externs m h at =
     let most = signature_dots pieces items clean at in
     let same = below_length found in
     no_second (f.below_each found) (omega (arith, few, most, same))
+
+-- arguments without a sentinel have no `...`
+pub no_dots : SearchesPass → TermsStand → PiecesAreRead → (externs : List ExternAssembly) (ts : List SigType) → all_stand ts ≡ true → (at : ℕ) →
+    f.parts (p.SIG_ARG_ELLIPSIS ∷ []) (numbered at (in_signature (map (argument externs) ts))) ≡ []
+no_dots searches terms pieces externs ts h at =
+    let found = f.parts dots (numbered at (in_signature (map (argument externs) ts))) in
+    let none_there = args_dotless searches terms externs ts in
+    let most = signature_dots pieces (map (argument externs) ts) (args_clean searches terms externs ts h) at in
+    drop_none 0 found (omega (arith, none_there, most))

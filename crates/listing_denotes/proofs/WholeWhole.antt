@@ -9,8 +9,6 @@ use Rattle.assembly_tree.specs.Weight.{method_weight, weight_of}
 use Rattle.assembly_tree.specs.declared.assembly.Assembly.{Assembly}
 use Rattle.assembly_tree.proofs.FormedFacts.{assemblies_named}
 use Rattle.source_model.specs.Classes.{classes_in, assembly}
-use Rattle.source_model.specs.Manifests.{manifest}
-use Rattle.source_model.specs.Members.{fields, methods}
 use Rattle.source_model.specs.Nodes.{nothing_around}
 use Rattle.source_model.specs.Source.{Source}
 use Rattle.listing_formed.specs.Laws.{Knows}

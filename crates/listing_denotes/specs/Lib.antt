@@ -1,8 +1,13 @@
+pub mod Accessors
+pub mod Bodies
+pub mod Classes
 pub mod Denoting
 pub mod Entries
 pub mod Faults
+pub mod Generics
 pub mod Manifests
 pub mod Members
+pub mod Methods
 pub mod Quiet
 pub mod References
 pub mod Terms
