@@ -1,0 +1,4 @@
+pub mod Faces
+pub mod Ranks
+pub mod Reports
+pub mod TermLaws

@@ -1,0 +1,42 @@
+use Rattle.std.proofs.Common.{subst, sym, refl}
+use Rattle.std.specs.Option.{option_copied}
+use Rattle.type_hierarchy.specs.World.{hierarchy, type_at}
+use Rattle.class_members.proofs.Worlds.{on_ok_more}
+use Rattle.class_notes.specs.declared.note.Note.TheVariants.{Skipped, Checked}
+use Rattle.class_notes.proofs.FillingLemmas.{not_when}
+use Rattle.class_notes.proofs.MakingLemmas.{checked_by_parent, knows_checked, knows_put, on_ok_always, skipped_by_parent, unknown}
+use Rattle.class_notes.proofs.making.make_note.Goals as goal
+
+pub returns-then-is_parent_skipped-clause-ok : goal.returns-then-is_parent_skipped-clause-ok
+returns-then-is_parent_skipped-clause-ok c =
+    let w = c.args.w.now in
+    on_ok_always c.put.result
+    (knows_put c.args.a.now (hierarchy w) w.nodes c.args.notes.now _ c.args.key.now Skipped c.requires.knows refl refl c.put.ensures.puts c.requires.key
+    (skipped_by_parent c.args.a.now (hierarchy w) w.nodes c.args.notes.now (type_at w c.args.key.now) (option_copied c.args.parent) c.requires.knows c.requires.parent
+    (c.is_parent_skipped.ensures.skipped c.if-is_parent_skipped.true)))
+
+pub returns-then-is_parent_skipped-clause-there : goal.returns-then-is_parent_skipped-clause-there
+returns-then-is_parent_skipped-clause-there c = on_ok_more c.put.result (λ e. (Skipped, e)) c.put.ensures.there
+
+pub returns-then-not-branch-clause-ok : goal.returns-then-not-branch-clause-ok
+returns-then-not-branch-clause-ok c =
+    let w = c.args.w.now in
+    on_ok_always c.put.result
+    (knows_put c.args.a.now (hierarchy w) w.nodes c.args.notes.now _ c.args.key.now Skipped c.requires.knows refl refl c.put.ensures.puts c.requires.key
+    (unknown c.args.a.now (hierarchy w) (type_at w c.args.key.now) (not_when c.in_ok-is_known.ensures.ok c.if-not-branch.true)))
+
+pub returns-then-not-branch-clause-there : goal.returns-then-not-branch-clause-there
+returns-then-not-branch-clause-there c = on_ok_more c.put.result (λ e. (Skipped, e)) c.put.ensures.there
+
+pub returns-clause-ok : goal.returns-clause-ok
+returns-clause-ok c =
+    let w = c.args.w.now in
+    let known = (c.in_ok-is_known.ensures.ok).0 c.if-not-branch.false in
+    let checked = checked_by_parent c.args.a.now (hierarchy w) w.nodes c.args.notes.now (type_at w c.args.key.now) (option_copied c.args.parent) c.requires.knows c.requires.parent
+    (c.is_parent_skipped.ensures.checked c.if-is_parent_skipped.false) known in
+    on_ok_always c.put.result
+    (knows_checked c.args.a.now w c.find_open.new.w c.in_ok-opens.ensures.stays c.args.key.now c.requires.key c.args.notes.now c.find_open.new.notes _ c.in_ok-opens.opens c.in_ok-opens.ensures.ok checked
+    refl refl c.put.ensures.puts)
+
+pub returns-clause-there : goal.returns-clause-there
+returns-clause-there c = on_ok_more c.put.result (λ e. (Checked c.in_ok-opens.opens, e)) c.put.ensures.there
