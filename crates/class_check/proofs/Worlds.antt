@@ -19,13 +19,13 @@ use Rattle.class_notes.specs.Cores.{IsCored}
 core_is : (s : Sources) (itself : Scope) (name : List ℕ) → is_core_name name ≡ true → scope_of_name s true itself name ≡ core_of s
 core_is s itself name e = ap (λ (b : Bool). if b then core_of s else (if same_text name (name_of s.image) then Here else (if is_given s name then entry s itself name else itself))) e
 
+core_by : (s : Sources) → core_of s ≡ extern_or_here (position is_core_name (extern_names s.image))
+unfolding core_of
+core_by s = refl
+
 core_means : (s : Sources) → image_scope s (core_of s) ≡ core_of s
 core_means s = ap (image_scope s) (core_by s) ∙ go (position is_core_name (extern_names s.image)) refl
   where
-    core_by : (s : Sources) → core_of s ≡ extern_or_here (position is_core_name (extern_names s.image))
-    unfolding core_of
-    core_by s = refl
-
     go : (o : Option ℕ) → position is_core_name (extern_names s.image) ≡ o → image_scope s (extern_or_here o) ≡ core_of s
     go None e = sym (core_by s ∙ ap extern_or_here e)
     go (Some k) e =

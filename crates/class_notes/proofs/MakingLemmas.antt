@@ -210,6 +210,9 @@ module _ (a : Assembly) (w : Hierarchy) (ns ms : List Node) (x : Extends ns ms) 
 
 -- ---- the slots that are passed on
 
+pub not_both : {o : Option (Option Note)} {os : List Open} → o ≡ Some (Some (Checked os)) → o ≡ Some (Some Skipped) → ⊥
+not_both e f = let h : ⊥ = cc in h
+
 pub passed_checked : (a : Assembly) (w : Hierarchy) (ns : List Node) (t : SigType) (n : Notes) (id : ℕ) (os left : List Open) → Knows a w ns n → HasOption ns (Some id) (parent w t) →
     slice_get n.notes id ≡ Some (Some (Checked os)) → AreStill a w ns t os left → ArePassed a w ns t (Some id) left
 passed_checked a w ns t n id os left k h e s =

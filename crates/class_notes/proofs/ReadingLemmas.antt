@@ -188,6 +188,14 @@ module _ (a : Assembly) (w0 w1 w2 : Content) (ls : List Node) (at : ℕ) (low : 
 
 -- ---- Object
 
+-- the types of two ids, as the pool is lent
+pub same_types : (pool ns : List Node) (i j at key : ℕ) (r : Bool) → pool ≡ ns → i ≡ at → j ≡ key → (IsTrue r ↔ (term_of pool i ≡ term_of pool j)) →
+    IsTrue r ↔ (term_of ns at ≡ term_of ns key)
+same_types pool ns i j at key r p e f h =
+    let first : term_of pool i ≡ term_of ns at = λ k. term_of (p k) (e k) in
+    let second : term_of pool j ≡ term_of ns key = λ k. term_of (p k) (f k) in
+    (λ t. sym first ∙ h.0 t ∙ second, λ q. h.1 (first ∙ q ∙ sym second))
+
 module _ (a : Assembly) (w0 w1 : Content) (s : Stays w0 w1) (at : ℕ) (low : at < length w0.nodes) (key : ℕ) (h : Has w1.nodes key object) where
   pub other_type : (ms : List Node) (facts : List (List ℕ)) (r : Bool) → r ≡ false → (IsTrue r ↔ (term_of w1.nodes at ≡ term_of w1.nodes key)) →
       AddsObject a (hierarchy w0) ms at (type_at w0 at) facts facts

@@ -61,7 +61,11 @@ fn is_parent_skipped(notes: &Notes, parent: Option<&TypeKey>) -> bool
     ensures checked { result ≡ false → IsParentChecked notes.now (option_copied parent.entry) }
 {
     match parent {
-        Some(parent) => matches!(noted(&notes.notes, parent), Some(Note::Skipped)),
+        Some(parent) => match noted(&notes.notes, parent) {
+            Some(Note::Skipped) => true,
+            Some(Note::Checked(_)) => false,
+            None => false,
+        },
         None => false,
     }
 }
@@ -142,7 +146,8 @@ fn passed_on(
             Some(Note::Checked(opens)) => {
                 still_open(alloc, a, w, &notes.facts, key, opens.as_slice())
             }
-            _ => Ok(Items::new(alloc)),
+            Some(Note::Skipped) => Ok(Items::new(alloc)),
+            None => Ok(Items::new(alloc)),
         },
         None => Ok(Items::new(alloc)),
     }
