@@ -18,7 +18,7 @@ use class_faces::declaration;
 use class_members::Facts;
 use class_model::{Row, Slot, Slots};
 use class_notes::{Open, is_slot};
-use il_lists::{Copies, NoMemory};
+use il_lists::{Copies, NoMemory, three};
 use std::alloc::Global;
 use type_hierarchy::core_types::class_name;
 use type_order::types::World;
@@ -96,27 +96,33 @@ fn slot_for(
     ensures { IfOk result (λ s. s ≡ slot_for (hierarchy w.now) row.now term.now method.now) }
 {
     let owner = owner_of(alloc, w, term)?;
-    let path = row.path.copy(alloc)?;
-    let of = TypeName {
-        scope: Scope::Here,
-        path,
-    };
-    let method = reference(alloc, owner, method)?;
-    Ok(Slot { of, method })
+    let (owner, path, name, sig) = with_copies(alloc, owner, &row.path, &method.name, &method.sig)?;
+    Ok(Slot {
+        of: TypeName {
+            scope: Scope::Here,
+            path,
+        },
+        method: MethodRef {
+            owner,
+            name,
+            sig,
+            args: None,
+        },
+    })
 }
 
-/// A method as a reference names it.
-fn reference(alloc: Global, owner: Owner, method: &Method) -> Result<MethodRef, NoMemory>
-    ensures { IfOk result (λ r. r ≡ record { owner = owner; name = method.now.name; sig = method.now.sig; args = None }) }
+/// A value, with copies of three.
+fn with_copies<T: Drop, A: Copies, B: Copies, C: Copies>(
+    alloc: Global,
+    value: T,
+    a: &A,
+    b: &B,
+    c: &C,
+) -> Result<(T, A, B, C), NoMemory>
+    ensures { IfOk result (λ it. (it.0 ≡ value) × ((it.1 ≡ a.now) × ((it.2 ≡ b.now) × (it.3 ≡ c.now)))) }
 {
-    let name = method.name.copy(alloc)?;
-    let sig = method.sig.copy(alloc)?;
-    Ok(MethodRef {
-        owner,
-        name,
-        sig,
-        args: None,
-    })
+    let (a, b, c) = three(a, b, c, alloc)?;
+    Ok((value, a, b, c))
 }
 
 /// An interface as the owner of a method.
