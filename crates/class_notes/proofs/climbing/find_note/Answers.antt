@@ -2,9 +2,10 @@ use Rattle.std.proofs.Common.{◌≡◌, subst, sym, [], ℕ, rules}
 use Rattle.type_hierarchy.specs.Indexed.{KnowsTypes}
 use Rattle.type_hierarchy.specs.World.{hierarchy, type_at}
 use Rattle.type_order.proofs.StandingLemmas.{ladder_down, ladder_more}
+use Rattle.class_members.proofs.Worlds.{stays_on}
 use Rattle.class_notes.specs.Cores.{IsCored}
 use Rattle.class_notes.specs.Notes.{IsNoted, Knows}
-use Rattle.class_notes.proofs.ClimbingLemmas.{foot_is, rung_parent}
+use Rattle.class_notes.proofs.ClimbingLemmas.{foot_is, knows_on, rung_parent}
 use Rattle.class_notes.proofs.Worlds.{earlier, later}
 use Rattle.class_notes.proofs.climbing.find_note.Goals as goal
 
@@ -52,3 +53,22 @@ returns-clause-there c =
     let v = c.loop-below.invariant in
     let none : c.loop-below.keys ≡ [] = search rules in
     subst (IsNoted c.loop-below.notes) (foot_is (hierarchy c.args.w.now) c.loop-below.w.nodes c.args.key.now c.loop-below.top c.loop-below.keys v.ladder none) v.noted
+
+pub note_top-requires-clause-knows : goal.note_top-requires-clause-knows
+note_top-requires-clause-knows c = knows_on c.args.a.now c.args.w.now c.climb.new.w c.in_ok-keys.ensures.stays c.args.notes.now c.requires.knows
+
+pub loop-below-init : goal.loop-below-init
+loop-below-init c =
+    let w = c.args.w.now in
+    let w1 = c.climb.new.w in
+    let w2 = c.note_top.new.w in
+    let s1 = c.in_ok-keys.ensures.stays in
+    let s2 = c.in_ok-note_top.ensures.stays in
+    let ok = c.in_ok-keys.ensures.ok in
+    record {
+      top = ((c.keys_keep_their_types.ensures.keys w1 w2 s2).ids c.in_ok-keys.field-0.top ok.within).0;
+      stays = stays_on w w1 w2 s1 s2;
+      ladder = ladder_more (hierarchy w) w1.nodes w2.nodes c.args.key.now s2.nodes ok.within ok.ladder;
+      knows = earlier w w1 s1 (λ v. Knows c.args.a.now v w2.nodes c.note_top.new.notes) c.in_ok-note_top.ensures.ok;
+      noted = c.in_ok-note_top.ensures.there;
+    }

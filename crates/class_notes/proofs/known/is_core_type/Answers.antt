@@ -1,5 +1,5 @@
 use Rattle.std.proofs.Common.{inl, inr}
-use Rattle.class_notes.proofs.FillingLemmas.{not_when, yes_when}
+use Rattle.class_notes.proofs.FillingLemmas.{not_when}
 use Rattle.class_notes.proofs.KnownTypes.{is_object_when, is_value_when}
 use Rattle.class_notes.proofs.known.is_core_type.Goals as goal
 
@@ -12,7 +12,7 @@ returns-then-is_object-clause-ok c =
     let s2 = c.in_ok-value.ensures.stays in
     let a = is_object_when w w1 w2 s1 s2 c.requires.core c.args.key.now c.requires.key c.pool.result.now c.id.result c.in_ok-object.object c.id-2.result c.same-is_object.result c.pool.ensures
     c.id.ensures c.id-2.ensures c.in_ok-object.ensures.ok c.same-is_object.ensures.types in
-    yes_when (inl (a.0 c.if-is_object.true))
+    (λ t. inl (a.0 t), λ x. c.if-is_object.true)
 
 pub returns-else-is_object-clause-ok : goal.returns-else-is_object-clause-ok
 returns-else-is_object-clause-ok c =

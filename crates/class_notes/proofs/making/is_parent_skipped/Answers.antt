@@ -1,5 +1,5 @@
 use Rattle.std.proofs.Common.{◌≡◌, slice_get, Some}
-use Rattle.class_notes.specs.declared.note.Note.TheVariants.{Skipped, Checked}
+use Rattle.class_notes.specs.declared.note.Note.TheVariants.{Skipped}
 use Rattle.class_notes.proofs.making.is_parent_skipped.Goals as goal
 
 pub returns-in-Some-Skipped-clause-skipped : goal.returns-in-Some-Skipped-clause-skipped
@@ -9,10 +9,10 @@ returns-in-Some-Skipped-clause-skipped c = λ t.
 
 pub returns-in-Some-Checked-clause-checked : goal.returns-in-Some-Checked-clause-checked
 returns-in-Some-Checked-clause-checked c = λ t.
-    let e : slice_get c.args.notes.now.notes c.in-Some.parent.now ≡ Some (Some (Checked c.in-Some-Checked.field-0)) = rw c.in-Some-Checked.field-0-is at c.in-Some-Checked.ensures.found in
+    let e = rw c.in-Some-Checked.field-0-is at c.in-Some-Checked.ensures.found in
     rw c.in-Some.is (_, e)
 
-pub returns-in-Some-None-clause-checked : goal.returns-in-Some-None-clause-checked
-returns-in-Some-None-clause-checked c = λ t.
+pub returns-in-None-noted-clause-checked : goal.returns-in-None-noted-clause-checked
+returns-in-None-noted-clause-checked c = λ t.
     let k = rw c.in-Some.is at c.requires in
-    absurd (c.in-None.ensures.none k.0 k.1)
+    absurd (c.in-None-noted.ensures.none k.0 k.1)

@@ -21,12 +21,12 @@ returns-then-is_parent_skipped-clause-there c = on_ok_more c.put.result (λ e. (
 pub returns-then-not-branch-clause-ok : goal.returns-then-not-branch-clause-ok
 returns-then-not-branch-clause-ok c =
     let w = c.args.w.now in
-    on_ok_always c.put.result
-    (knows_put c.args.a.now (hierarchy w) w.nodes c.args.notes.now _ c.args.key.now Skipped c.requires.knows refl refl c.put.ensures.puts c.requires.key
+    on_ok_always c.put-then-not-branch.result
+    (knows_put c.args.a.now (hierarchy w) w.nodes c.args.notes.now _ c.args.key.now Skipped c.requires.knows refl refl c.put-then-not-branch.ensures.puts c.requires.key
     (unknown c.args.a.now (hierarchy w) (type_at w c.args.key.now) (not_when c.in_ok-is_known.ensures.ok c.if-not-branch.true)))
 
 pub returns-then-not-branch-clause-there : goal.returns-then-not-branch-clause-there
-returns-then-not-branch-clause-there c = on_ok_more c.put.result (λ e. (Skipped, e)) c.put.ensures.there
+returns-then-not-branch-clause-there c = on_ok_more c.put-then-not-branch.result (λ e. (Skipped, e)) c.put-then-not-branch.ensures.there
 
 pub returns-clause-ok : goal.returns-clause-ok
 returns-clause-ok c =
@@ -34,9 +34,9 @@ returns-clause-ok c =
     let known = (c.in_ok-is_known.ensures.ok).0 c.if-not-branch.false in
     let checked = checked_by_parent c.args.a.now (hierarchy w) w.nodes c.args.notes.now (type_at w c.args.key.now) (option_copied c.args.parent) c.requires.knows c.requires.parent
     (c.is_parent_skipped.ensures.checked c.if-is_parent_skipped.false) known in
-    on_ok_always c.put.result
+    on_ok_always c.put-2.result
     (knows_checked c.args.a.now w c.find_open.new.w c.in_ok-opens.ensures.stays c.args.key.now c.requires.key c.args.notes.now c.find_open.new.notes _ c.in_ok-opens.opens c.in_ok-opens.ensures.ok checked
-    refl refl c.put.ensures.puts)
+    refl refl c.put-2.ensures.puts)
 
 pub returns-clause-there : goal.returns-clause-there
-returns-clause-there c = on_ok_more c.put.result (λ e. (Checked c.in_ok-opens.opens, e)) c.put.ensures.there
+returns-clause-there c = on_ok_more c.put-2.result (λ e. (Checked c.in_ok-opens.opens, e)) c.put-2.ensures.there

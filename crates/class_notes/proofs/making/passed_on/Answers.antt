@@ -31,13 +31,13 @@ returns-in-Some-Skipped-clause-ok c =
     let k = rw c.in-Some.is at c.requires.checked in
     absurd (not_both k.1 e)
 
-pub returns-in-Some-None-clause-ok : goal.returns-in-Some-None-clause-ok
-returns-in-Some-None-clause-ok c =
+pub returns-in-None-noted-clause-ok : goal.returns-in-None-noted-clause-ok
+returns-in-None-noted-clause-ok c =
     let k = rw c.in-Some.is at c.requires.checked in
-    absurd (c.in-None.ensures.none (Checked k.0) k.1)
+    absurd (c.in-None-noted.ensures.none (Checked k.0) k.1)
 
 pub returns-in-None-clause-ok : goal.returns-in-None-clause-ok
 returns-in-None-clause-ok c =
     let w = c.args.w.now in
     rw c.in-None.is
-    (passed_none c.args.a.now (hierarchy w) w.nodes (type_at w c.args.key.now) c.new.result (λ o d. nothing_in o (subst (λ (l : List Open). Contains l o) c.new.ensures d)))
+    (passed_none c.args.a.now (hierarchy w) w.nodes (type_at w c.args.key.now) c.new-in-None.result (λ o d. nothing_in o (subst (λ (l : List Open). Contains l o) c.new-in-None.ensures d)))
