@@ -17,7 +17,7 @@ use Rattle.class_notes.specs.Notes.{IsNoted, Knows}
 use Rattle.class_notes.specs.declared.climbing.Ladder.{Ladder}
 use Rattle.class_notes.specs.declared.note.Note.{Note}
 use Rattle.class_notes.specs.declared.note.Notes.{Notes}
-use Rattle.class_notes.proofs.Growing.{knows_grows, pairs_grow, true_grows}
+use Rattle.class_notes.proofs.Growing.{knows_held}
 use Rattle.class_notes.proofs.Worlds.{earlier, later}
 
 -- ---- up
@@ -59,7 +59,4 @@ rung_parent w0 w1 s top below low e = (type_at w1 top, later w0 w1 s (λ v. pare
 
 -- what is known, in a world that goes on
 pub knows_on : (a : Assembly) (w0 w1 : Content) → Stays w0 w1 → (n : Notes) → Knows a (hierarchy w0) w0.nodes n → Knows a (hierarchy w1) w1.nodes n
-knows_on a w0 w1 s n k =
-    let h = hierarchy w0 in
-    later w0 w1 s (λ v. Knows a v w1.nodes n)
-    (knows_grows a h w0.nodes w1.nodes s.nodes n n k refl (λ j c. c) (true_grows a h w0.nodes w1.nodes s.nodes n.facts k.facts) (pairs_grow a h w0.nodes w1.nodes s.nodes n.faces k.faces))
+knows_on a w0 w1 s n k = later w0 w1 s (λ v. Knows a v w1.nodes n) (knows_held a (hierarchy w0) w0.nodes w1.nodes s.nodes n k)

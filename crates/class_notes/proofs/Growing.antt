@@ -83,3 +83,6 @@ module _ (a : Assembly) (w : Hierarchy) (ns ms : List Node) (x : Extends ns ms) 
       notes id n g =
           let o = h.notes id n (ap (λ l. slice_get l id) (sym e) ∙ g) in
           (up_to id o.0, subst (λ (t : SigType). IsNote a w ms new.facts t n) (sym (x.terms id o.0)) (note_grows old.facts new.facts (term_of ns id) n k o.1))
+
+  pub knows_held : (n : Notes) → Knows a w ns n → Knows a w ms n
+  knows_held n k = knows_grows n n k refl (λ j c. c) (true_grows n.facts k.facts) (pairs_grow n.faces k.faces)

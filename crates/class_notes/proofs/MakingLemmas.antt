@@ -34,7 +34,7 @@ use Rattle.class_notes.specs.Making.{ArePassed, AddsItself, AddsPairs, Finds, Is
 use Rattle.class_notes.specs.Notes.{IsOpen, HasOpen, IsSettled, AreOpen, IsCheckedNote, IsNote, IsNoted, IsPair, Knows}
 use Rattle.class_notes.specs.Opening.{AddsFaces, AddsSlots, AreStill, IsFaceOf, IsWithin, PairsAreFaces}
 use Rattle.class_notes.specs.Reading.{AreTrue, HasRead, IsOwnFilled, Reads}
-use Rattle.class_notes.proofs.Growing.{above_grows, knows_grows, open_grows, pairs_grow, settled_grows, true_grows}
+use Rattle.class_notes.proofs.Growing.{above_grows, knows_grows, knows_held, open_grows, pairs_grow, settled_grows, true_grows}
 use Rattle.class_notes.proofs.OpeningLemmas.{settled_more, slots_open, slots_settle}
 use Rattle.class_notes.proofs.Worlds.{earlier_at, later, later_at}
 use Rattle.class_notes.proofs.ReadingLemmas.{own_fills, filled_above, filled_cases, ids_grow, reads_true, read_top, read_below}
@@ -388,6 +388,13 @@ knows_checked a w0 w1 s key low old middle new opens f c ef ep puts =
     let l = extends_long w0.nodes w1.nodes s.nodes in
     knows_put a (hierarchy w0) w1.nodes middle new key (Checked opens) f.knows ef ep puts (omega (arith, l, low))
     (subst (λ (t : SigType). IsCheckedNote a (hierarchy w0) w1.nodes middle.facts t opens) (sym (s.nodes.terms key low)) (record { checked = c; read = f.read; are_open = f.are_open }))
+
+pub knows_skipped : (a : Assembly) (w0 w1 : Content) (s : Stays w0 w1) (key : ℕ) → key < length w0.nodes → (old new : Notes) → Knows a (hierarchy w0) w0.nodes old → new.facts ≡ old.facts →
+    new.faces ≡ old.faces → Puts old.notes new.notes key Skipped → (IsChecked a (hierarchy w0) (type_at w0 key) → ⊥) → Knows a (hierarchy w0) w1.nodes new
+knows_skipped a w0 w1 s key low old new k ef ep puts n =
+    let l = extends_long w0.nodes w1.nodes s.nodes in
+    knows_put a (hierarchy w0) w1.nodes old new key Skipped (knows_held a (hierarchy w0) w0.nodes w1.nodes s.nodes old k) ef ep puts (omega (arith, l, low))
+    (subst (λ (t : SigType). IsChecked a (hierarchy w0) t → ⊥) (sym (s.nodes.terms key low)) n)
 
 pub on_ok_always : {X E P : Type 0} (r : Result X E) → P → OnOk r P
 on_ok_always (Ok x) p = p
