@@ -1,21 +1,16 @@
 -- The way up from a type, and back.
-use Rattle.std.proofs.Common.{◌≡◌, ◌∙◌, refl, sym, ap, subst, ℕ, ◌<◌, arith, Bool, true, false, true≢false, List, [], ◌∷◌, ◌++◌, length, slice_get, None, Some, IsTrue}
-use Rattle.type_terms.specs.declared.term.SigType.{SigType}
+use Rattle.std.proofs.Common.{◌≡◌, ◌∙◌, refl, sym, ap, ℕ, ◌<◌, arith, Bool, true, false, true≢false, List, [], ◌∷◌, ◌++◌, length, None, Some}
 use Rattle.assembly_tree.specs.declared.assembly.Assembly.{Assembly}
 use Rattle.sig_pool.specs.declared.node.Node.{Node}
-use Rattle.sig_pool.specs.Pool.{Extends, Has}
-use Rattle.sig_pool.specs.Terms.{term_of}
 use Rattle.type_hierarchy.specs.Hierarchy.{Hierarchy, parent}
 use Rattle.type_hierarchy.specs.Pooled.{HasOption}
 use Rattle.type_hierarchy.specs.World.{Content, Stays, hierarchy, type_at}
 use Rattle.type_hierarchy.proofs.GrowLemmas.{extends_long}
 use Rattle.type_order.specs.Found.{IsLadder, foot, rung}
-use Rattle.type_order.proofs.StandingLemmas.{ladder_more, ladder_down}
-use Rattle.class_members.proofs.Worlds.{stays_on}
+use Rattle.type_order.proofs.StandingLemmas.{ladder_more}
 use Rattle.class_notes.specs.Climbing.{IsTopOf}
 use Rattle.class_notes.specs.Notes.{IsNoted, Knows}
 use Rattle.class_notes.specs.declared.climbing.Ladder.{Ladder}
-use Rattle.class_notes.specs.declared.note.Note.{Note}
 use Rattle.class_notes.specs.declared.note.Notes.{Notes}
 use Rattle.class_notes.proofs.Growing.{knows_held}
 use Rattle.class_notes.proofs.Worlds.{earlier, later}

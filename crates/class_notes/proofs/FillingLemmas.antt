@@ -1,5 +1,5 @@
 -- How it is found whether a slot is filled.
-use Rattle.std.proofs.Common.{◌≡◌, ◌∙◌, refl, sym, ap, subst, ◌⊎◌, inl, inr, ◌↔◌, ℕ, ◌<◌, Bool, true, false, true≢false, List, [], ◌∷◌, length, drop, Option, None, Some, IsTrue}
+use Rattle.std.proofs.Common.{◌≡◌, ◌∙◌, refl, sym, subst, inl, inr, ◌↔◌, ℕ, ◌<◌, Bool, true, false, true≢false, List, [], ◌∷◌, length, drop, None, Some, IsTrue}
 use Rattle.std.specs.List.{Contains}
 use Rattle.type_terms.specs.declared.term.SigType.{SigType}
 use Rattle.assembly_tree.specs.declared.assembly.Assembly.{Assembly}
@@ -12,7 +12,7 @@ use Rattle.type_hierarchy.proofs.Climbing.{chain_trans}
 use Rattle.type_hierarchy.proofs.GrowLemmas.{has_extends}
 use Rattle.class_model.specs.Filled.{IsFilled}
 use Rattle.class_model.proofs.Members.{nothing_in, first_in, later_in, first_or_later}
-use Rattle.class_members.specs.Facts.{Holds, IsFound, IsKeyOf, IsSame, IsWanted}
+use Rattle.class_members.specs.Facts.{IsFound, IsKeyOf, IsSame, IsWanted}
 use Rattle.class_members.specs.Offers.{Offer, IsOffered}
 use Rattle.class_members.specs.Wants.{member_want, written_want, applied_want, wants}
 use Rattle.class_members.specs.declared.wanting.Wanted.{Wanted}

@@ -1,25 +1,23 @@
 -- What is known goes on being so as the pool grows and facts are added.
-use Rattle.std.proofs.Common.{◌≡◌, ◌∙◌, refl, sym, ap, subst, ◌⊎◌, inl, inr, ℕ, ◌<◌, ◌≤◌, arith, List, [], ◌∷◌, length, slice_get, Some}
+use Rattle.std.proofs.Common.{◌≡◌, ◌∙◌, refl, sym, ap, subst, inl, inr, ℕ, ◌<◌, arith, List, length, slice_get, Some}
 use Rattle.std.specs.List.{Contains}
 use Rattle.type_terms.specs.declared.term.SigType.{SigType}
 use Rattle.assembly_tree.specs.declared.assembly.Assembly.{Assembly}
 use Rattle.sig_pool.specs.declared.node.Node.{Node}
-use Rattle.sig_pool.specs.Pool.{IsPool, Extends, Has}
+use Rattle.sig_pool.specs.Pool.{Extends}
 use Rattle.sig_pool.specs.Terms.{term_of}
 use Rattle.type_hierarchy.specs.Hierarchy.{Hierarchy}
 use Rattle.type_hierarchy.proofs.GrowLemmas.{extends_long, has_extends}
-use Rattle.class_model.specs.Classes.{IsChecked}
 use Rattle.class_model.specs.Filled.{IsFilled}
 use Rattle.class_model.specs.Slots.{IsFace, methods_in}
-use Rattle.class_members.specs.Facts.{Holds}
 use Rattle.class_members.proofs.Finding.{fact_extends}
 use Rattle.class_notes.specs.declared.note.Note.{Note}
 use Rattle.class_notes.specs.declared.note.Note.TheVariants.{Skipped, Checked}
 use Rattle.class_notes.specs.declared.note.Notes.{Notes}
 use Rattle.class_notes.specs.declared.note.Open.{Open}
-use Rattle.class_notes.specs.Notes.{IsOpen, HasOpen, IsSettled, AreOpen, IsCheckedNote, IsNote, IsPair, Knows}
+use Rattle.class_notes.specs.Notes.{IsOpen, HasOpen, IsSettled, AreOpen, IsNote, Knows}
 use Rattle.class_notes.specs.Opening.{PairsAreFaces}
-use Rattle.class_notes.specs.Reading.{IsTrueFact, AreTrue, IsRead, IsReadAbove, HasRead}
+use Rattle.class_notes.specs.Reading.{AreTrue, IsReadAbove, HasRead}
 
 abbrev Keeps : List (List ℕ) → List (List ℕ) → Type 0
 Keeps old new = (k : List ℕ) → Contains old k → Contains new k

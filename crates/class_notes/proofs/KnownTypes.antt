@@ -1,9 +1,8 @@
 -- Which types are known.
-use Rattle.std.proofs.Common.{◌≡◌, ◌∙◌, refl, sym, ap, subst, ◌⊎◌, inl, inr, ◌↔◌, ℕ, ◌<◌, List, length, Bool, true, false, ◌||◌, if◌then◌else◌, Option, None, Some, IsTrue}
+use Rattle.std.proofs.Common.{◌≡◌, ◌∙◌, refl, sym, ap, ◌⊎◌, inl, inr, ◌↔◌, ℕ, ◌<◌, List, length, Bool, true, false, ◌||◌, if◌then◌else◌, None, Some, IsTrue}
 use Rattle.std.specs.List.{find}
 use Rattle.type_terms.specs.declared.name.Scope.{Scope}
 use Rattle.type_terms.specs.declared.name.TypeName.{TypeName}
-use Rattle.type_terms.specs.declared.term.Primitive.{Primitive}
 use Rattle.type_terms.specs.declared.term.SigType.{SigType}
 use Rattle.type_terms.specs.declared.term.SigType.TheVariants as type
 use Rattle.assembly_tree.specs.declared.assembly.Assembly.{Assembly}

@@ -1,15 +1,14 @@
 -- How a note of a type is made from that of its parent.
-use Rattle.std.proofs.Common.{◌≡◌, ◌∙◌, refl, sym, ap, subst, ◌⊎◌, inl, inr, ◌↔◌, ℕ, ◌<◌, Bool, true, false, true≢false, List, [], ◌∷◌, ◌++◌, length, slice_get, Option, None, Some, IsTrue, Result, Ok, Err, OnOk, arith, ◌+◌, ◌≤◌, get_or, take}
+use Rattle.std.proofs.Common.{◌≡◌, ◌∙◌, refl, sym, ap, subst, inl, inr, ℕ, ◌<◌, Bool, true, false, true≢false, List, [], ◌∷◌, ◌++◌, length, slice_get, Option, None, Some, IsTrue, Result, Ok, Err, OnOk, arith, ◌+◌, ◌≤◌, get_or, take}
 use Rattle.std.specs.List.{All, Contains}
 use Rattle.std.proofs.lemmas.List.{append-nil, take_all, take_more}
 use Rattle.std.proofs.lemmas.List.Elements.{All-contains_itself, All-weaker, Contains-append_left, Contains-append_cases}
 use Rattle.type_terms.specs.declared.term.SigType.{SigType}
 use Rattle.assembly_tree.specs.declared.assembly.Assembly.{Assembly}
-use Rattle.assembly_tree.specs.declared.members.Method.{Method}
 use Rattle.sig_pool.specs.declared.node.Node.{Node}
 use Rattle.sig_pool.specs.Pool.{Extends, Has}
 use Rattle.sig_pool.specs.Terms.{AllBelow, term_of}
-use Rattle.type_hierarchy.specs.Hierarchy.{Hierarchy, Chain, alone, further, parent, interfaces, Up, itself, to_parent, to_interface}
+use Rattle.type_hierarchy.specs.Hierarchy.{Hierarchy, Chain, alone, further, parent, itself, to_parent, to_interface}
 use Rattle.type_hierarchy.specs.Pooled.{HasOption}
 use Rattle.type_hierarchy.specs.World.{Content, Stays, hierarchy, type_at}
 use Rattle.type_hierarchy.proofs.Climbing.{Next, none, some, next_step, some_same, none_some, chain_trans, up_trans, First, at_once, by_parent, by_interface, first_step}
@@ -18,10 +17,9 @@ use Rattle.type_order.specs.Found.{IsLedTo, Puts}
 use Rattle.class_faces.specs.Ids.{AreIds}
 use Rattle.class_faces.specs.Marked.{is_face}
 use Rattle.class_faces.proofs.Walking.{within_one}
-use Rattle.class_model.proofs.Members.{nothing_in, first_in, first_or_later}
+use Rattle.class_model.proofs.Members.{nothing_in, first_in}
 use Rattle.class_model.specs.Classes.{IsChecked, IsKnown}
-use Rattle.class_model.specs.Filled.{IsFilled}
-use Rattle.class_model.specs.Slots.{IsFace, is_slot, methods_in}
+use Rattle.class_model.specs.Slots.{IsFace, methods_in}
 use Rattle.class_notes.specs.declared.note.Note.{Note}
 use Rattle.class_notes.specs.declared.note.Note.TheVariants.{Skipped, Checked}
 use Rattle.class_notes.specs.declared.note.Notes.{Notes}
@@ -30,13 +28,13 @@ use Rattle.class_members.specs.Facts.{IsNoted as IsAdded}
 use Rattle.class_members.proofs.Lists.{in_right}
 use Rattle.class_members.proofs.Worlds.{stays_on}
 use Rattle.class_notes.specs.Fresh.{AreFresh, AreLedIds, IsPassed}
-use Rattle.class_notes.specs.Making.{ArePassed, AddsItself, AddsPairs, Finds, IsParentChecked, IsParentNoted, IsParentSkipped}
-use Rattle.class_notes.specs.Notes.{IsOpen, HasOpen, IsSettled, AreOpen, IsCheckedNote, IsNote, IsNoted, IsPair, Knows}
+use Rattle.class_notes.specs.Making.{ArePassed, AddsItself, AddsPairs, Finds, IsParentChecked, IsParentSkipped}
+use Rattle.class_notes.specs.Notes.{IsOpen, IsSettled, AreOpen, IsCheckedNote, IsNote, Knows}
 use Rattle.class_notes.specs.Opening.{AddsFaces, AddsSlots, AreStill, IsFaceOf, IsWithin, PairsAreFaces}
 use Rattle.class_notes.specs.Reading.{AreTrue, HasRead, IsOwnFilled, Reads}
 use Rattle.class_notes.proofs.Growing.{above_grows, knows_grows, knows_held, open_grows, pairs_grow, settled_grows, true_grows}
 use Rattle.class_notes.proofs.OpeningLemmas.{settled_more, slots_open, slots_settle}
-use Rattle.class_notes.proofs.Worlds.{earlier_at, later, later_at}
+use Rattle.class_notes.proofs.Worlds.{earlier_at, later_at}
 use Rattle.class_notes.proofs.ReadingLemmas.{own_fills, filled_above, filled_cases, ids_grow, reads_true, read_top, read_below}
 
 -- ---- which types are checked

@@ -3,7 +3,7 @@ use Rattle.std.proofs.Common.{◌≡◌, ◌∙◌, refl, sym, ap, subst, ◌⊎
 use Rattle.std.specs.List.{All, Contains}
 use Rattle.std.proofs.lemmas.List.{append-nil, append_assoc, length-take-le, take_more, take_all}
 use Rattle.std.proofs.lemmas.List.Elements.{All-contains, All-take, Contains-append_left, Contains-append_cases}
-use Rattle.std.proofs.lemmas.Option.{slice_get_within, slice_get-get_or}
+use Rattle.std.proofs.lemmas.Option.{slice_get_within}
 use Rattle.type_terms.specs.declared.term.SigType.{SigType}
 use Rattle.assembly_tree.specs.declared.assembly.Assembly.{Assembly}
 use Rattle.assembly_tree.specs.declared.members.Method.{Method}
@@ -18,14 +18,13 @@ use Rattle.type_hierarchy.specs.World.{Content, Stays, hierarchy, type_at}
 use Rattle.type_hierarchy.specs.declared.tables.Tables.{Tables}
 use Rattle.type_hierarchy.proofs.Climbing.{none_some, some_same}
 use Rattle.type_hierarchy.proofs.GrowLemmas.{extends_long}
-use Rattle.type_order.proofs.FoundLemmas.{extends_self}
 use Rattle.class_model.specs.Classes.{declaration}
 use Rattle.class_model.specs.Filled.{IsFilled}
 use Rattle.class_model.specs.Slots.{IsFace, is_slot, methods_in, methods_of}
 use Rattle.class_model.proofs.Members.{nothing_in, first_in, first_or_later}
 use Rattle.class_members.proofs.Lists.{in_right}
 use Rattle.class_notes.specs.declared.note.Open.{Open}
-use Rattle.class_notes.specs.Notes.{IsOpen, HasOpen, IsSettled}
+use Rattle.class_notes.specs.Notes.{IsOpen, IsSettled}
 use Rattle.class_notes.specs.Opening.{AddsFaces, AddsSlot, AddsSlots, AreStill, IsLeft, IsOpenOf, IsWithin}
 use Rattle.class_notes.specs.Reading.{HasRead, IsOwnFilled}
 use Rattle.class_notes.proofs.Growing.{open_grows, read_grows, settled_grows}

@@ -1,15 +1,14 @@
 -- What types offer, as it is read.
-use Rattle.std.proofs.Common.{arith, ◌≡◌, ◌∙◌, refl, sym, ap, subst, ◌⊎◌, inl, inr, ◌↔◌, ℕ, ◌<◌, Bool, true, false, true≢false, ◌&&◌, ◌||◌, not, ◌==◌, if◌then◌else◌, List, [], ◌∷◌, ◌++◌, length, None, Some, IsTrue}
+use Rattle.std.proofs.Common.{arith, ◌≡◌, ◌∙◌, refl, sym, ap, subst, ◌⊎◌, inl, inr, ◌↔◌, ℕ, ◌<◌, Bool, true, false, true≢false, ◌&&◌, ◌||◌, not, ◌==◌, List, [], ◌∷◌, length, None, Some, IsTrue}
 use Rattle.std.specs.List.{Contains, flat_map, list_any}
 use Rattle.std.proofs.lemmas.Bool.Decides.{nat_tests}
-use Rattle.std.proofs.lemmas.List.Elements.{Contains-append_left, Contains-append_cases}
 use Rattle.type_terms.specs.declared.reference.MethodRef.{MethodRef}
 use Rattle.type_terms.specs.declared.term.SigType.{SigType}
 use Rattle.assembly_tree.specs.declared.assembly.Assembly.{Assembly}
 use Rattle.assembly_tree.specs.declared.members.Method.{Method}
 use Rattle.assembly_tree.specs.declared.typedef.TypeDef.{TypeDef}
 use Rattle.sig_pool.specs.declared.node.Node.{Node}
-use Rattle.sig_pool.specs.Pool.{IsPool, Extends, Has}
+use Rattle.sig_pool.specs.Pool.{Extends, Has}
 use Rattle.sig_pool.specs.Terms.{term_of}
 use Rattle.type_hierarchy.specs.Tables.{hierarchy_in}
 use Rattle.type_hierarchy.specs.World.{Content, Stays, hierarchy, type_at}
@@ -26,16 +25,16 @@ use Rattle.class_faces.proofs.Walking.{within_one}
 use Rattle.class_model.specs.Classes.{declaration}
 use Rattle.class_model.specs.Filled.{IsFilled}
 use Rattle.class_model.specs.Slots.{methods_in}
-use Rattle.class_model.proofs.Members.{nothing_in, first_in, later_in, first_or_later}
-use Rattle.class_members.specs.Facts.{Adds, IsFact, IsKeyOf, IsOneOf, Holds}
-use Rattle.class_members.specs.Offers.{Offer, own_offers, overrides_by, offers_by, override_offers, overrides_in, offers_in, object_offers, IsFresh, IsByFresh, IsByObject, IsOffered, IsOfferedAbove}
-use Rattle.class_members.specs.Wants.{wants, IsAnswered}
+use Rattle.class_model.proofs.Members.{nothing_in, first_or_later}
+use Rattle.class_members.specs.Facts.{Adds, IsFact, IsKeyOf}
+use Rattle.class_members.specs.Offers.{Offer, own_offers, overrides_by, offers_by, override_offers, overrides_in, offers_in, object_offers, IsByFresh, IsByObject, IsOffered}
+use Rattle.class_members.specs.Wants.{IsAnswered}
 use Rattle.class_members.proofs.Finding.{fact_extends, one_offer}
 use Rattle.class_members.proofs.Lists.{in_all, in_some, in_right}
 use Rattle.class_members.proofs.Filling.{filled_is_offered}
 use Rattle.class_members.proofs.Worlds.{stays_on}
 use Rattle.class_notes.specs.Fresh.{AreLedFaces}
-use Rattle.class_notes.specs.Reading.{IsTrueFact, AreTrue, IsRead, IsReadAbove, HasRead, Reads, AddsObject, IsOwnFilled}
+use Rattle.class_notes.specs.Reading.{AreTrue, IsRead, IsReadAbove, Reads, AddsObject, IsOwnFilled}
 use Rattle.class_notes.proofs.Growing.{true_grows, above_grows}
 
 -- ---- a type's own offers

@@ -1,7 +1,6 @@
 -- What is said of a type in a world that goes on.
-use Rattle.std.proofs.Common.{◌≡◌, ◌∙◌, sym, subst, refl, arith, ℕ, zero, suc, ◌<◌, List, [], ◌∷◌, length, slice_get, slice_set, Option, None, Some}
+use Rattle.std.proofs.Common.{◌≡◌, sym, subst, refl, arith, ℕ, zero, suc, ◌<◌, List, [], ◌∷◌, length, slice_get, slice_set, Option, None, Some}
 use Rattle.type_terms.specs.declared.term.SigType.{SigType}
-use Rattle.sig_pool.specs.declared.node.Node.{Node}
 use Rattle.type_hierarchy.specs.Hierarchy.{Hierarchy, parent}
 use Rattle.type_hierarchy.specs.Pooled.{HasOption}
 use Rattle.type_hierarchy.specs.Tables.{hierarchy_in}

@@ -1,8 +1,8 @@
-use Rattle.std.proofs.Common.{refl, ap, sym, ◌∙◌, ◌≡◌, None, true≢false}
+use Rattle.std.proofs.Common.{refl, ◌≡◌, None}
 use Rattle.type_hierarchy.specs.Hierarchy.{parent}
 use Rattle.type_hierarchy.specs.World.{hierarchy, type_at}
 use Rattle.type_order.specs.Found.{foot}
-use Rattle.type_order.proofs.StandingLemmas.{ladder_more, ladder_up}
+use Rattle.type_order.proofs.StandingLemmas.{ladder_up}
 use Rattle.class_members.proofs.Worlds.{stays_itself}
 use Rattle.class_notes.proofs.ClimbingLemmas.{top_known, top_last, up_on}
 use Rattle.class_notes.proofs.climbing.climb.Goals as goal

@@ -1,6 +1,6 @@
-use Rattle.std.proofs.Common.{◌≡◌, subst, sym, [], ℕ, rules}
+use Rattle.std.proofs.Common.{◌≡◌, subst, sym, [], rules}
 use Rattle.type_hierarchy.specs.Indexed.{KnowsTypes}
-use Rattle.type_hierarchy.specs.World.{hierarchy, type_at}
+use Rattle.type_hierarchy.specs.World.{hierarchy}
 use Rattle.type_order.proofs.StandingLemmas.{ladder_down, ladder_more}
 use Rattle.class_members.proofs.Worlds.{stays_on}
 use Rattle.class_notes.specs.Cores.{IsCored}

@@ -1,8 +1,5 @@
-use Rattle.std.proofs.Common.{◌≡◌, ◌∙◌, subst, sym, ap, ℕ, ◌<◌, length, true, List, None, Some}
+use Rattle.std.proofs.Common.{◌≡◌, ◌∙◌, subst, sym, None, Some}
 use Rattle.type_terms.specs.declared.term.SigType.{SigType}
-use Rattle.sig_pool.specs.declared.node.Node.{Node}
-use Rattle.sig_pool.specs.Pool.{IsPool}
-use Rattle.sig_pool.specs.Terms.{term_of}
 use Rattle.type_hierarchy.specs.Hierarchy.{parent}
 use Rattle.type_hierarchy.specs.Tables.{hierarchy_in}
 use Rattle.type_hierarchy.specs.World.{hierarchy, type_at}

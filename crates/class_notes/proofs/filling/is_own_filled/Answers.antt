@@ -1,5 +1,4 @@
-use Rattle.std.proofs.Common.{subst, List}
-use Rattle.sig_pool.specs.declared.node.Node.{Node}
+use Rattle.std.proofs.Common.{subst}
 use Rattle.sig_pool.specs.Pool.{IsPool}
 use Rattle.type_hierarchy.specs.World.{hierarchy, type_at}
 use Rattle.class_notes.proofs.FillingLemmas.{found_as}

@@ -1,7 +1,6 @@
-use Rattle.std.proofs.Common.{subst, sym, ℕ, List, length}
+use Rattle.std.proofs.Common.{subst, sym, length}
 use Rattle.sig_pool.specs.Terms.{AllBelow}
 use Rattle.type_hierarchy.specs.Indexed.{KnowsTypes}
-use Rattle.type_hierarchy.specs.declared.tables.Tables.{Tables}
 use Rattle.class_notes.proofs.FreshLemmas.{led_faces_are}
 use Rattle.class_notes.proofs.fresh.led_faces.Goals as goal
 

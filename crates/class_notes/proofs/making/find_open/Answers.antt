@@ -1,4 +1,4 @@
-use Rattle.std.proofs.Common.{subst, sym, refl, ℕ, List}
+use Rattle.std.proofs.Common.{subst, sym, refl}
 use Rattle.std.specs.Option.{option_copied}
 use Rattle.type_hierarchy.specs.Indexed.{KnowsTypes}
 use Rattle.type_hierarchy.specs.World.{hierarchy, type_at}

@@ -1,4 +1,4 @@
-use Rattle.std.proofs.Common.{subst, sym, refl}
+use Rattle.std.proofs.Common.{refl}
 use Rattle.std.specs.Option.{option_copied}
 use Rattle.type_hierarchy.specs.World.{hierarchy, type_at}
 use Rattle.class_members.proofs.Worlds.{on_ok_more, stays_on}

@@ -1,4 +1,4 @@
-use Rattle.std.proofs.Common.{◌≡◌, subst, sym, slice_get, length, List, Some, None}
+use Rattle.std.proofs.Common.{◌≡◌, subst, sym, slice_get, length, List, Some}
 use Rattle.std.specs.List.{All, Contains}
 use Rattle.type_hierarchy.specs.World.{hierarchy, type_at}
 use Rattle.class_notes.specs.declared.note.Note.TheVariants.{Skipped, Checked}

@@ -1,10 +1,7 @@
 use Rattle.std.specs.Option.{option_copied}
-use Rattle.std.proofs.Common.{subst, sym, ap, ℕ, ◌<◌, length, List, refl, arith}
-use Rattle.std.proofs.lemmas.List.{take_all}
-use Rattle.assembly_tree.specs.declared.members.Method.{Method}
+use Rattle.std.proofs.Common.{ap, arith}
 use Rattle.type_hierarchy.specs.World.{hierarchy, type_at}
 use Rattle.class_members.proofs.Worlds.{stays_itself}
-use Rattle.class_notes.specs.Opening.{AddsSlots}
 use Rattle.class_notes.proofs.OpeningLemmas.{read_on, slots_all, slots_end, slots_none, slots_step}
 use Rattle.class_notes.proofs.opening.open_slots.Goals as goal
 

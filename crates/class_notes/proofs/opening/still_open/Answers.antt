@@ -2,10 +2,9 @@ use Rattle.std.proofs.Common.{◌∙◌, subst, sym, List, arith}
 use Rattle.std.proofs.lemmas.List.{take_all}
 use Rattle.type_hierarchy.specs.Indexed.{KnowsTypes}
 use Rattle.type_hierarchy.specs.World.{hierarchy, type_at}
-use Rattle.class_members.proofs.Worlds.{stays_itself}
 use Rattle.class_notes.specs.declared.note.Open.{Open}
 use Rattle.class_notes.specs.Opening.{AreStill}
-use Rattle.class_notes.proofs.OpeningLemmas.{read_on, still_drop, still_keep, still_none}
+use Rattle.class_notes.proofs.OpeningLemmas.{read_on, still_drop, still_keep}
 use Rattle.class_notes.proofs.opening.still_open.Goals as goal
 use Rattle.class_notes.proofs.opening.still_open.Goals.{then-branch+in_ok-push, else-branch}
 

@@ -1,4 +1,4 @@
-use Rattle.std.proofs.Common.{subst, sym, ℕ, List, length}
+use Rattle.std.proofs.Common.{subst, sym, length}
 use Rattle.sig_pool.specs.Terms.{AllBelow}
 use Rattle.type_hierarchy.specs.Indexed.{KnowsTypes}
 use Rattle.type_hierarchy.proofs.GrowLemmas.{below_extends}

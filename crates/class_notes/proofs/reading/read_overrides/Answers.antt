@@ -1,9 +1,8 @@
 use Rattle.std.specs.List.{flat_map}
 use Rattle.std.proofs.lemmas.List.{take_all}
-use Rattle.std.proofs.Common.{ℕ, ◌∙◌, ◌<◌, length, subst, sym, ap, List, arith}
+use Rattle.std.proofs.Common.{ℕ, ◌<◌, length, subst, sym, List, arith}
 use Rattle.type_hierarchy.specs.Indexed.{KnowsTypes}
 use Rattle.type_hierarchy.specs.World.{hierarchy, type_at}
-use Rattle.type_hierarchy.proofs.GrowLemmas.{extends_long}
 use Rattle.class_members.specs.Facts.{Adds}
 use Rattle.class_members.specs.Offers.{Offer, overrides_in}
 use Rattle.class_members.proofs.Adding.{adds_more, adds_none}
