@@ -1,4 +1,0 @@
-pub mod Faces
-pub mod Ranks
-pub mod Reports
-pub mod TermLaws
