@@ -1,0 +1,9 @@
+pub mod ClimbingLemmas
+pub mod FillingLemmas
+pub mod FreshLemmas
+pub mod Growing
+pub mod KnownTypes
+pub mod MakingLemmas
+pub mod OpeningLemmas
+pub mod ReadingLemmas
+pub mod Worlds
