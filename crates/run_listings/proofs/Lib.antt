@@ -1,1 +1,2 @@
+pub mod Denoted
 pub mod Merited

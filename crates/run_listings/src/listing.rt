@@ -1,16 +1,19 @@
 ghost use Rattle.std.specs.Prelude.{◌≡◌, ◌≤◌, ◌^◌, ℕ, length, IfOk};
 ghost use Rattle.run_listings.specs.Listings.{GivesListing, MeritsListing, told};
 
+use formed_images::bytes_in_range;
+use held_images::what_is_read_is_held;
 use il_base::{NoMemory, Text};
 use image_assemblies::an_image_has_one_outcome;
 use image_reader::{ImageFault, read};
+use listing_denotes::classes::listings_denote;
 use listing_printer::print;
 use run_endings::{Ending, Written, makes, prints};
 use run_images::{faults_are_numbered, image_fault_said};
 use std::alloc::Global;
 
-/// What `ildasm` makes or says of the image `file`: its listing, in the file `out` where there is one and else on standard output; or
-/// the first demand that it fails.
+/// What `ildasm` makes or says of the image `file`: its listing, which denotes its assembly, in the file `out` where there is one and else on
+/// standard output; or the first demand that it fails.
 ///
 /// # Errors
 ///
@@ -27,6 +30,9 @@ pub fn listed(
 {
     faults_are_numbered();
     an_image_has_one_outcome();
+    bytes_in_range(image);
+    what_is_read_is_held();
+    listings_denote();
     match read(alloc, image) {
         Ok(a) => {
             let listing = print(alloc, &a)?;

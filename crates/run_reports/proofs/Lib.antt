@@ -1,0 +1,5 @@
+pub mod LineLemmas
+pub mod Placed
+pub mod Merited
+pub mod Ruled
+pub mod Zips

@@ -1,0 +1,4 @@
+pub mod Called
+pub mod Laws
+pub mod Looking
+pub mod Named
